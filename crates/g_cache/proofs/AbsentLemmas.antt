@@ -53,6 +53,10 @@ missing_stays k (e ∷ kept) none =
 
 -- WHAT IS NOTED
 
+-- a block that isn't noted is none of those that are
+pub others_noted : (k : ℕ) (numbers : List (Option ℕ)) → is_noted numbers k ≡ false → (j : ℕ) → is_noted numbers j ≡ true → (j ≢ k) × (is_noted numbers j ≡ true)
+others_noted k numbers not_noted j noted = (λ same. true≢false (sym noted ∙ ap (λ (i : ℕ). is_noted numbers i) same ∙ not_noted), noted)
+
 abbrev told : Option ℕ → ℕ → Bool
 told o j = elim o [ Some i ↦ i == j | None ↦ false ]
 
@@ -112,7 +116,7 @@ module _ (k : ℕ) (numbers : List (Option ℕ)) (kept after : Kept) (absent : A
       let other : j ≢ k = λ same. true≢false (ap is_some (sym found ∙ ap (λ (i : ℕ). kept_block i kept) (sym same) ∙ none)) in
       ap (kept_block j) first ∙ first_other j k into (without_block k kept) (nat_apart j k other) (none_left (nat_eq k) j kept none)
 
-  -- one is kept that wasn't, or isn't for want of memory
+  -- one is kept that wasn't, or isn't
   pub absent_kept : (noted : List (Option ℕ)) (block : List ℕ) → ((j : ℕ) → is_noted noted j ≡ true → (j ≢ k) × (is_noted numbers j ≡ true)) → (after ≡ (k, block) ∷ take 63 kept) ⊎ (after ≡ kept) → AreAbsent noted after
   absent_kept noted block step either = λ j is.
       let was = step j is in

@@ -38,7 +38,8 @@ pub record IsRecalled {D T E : Type 0} (k : ℕ) (block into : List ℕ) (before
   pub first : after.kept ≡ (k, block) ∷ without_block k before.kept
 
 -- Block k was read into `into`: from what is kept, and else from the disc below. Of the blocks that the disc
--- was asked for, one that was read is kept before the 63 asked for last, or, for want of memory, all stays.
+-- was asked for, one that was read is kept before the 63 asked for last, or all stays: for want of memory, or where it was
+-- written since it was read last.
 pub record CachedReads {D T E : Type 0} (state : D → DiscState) (k : ℕ) (into : List ℕ) (before after : Cached D) (result : Result T E) : Type 0 where
   pub disc : Reads k into (state before.disc) (state after.disc) result
   pub recalled : ForSome (kept_block k before.kept) (λ block. IsRecalled k block into before after result)

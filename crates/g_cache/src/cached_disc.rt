@@ -66,8 +66,9 @@ impl<D: Disc> Disc for CachedDisc<D> {
         self.disc.size()
     }
 
-    /// Reads block k. One that is kept is the answer, and the disc below isn't asked. Where there is no
-    /// memory to keep a block that was read, it is the answer all the same.
+    /// Reads block k. One that is kept is the answer, and the disc below isn't asked. A block that was
+    /// written since it was read last isn't kept yet: it may be written again before it is read again.
+    /// Where there is no memory to keep a block that was read, it is the answer all the same.
     fn read(&mut self, k: u32, into: &mut Block) -> Result<(), ReadFailed>
         requires { k < (D.state self.old.disc).size }
         ensures { CachedReads D.state k into.new self.old self.new result }
@@ -76,8 +77,11 @@ impl<D: Disc> Disc for CachedDisc<D> {
             return Ok(());
         }
         self.disc.read(k, into)?;
+        if self.absent.has(k) {
+            self.absent.strike(k);
+            return Ok(());
+        }
         self.cache.keep(k, into);
-        self.absent.strike(k);
         Ok(())
     }
 

@@ -51,7 +51,7 @@ files_from (r ∷ files) all =
     let rest : AllPairs (λ (s : FileRec) t. s.number < t.number) files = λ i j d before inside. all (suc i) (suc j) d (omega arith) (omega arith) in
     (recursion_from_All (λ (s : FileRec). r.number < s.number) files first, files_from files rest)
 
-copies_from : (online : Copies) → AllPairs (λ c d. c.0 < d.0) online → RisingCopies online
+pub copies_from : (online : Copies) → AllPairs (λ c d. c.0 < d.0) online → RisingCopies online
 copies_from [] all = tt
 copies_from (c ∷ online) all =
     let first : All (λ (d : ℕ × DiscCopy). c.0 < d.0) online = λ k d inside. all 0 (suc k) d (omega arith) (omega arith) in
@@ -86,13 +86,13 @@ copies_above_less : (m n : ℕ) (online : Copies) → m < n → CopiesAbove n on
 copies_above_less m n [] less above = tt
 copies_above_less m n (c ∷ online) less above = let first = above.0 in (omega arith, copies_above_less m n online less above.1)
 
-copy_here : (c : ℕ × DiscCopy) (online : Copies) (n : ℕ) → c.0 ≡ n → copy_at (c ∷ online) n ≡ Some c.1
+pub copy_here : (c : ℕ × DiscCopy) (online : Copies) (n : ℕ) → c.0 ≡ n → copy_at (c ∷ online) n ≡ Some c.1
 copy_here c online n same = ap (λ (b : Bool). option_map (λ (d : ℕ × DiscCopy). d.1) (if b then Some c else find (λ d. d.0 == n) online)) (eq-eqb c.0 n same)
 
-copy_behind : (c : ℕ × DiscCopy) (online : Copies) (n : ℕ) → c.0 ≢ n → copy_at (c ∷ online) n ≡ copy_at online n
+pub copy_behind : (c : ℕ × DiscCopy) (online : Copies) (n : ℕ) → c.0 ≢ n → copy_at (c ∷ online) n ≡ copy_at online n
 copy_behind c online n other = ap (λ (b : Bool). option_map (λ (d : ℕ × DiscCopy). d.1) (if b then Some c else find (λ d. d.0 == n) online)) (ne_eqb c.0 n other)
 
-copy_none : (n : ℕ) (online : Copies) → CopiesAbove n online → copy_at online n ≡ None
+pub copy_none : (n : ℕ) (online : Copies) → CopiesAbove n online → copy_at online n ≡ None
 copy_none n [] above = refl
 copy_none n (c ∷ online) above = let first = above.0 in copy_behind c online n (λ same. omega (arith, same)) ∙ copy_none n online above.1
 

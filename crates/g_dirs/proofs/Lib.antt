@@ -7,5 +7,6 @@ pub mod PageLemmas
 pub mod Parts
 pub mod QuietLemmas
 pub mod ReadLemmas
+pub mod TableLemmas
 pub mod RuleLemmas
 pub mod WriteLemmas

@@ -26,9 +26,6 @@ use Rattle.g_dirs.specs.Image.{entry_at, file_or_empty}
 use Rattle.g_dirs.specs.Writing.{AreEncodable, IsEncodable, number_of_file}
 use Rattle.g_dirs.proofs.CopyLemmas.{recs-entries}
 
-abbrev pub number_of_copy : ℕ × DiscCopy → ℕ
-number_of_copy c = c.0
-
 -- the first that passes passes
 find-passes : {X : Type 0} (p : X → Bool) (xs : List X) (x : X) → find p xs ≡ Some x → p x ≡ true
 find-passes p [] x is = absurd (let none : ⊥ = cc in none)
@@ -130,10 +127,6 @@ module _ {X : Type 0} (number : X → ℕ) (xs : List X) (n : ℕ) (rising : All
             ne_eqb (number (get_or xs k d)) n (λ same. let none : ⊥ = omega arith in none)
       ])
 
--- the block numbers of what is found
-abbrev places_in : Option (ℕ × DiscCopy) → Option (List ℕ)
-places_in found = option_map (λ (c : DiscCopy). c.blocks) (option_map (λ (c : ℕ × DiscCopy). c.1) found)
-
 -- a file with its copy
 abbrev entry_of : List (ℕ × DiscCopy) → FileRec → FileEntry
 entry_of online rec = (rec, copy_at online rec.number)
@@ -185,10 +178,3 @@ pub block_of_missing : (files : List FileRec) (online : List (ℕ × DiscCopy)) 
 unfolding file_or_empty
 block_of_missing files online n missing =
     ap (file_or_empty Two) (find-map (entry_of online) (λ f. f.0.number == n) files ∙ ap (option_map (entry_of online)) missing)
-
--- the block numbers of the copy that is found
-pub places_found : (online : List (ℕ × DiscCopy)) (n : ℕ) (copy : ℕ × DiscCopy) → find (λ c. number_of_copy c == n) online ≡ Some copy → Some copy.1.blocks ≡ option_map (λ c. c.blocks) (copy_at online n)
-places_found online n copy found = sym (ap places_in found)
-
-pub places_missing : (online : List (ℕ × DiscCopy)) (n : ℕ) → find (λ c. number_of_copy c == n) online ≡ None → (let none : Option (List ℕ) = None in none ≡ option_map (λ c. c.blocks) (copy_at online n))
-places_missing online n missing = sym (ap places_in missing)

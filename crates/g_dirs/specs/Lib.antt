@@ -1,3 +1,4 @@
+pub mod CopyTable
 pub mod Directory
 pub mod Image
 pub mod Parts

@@ -1,10 +1,9 @@
 //! A copy on disc in a box.
-ghost use Rattle.std.specs.Prelude.{◌≡◌, ℕ, ◌+◌, ◌<◌, ◌≤◌, true, AllPairs, IfOk, [], length};
-ghost use Rattle.std.specs.List.{HoldsAt};
-ghost use Rattle.std.specs.List.Sorted.{IsBinarySearchResult, IsSearchInRange};
-ghost use Rattle.std.specs.Ordering.{nat_cmp};
+ghost use Rattle.std.specs.Prelude.{◌≡◌, ◌≤◌, IfOk, []};
+ghost use Rattle.g_blocks.specs.Pool.{AreLeastFree, HasTaken, free_count};
 
 use g_base::{BlockList, NoMemory};
+use g_blocks::Pool;
 use g_copy::DiscCopy;
 use std::alloc::Global;
 use std::marker::Model;
@@ -49,6 +48,17 @@ impl BoxedCopy {
         }
     }
 
+    /// The copy of an empty file, which has no block.
+    pub fn empty(alloc: Global) -> Result<BoxedCopy, NoMemory>
+        ensures { IfOk result (λ b. b ≡ record { blocks = []; len = 0 }) }
+    {
+        let copy = DiscCopy {
+            blocks: BlockList::new(),
+            len: 0,
+        };
+        BoxedCopy::new(alloc, copy)
+    }
+
     /// The copy.
     pub fn get(&self) -> &DiscCopy
         ensures { result.now ≡ self.now }
@@ -56,14 +66,25 @@ impl BoxedCopy {
         &self.it.1
     }
 
-    /// Makes an empty copy that of these blocks and of so many bytes, where it stands.
-    pub fn fill(&mut self, blocks: &[u32], len: u32)
+    /// Makes an empty copy that of so many bytes, in the n least free blocks of the pool, where it stands.
+    pub fn take_blocks(&mut self, pool: &mut Pool, n: u32, len: u32)
         requires empty { self.old.blocks ≡ [] }
-        requires few { length blocks.now ≤ 128 }
-        ensures { self.new ≡ record { blocks = blocks.now; len = len } }
+        requires few { n ≤ 128 }
+        requires room { n ≤ free_count pool.old }
+        ensures least { AreLeastFree pool.old n self.new.blocks }
+        ensures taken { HasTaken self.new.blocks pool.old pool.new }
+        ensures len { self.new.len ≡ len }
     {
-        push_all(&mut self.it.1.blocks, blocks);
+        pool.take_into(n, &mut self.it.1.blocks);
         self.it.1.len = len;
+    }
+
+    /// Makes it the copy of an empty file.
+    pub(crate) fn clear(&mut self)
+        ensures { self.new ≡ record { blocks = []; len = 0 } }
+    {
+        self.it.1.blocks = BlockList::new();
+        self.it.1.len = 0;
     }
 
     /// The copy as that of the file of this number, which takes no memory.
@@ -90,51 +111,11 @@ impl FileCopy {
     {
         &self.it.1
     }
-}
 
-/// Where the copy of the file of this number stands among copies in order of number, or where it would stand. Where all
-/// lower numbers have copies this is the place of the number itself, and nothing is searched.
-pub fn place_of_copy(online: &[FileCopy], number: u16) -> Result<usize, usize>
-    requires { AllPairs (λ c d. c.0 < d.0) online.now }
-    ensures bound { IsSearchInRange result (length online.now) }
-    ensures position { IsBinarySearchResult (λ c. nat_cmp c.0 number) online.now result }
-{
-    if !is_full_before(online, number) {
-        return online.binary_search_by_key(&number, |copy| copy.number());
-    }
-    let place = number as usize;
-    if place == online.len() {
-        return Err(place);
-    }
-    if online[place].number() == number {
-        Ok(place)
-    } else {
-        Err(place)
-    }
-}
-
-/// Whether all numbers below this one are those of copies.
-fn is_full_before(online: &[FileCopy], number: u16) -> bool
-    ensures { result ≡ true → (number ≤ length online.now)
-        × ((k : ℕ) → k + 1 ≡ number → HoldsAt (λ c. c.0 ≡ k) online.now k) }
-{
-    let place = number as usize;
-    if place > online.len() {
-        return false;
-    }
-    if place == 0 {
-        return true;
-    }
-    online[place - 1].number() as usize == place - 1
-}
-
-/// Puts these numbers into a list that has none.
-fn push_all(list: &mut BlockList, blocks: &[u32])
-    requires empty { list.old ≡ [] }
-    requires few { length blocks.now ≤ 128 }
-    ensures { list.new ≡ blocks.now }
-{
-    for block in blocks {
-        list.push(*block);
+    /// The copy without the number, which takes no memory.
+    pub(crate) fn into_copy(self) -> BoxedCopy
+        ensures { result ≡ self.1 }
+    {
+        BoxedCopy { it: self.it }
     }
 }

@@ -2,6 +2,7 @@
 #![tactic(auto)]
 
 mod boxed_copy;
+mod copy_table;
 mod dirs;
 mod fault;
 mod known;
@@ -13,7 +14,8 @@ mod read;
 mod rules;
 mod write;
 
-pub use boxed_copy::{BoxedCopy, FileCopy, place_of_copy};
+pub use boxed_copy::{BoxedCopy, FileCopy};
+pub use copy_table::CopyTable;
 pub use dirs::Dirs;
 pub use fault::DirsFault;
 pub use laws::{one_directory, quiet_writes};

@@ -1,5 +1,5 @@
 //! A directory over lists that stand elsewhere, and its blocks by their numbers.
-ghost use Rattle.std.specs.Prelude.{◌≡◌, ◌<◌, ◌==◌, [], All, AllPairs, find, slice_get};
+ghost use Rattle.std.specs.Prelude.{◌≡◌, ◌<◌, ◌==◌, [], All, find, slice_get};
 ghost use Rattle.std.specs.Option.{option_copied, option_map};
 ghost use Rattle.g_base.specs.Fields.{padded};
 ghost use Rattle.g_entry.specs.Rules.{AreNumbered};
@@ -8,19 +8,19 @@ ghost use Rattle.g_dirs.specs.Directory.{AreCopies, copy_at, directory_of, entri
 ghost use Rattle.g_dirs.specs.Image.{block_of, entry_at, file_or_empty, user_or_empty};
 ghost use Rattle.g_dirs.specs.Writing.{AreEncodable, IsEncodable, number_of_file};
 
-use crate::{FileCopy, place_of_copy};
+use crate::CopyTable;
 use g_base::{Block, BlockList, BlockWriter};
 use g_entry::{BoxedRec, FileRec, Format, Head, UserRec, place_of, put_file, put_head, put_user};
 use std::marker::Model;
 
 /// A directory that is borrowed: the head, the users and the files in order of number, and by file number the copies on
-/// disc of those that are online, in order of number too. Contracts see the directory.
+/// disc of those that are online. Contracts see the directory.
 #[derive(Drop)]
 pub struct Listing<'a> {
     head: &'a Head,
     users: &'a [UserRec],
     files: &'a [BoxedRec],
-    online: &'a [FileCopy],
+    online: &'a CopyTable,
 }
 
 impl<'a> Model for Listing<'a> {
@@ -39,7 +39,7 @@ impl<'a> Listing<'a> {
         head: &'a Head,
         users: &'a [UserRec],
         files: &'a [BoxedRec],
-        online: &'a [FileCopy],
+        online: &'a CopyTable,
     ) -> Listing<'a>
         requires { AreCopies files.now online.now }
         ensures { result ≡ directory_of head.now users.now files.now online.now }
@@ -81,7 +81,7 @@ fn put_slot_block(
     head: &Head,
     users: &[UserRec],
     files: &[BoxedRec],
-    online: &[FileCopy],
+    online: &CopyTable,
     k: u32,
 )
     requires empty { writer.old ≡ [] }
@@ -115,7 +115,7 @@ fn put_user_block(writer: &mut BlockWriter, users: &[UserRec], number: usize)
 }
 
 /// The block of file `number`; nothing, which stands for zeros, where it is unused.
-fn put_file_block(writer: &mut BlockWriter, files: &[BoxedRec], online: &[FileCopy], number: u16)
+fn put_file_block(writer: &mut BlockWriter, files: &[BoxedRec], online: &CopyTable, number: u16)
     requires empty { writer.old ≡ [] }
     requires files { AreEncodable files.now online.now }
     requires copies { AreCopies files.now online.now }
@@ -140,12 +140,11 @@ fn file_of(files: &[BoxedRec], number: u16) -> Option<&FileRec>
 }
 
 /// The block numbers of the file of this number, where it is online.
-fn places_of(online: &[FileCopy], number: u16) -> Option<&BlockList>
-    requires { AllPairs (λ c d. c.0 < d.0) online.now }
+fn places_of(online: &CopyTable, number: u16) -> Option<&BlockList>
     ensures { option_copied result ≡ option_map (λ c. c.blocks) (copy_at online.now number) }
 {
-    match place_of_copy(online, number) {
-        Ok(place) => Some(&online[place].get().blocks),
-        Err(_) => None,
+    match online.get(number) {
+        Some(copy) => Some(&copy.blocks),
+        None => None,
     }
 }

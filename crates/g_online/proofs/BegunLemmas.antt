@@ -4,7 +4,7 @@ use Rattle.std.specs.Prelude.{Contains, IfSome, nat_lt, ◌⊎◌}
 use Rattle.std.specs.Option.{ForSome}
 use Rattle.std.proofs.lemmas.Bool.{cases_eq, cond-false, cond-true, eq-eqb, le-ltb, lt-ltb, ne_eqb, true≢false, or_right}
 use Rattle.std.proofs.lemmas.List.{append-nil, get_or-map, get_or-replicate, get_or-take, length-map, length-replicate, length-take, map_more, take-map}
-use Rattle.std.proofs.lemmas.List.Elements.{All-cons, All-head, All-map, All-tail, All-weaker}
+use Rattle.std.proofs.lemmas.List.Elements.{All-cons, All-contains, All-head, All-map, All-tail, All-weaker}
 use Rattle.std.proofs.lemmas.Option.{get_or_from_slice_get, slice_get_within}
 use Rattle.g_base.specs.Block.{blocks_for}
 use Rattle.g_base.specs.Counts.{RoseBy}
@@ -142,6 +142,13 @@ begun_agreed disc m pins touched changed stored copies fresh =
       noted = subst (λ (l : List ℕ). AreNoted (length m.users) files l m.touched) (sym changed) (subst (λ (l : List ℕ). AreNoted (length m.users) files (all_numbers m.users) l) (sym touched) (noted_first m.users files stored.rules.users stored.rules.files));
       pins = subst (λ (p : Option (List Pinned)). PinsAre p disc.size m.head.next_stamp files m.touched) (sym pins) touched;
     }
+
+-- a table has a place for each of the copies
+pub numbers_below : (files : List FileRec) (online : Copies) → AreNumbered files → AreCopies files online → All (λ c. c.0 < 1024) online
+numbers_below files online numbered copies =
+    let below : All (λ (n : ℕ). n < 1024) (map (λ (r : FileRec). r.number) files) = All-map (λ (n : ℕ). n < 1024) (λ (r : FileRec). r.number) files numbered.below in
+    All-weaker (λ (c : ℕ × DiscCopy). Contains (map (λ (r : FileRec). r.number) files) c.0) (λ (c : ℕ × DiscCopy). c.0 < 1024)
+    (λ c there. All-contains (λ (n : ℕ). n < 1024) (map (λ (r : FileRec). r.number) files) c.0 below there) online copies.files_are
 
 -- LOADED
 pub loaded_agreed : (disc : DiscState) (side : Side) (pool : List Bool) (users : List UserRec) (files : List FileRec) (head : Head) (online : Copies)

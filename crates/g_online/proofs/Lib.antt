@@ -21,7 +21,6 @@ pub mod VersionLemmas
 pub mod BytesLemmas
 pub mod FileLemmas
 pub mod EraseLemmas
-pub mod ForgetLemmas
 pub mod BegunLemmas
 pub mod PoolLemmas
 pub mod OffLemmas
@@ -42,7 +41,6 @@ pub mod PinWaitLemmas
 pub mod PinLemmas
 pub mod PutLemmas
 pub mod BesideLemmas
-pub mod InsertLemmas
 pub mod TwoLemmas
 pub mod UnjamLemmas
 pub mod PutStepLemmas

@@ -3,7 +3,6 @@ use Rattle.std.proofs.Common.{◌≡◌, ◌≢◌, ◌⊎◌, ℕ, ◌+◌, ◌
 use Rattle.std.proofs.Math.ListN.{set}
 use Rattle.std.proofs.lemmas.Bool.{cases_eq, eq-eqb, ne_eqb}
 use Rattle.std.proofs.lemmas.List.{append-nil, get_or-take, get_or_default, length-set, length-take, take_more}
-use Rattle.std.proofs.lemmas.List.Kept.{AllPairs-filter}
 use Rattle.std.proofs.lemmas.List.Elements.{All-append, All-cons, All-head, All-tail}
 use Rattle.std.proofs.lemmas.Option.{slice_get_within}
 use Rattle.g_blocks.specs.Pool.{HasGiven, IsTaken}
@@ -136,11 +135,6 @@ off_next ns n online next pool given old mid was away apart taken =
       still_taken (places_off ns online) (copy_places (copy_at online n)) pool given all was.blocks
           (right_all (IsTaken pool) (places_off ns online) (copy_places (copy_at online n)) (subst (All (IsTaken pool)) push taken)),
     )
-
--- the next of them
-pub off_rising : (ns : List ℕ) (online next : List (ℕ × DiscCopy)) (pool given : List Bool) (old mid : Remembered) → IsOff ns online next pool given old mid → AllPairs (λ c d. c.0 < d.0) online → AllPairs (λ c d. c.0 < d.0) next
-off_rising ns online next pool given old mid was rising =
-    subst (AllPairs (λ (c : ℕ × DiscCopy) d. c.0 < d.0)) (sym was.copies) (AllPairs-filter (λ c d. c.0 < d.0) (λ c. not (has ns c.0)) online rising)
 
 places_append : (xs ys : List ℕ) (online : List (ℕ × DiscCopy)) → places_off (xs ++ ys) online ≡ places_off xs online ++ places_off ys online
 places_append [] ys online = refl

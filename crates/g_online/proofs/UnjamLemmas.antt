@@ -5,7 +5,6 @@ use Rattle.std.specs.Option.{ForSome}
 use Rattle.std.proofs.lemmas.Bool.{cases_Bool, cond-false, cond-true}
 use Rattle.std.proofs.lemmas.List.{get_or-map, length-map}
 use Rattle.std.proofs.lemmas.List.Elements.{All-map, All-weaker}
-use Rattle.std.proofs.lemmas.List.Kept.{AllPairs-filter}
 use Rattle.g_base.specs.ToldContent.{Changes}
 use Rattle.g_blocks.specs.Pool.{HasGiven, IsInArea, free_count}
 use Rattle.g_copy.specs.declared.copy.DiscCopy.{DiscCopy}
@@ -67,10 +66,6 @@ forgotten_more ns n online next last old mid new was gone is = record {
   copies = gone ∙ ap (without_copy n) was.copies ∙ both_filters ns n online;
   marks = marks_more ns n old mid new was.marks is;
 }
-
-pub forgotten_rises : (ns : List ℕ) (online next : Copies) (old mid : Remembered) → IsForgotten ns online next old mid → AllPairs (λ c d. c.0 < d.0) online → AllPairs (λ c d. c.0 < d.0) next
-forgotten_rises ns online next old mid was rising =
-    subst (AllPairs (λ (c : ℕ × DiscCopy) d. c.0 < d.0)) (sym was.copies) (AllPairs-filter (λ c d. c.0 < d.0) (λ c. not (has ns c.0)) online rising)
 
 -- THE COMMIT of the files that are left
 unjam_set_marked : (numbers : List ℕ) (before : DiscState) (side : Side) (old first mid : Remembered) (h k : Head) (users : List UserRec) (files : List FileRec) (online : Copies)

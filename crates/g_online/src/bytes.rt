@@ -1,5 +1,5 @@
 //! The bytes of a file that is on the disc, whole or by the block.
-ghost use Rattle.std.specs.Prelude.{◌≡◌, ◌⊎◌, ◌<◌, AllPairs, true, Contains, Err, IfErr, IfOk, OnErr, OnOk, length, slice_get};
+ghost use Rattle.std.specs.Prelude.{◌≡◌, ◌⊎◌, ◌<◌, true, Contains, Err, IfErr, IfOk, OnErr, OnOk, length, slice_get};
 ghost use Rattle.std.specs.Option.{ForSome};
 ghost use Rattle.g_base.specs.Block.{blocks_for};
 ghost use Rattle.g_disc.specs.Disc.{ReadsByCause};
@@ -9,11 +9,10 @@ ghost use Rattle.g_disc_contents.specs.Facts.{IsTied};
 ghost use Rattle.g_disc_contents.specs.Parts.{IsPart};
 ghost use Rattle.g_online.specs.Invariant.{copy_places};
 
-use crate::copies::copy_of;
 use crate::{Online, OnlineFault};
 use g_base::Block;
 use g_copy::{CopyFault, read_copy};
-use g_dirs::FileCopy;
+use g_dirs::CopyTable;
 use g_disc::Disc;
 use g_name::Text;
 use std::alloc::Global;
@@ -35,7 +34,7 @@ impl<D: Disc> Online<D> {
         ensures tied { IsTied self.new }
         ensures only { IfErr result (λ e. (e ≡ OnlineFault.ReadFault) ⊎ (e ≡ OnlineFault.NoMemory)) }
     {
-        let Some(copy) = copy_of(&self.online, number) else {
+        let Some(copy) = self.online.get(number) else {
             unreachable!()
         };
         if copy.len == 0 {
@@ -78,11 +77,10 @@ impl<D: Disc> Online<D> {
 }
 
 /// Where block `part` of the file of this number lies.
-fn place_of_part(online: &[FileCopy], number: u16, part: u32) -> Option<u32>
-    requires { AllPairs (λ c d. c.0 < d.0) online.now }
+fn place_of_part(online: &CopyTable, number: u16, part: u32) -> Option<u32>
     ensures { result ≡ slice_get (copy_places (copy_at online.now number)) part }
 {
-    match copy_of(online, number) {
+    match online.get(number) {
         Some(copy) => copy.blocks.as_slice().get(part as usize).copied(),
         None => None,
     }

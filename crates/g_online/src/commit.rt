@@ -9,7 +9,7 @@ ghost use Rattle.g_online.specs.Commit.{HasCommitted, IsMarked, commit_blocks};
 ghost use Rattle.g_online.specs.Invariant.{AreWhole};
 
 use crate::OnlineFault;
-use g_dirs::{FileCopy, Listing, Pages, write_changed};
+use g_dirs::{CopyTable, Listing, Pages, write_changed};
 use g_disc::Disc;
 use g_entry::Head;
 use g_slots::Slots;
@@ -25,7 +25,7 @@ pub(crate) fn commit<D: Disc>(
     live: &mut bool,
     head: &Head,
     tree: &Tree,
-    online: &[FileCopy],
+    online: &CopyTable,
 ) -> Result<(), OnlineFault>
     requires copies { AreCopies tree.now.files online.now }
     requires marked { IsMarked (D.state disc.old) slots.old pages.old

@@ -1,23 +1,19 @@
 //! A file goes.
-ghost use Rattle.std.specs.Prelude.{◌≡◌, ◌≢◌, ◌<◌, All, AllPairs, false, vec_len};
+ghost use Rattle.std.specs.Prelude.{◌≡◌, ◌≢◌, All, AllPairs, false};
 ghost use Rattle.std.specs.Option.{option_copied};
-ghost use Rattle.std.specs.Vec.{vec_capacity};
 ghost use Rattle.g_blocks.specs.Pool.{IsTaken};
 ghost use Rattle.g_online.specs.AllowedChanges.{IsAllowed};
-ghost use Rattle.g_online.specs.Copies.{without_copy};
 ghost use Rattle.g_online.specs.Outcomes.{IsApplied};
 ghost use Rattle.g_online.specs.Invariant.{GivesUnless, copy_places, is_pinned};
 
 use crate::change::Change;
 use crate::commit::commit;
-use crate::copies::copy_of;
 use crate::pin_list::PinList;
 use crate::records::{kept_head, mark_user_changed};
 use crate::{Online, OnlineFault};
 use g_base::FIRST_FILE_BLOCK;
 use g_blocks::Pool;
 use g_copy::DiscCopy;
-use g_dirs::{FileCopy, place_of_copy};
 use g_disc::Disc;
 
 impl<D: Disc> Online<D> {
@@ -32,8 +28,8 @@ impl<D: Disc> Online<D> {
         let owner = file.owner;
         let keeps = is_kept(&self.pins, file.stamp);
         let pinned = self.pins.is_some();
-        give_unless(keeps, &mut self.pool, copy_of(&self.online, number));
-        forget_copy(&mut self.online, number);
+        give_unless(keeps, &mut self.pool, self.online.get(number));
+        self.online.forget(number);
         self.head = kept_head(&self.head, pinned);
         self.pages.changed(0);
         self.tree.erase(number);
@@ -73,19 +69,5 @@ pub(crate) fn give_unless(keeps: bool, pool: &mut Pool, copy: Option<&DiscCopy>)
     match copy {
         Some(copy) => pool.give(copy.blocks.as_slice()),
         None => pool.give(&[]),
-    }
-}
-
-/// Takes the copy of this number out of the list.
-pub(crate) fn forget_copy(online: &mut Vec<FileCopy>, number: u16)
-    requires { AllPairs (λ c d. c.0 < d.0) online.old.items }
-    ensures copies { online.new.items ≡ without_copy number online.old.items }
-    ensures room { vec_len online.old < vec_capacity online.old → vec_len online.new < vec_capacity online.new }
-{
-    match place_of_copy(online, number) {
-        Ok(place) => {
-            online.remove(place);
-        }
-        Err(_) => {}
     }
 }

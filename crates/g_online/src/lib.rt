@@ -8,7 +8,6 @@ mod bytes;
 mod change;
 mod closing;
 mod commit;
-mod copies;
 mod erase;
 mod fault;
 mod load;

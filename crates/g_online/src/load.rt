@@ -18,12 +18,11 @@ ghost use Rattle.g_online.specs.Beginning.{AsBeforeOr, HasLoaded, HasMade, IsFou
 ghost use Rattle.g_online.specs.Invariant.{IsAgreed, facts_of};
 
 use crate::commit::commit;
-use crate::copies::empty_copy;
 use crate::numbers::UserNumbers;
 use crate::{Online, OnlineFault};
 use g_base::NoMemory;
 use g_blocks::Pool;
-use g_dirs::{Dirs, DirsFault, FileCopy, Pages, read_dirs};
+use g_dirs::{BoxedCopy, CopyTable, Dirs, DirsFault, FileCopy, Pages, read_dirs};
 use g_disc::Disc;
 use g_entry::{BoxedRec, Head, UserRec};
 use g_slots::Slots;
@@ -60,6 +59,10 @@ impl<D: Disc> Online<D> {
             files,
             online,
         } = dirs;
+        let online = match CopyTable::of(alloc, online) {
+            Ok(online) => online,
+            Err(_) => return Err((OnlineFault::NoMemory, disc)),
+        };
         match Tree::from_records(alloc, users, files) {
             Ok(tree) => Ok(begin(disc, slots, pages, pool, tree, head, online)),
             Err(_) => Err((OnlineFault::NoMemory, disc)),
@@ -98,7 +101,11 @@ impl<D: Disc> Online<D> {
             Ok(made) => made,
             Err(_) => return Err((OnlineFault::NoMemory, disc)),
         };
-        let online = match empty_copies(alloc, tree.files()) {
+        let copies = match empty_copies(alloc, tree.files()) {
+            Ok(copies) => copies,
+            Err(_) => return Err((OnlineFault::NoMemory, disc)),
+        };
+        let online = match CopyTable::of(alloc, copies) {
             Ok(online) => online,
             Err(_) => return Err((OnlineFault::NoMemory, disc)),
         };
@@ -124,14 +131,14 @@ fn begin<D: Disc>(
     pool: Pool,
     tree: Tree,
     head: Head,
-    online: Vec<FileCopy>,
+    online: CopyTable,
 ) -> Online<D>
     requires low { 2177 < (D.state disc).size }
     requires high { (D.state disc).size ≤ 1_048_576 }
     requires agreed { IsAgreed (D.state disc)
-        (memory_of slots pages pool tree.users tree.files head online.items) }
+        (memory_of slots pages pool tree.users tree.files head online) }
     ensures facts { result ≡ facts_of (D.state disc)
-        (memory_of slots pages pool tree.users tree.files head online.items) }
+        (memory_of slots pages pool tree.users tree.files head online) }
     ensures tied { IsTied result }
 {
     let _size = disc.size();
@@ -219,10 +226,7 @@ fn empty_copies(alloc: Global, files: &[BoxedRec]) -> Result<Vec<FileCopy>, NoMe
     let mut online = Vec::new(alloc);
     for file in files {
         if file.get().len == 0 {
-            let copy = match empty_copy(alloc) {
-                Ok(copy) => copy,
-                Err(_) => return Err(NoMemory),
-            };
+            let copy = BoxedCopy::empty(alloc)?;
             online.push(copy.of_file(file.get().number))?;
         }
     }

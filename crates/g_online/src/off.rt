@@ -11,13 +11,12 @@ ghost use Rattle.g_online.specs.Unloading.{MarksFiles, places_off};
 
 use crate::change::Change;
 use crate::commit::commit;
-use crate::copies::copy_of;
-use crate::erase::{forget_copy, give_unless};
+use crate::erase::give_unless;
 use crate::records::kept_head;
 use crate::{Online, OnlineFault};
 use g_base::FIRST_FILE_BLOCK;
 use g_blocks::Pool;
-use g_dirs::{FileCopy, Pages};
+use g_dirs::{CopyTable, Pages};
 use g_disc::Disc;
 use g_tree::NumberList;
 
@@ -49,19 +48,13 @@ impl<D: Disc> Online<D> {
 }
 
 /// Takes the copies of these files out of the list, gives their blocks back and marks their records.
-pub(crate) fn take_off(
-    pool: &mut Pool,
-    pages: &mut Pages,
-    online: &mut Vec<FileCopy>,
-    numbers: &[u16],
-)
-    requires rising { AllPairs (λ c d. c.0 < d.0) online.old.items }
+pub(crate) fn take_off(pool: &mut Pool, pages: &mut Pages, online: &mut CopyTable, numbers: &[u16])
     requires once { AllPairs (λ m n. m ≢ n) numbers.now }
     requires below { All (λ n. n < 1024) numbers.now }
-    requires apart { AllPairs (λ j k. j ≢ k) (places_off numbers.now online.old.items) }
-    requires taken { All (IsTaken pool.old) (places_off numbers.now online.old.items) }
-    ensures copies { online.new.items ≡ without_copies numbers.now online.old.items }
-    ensures blocks { HasGiven (places_off numbers.now online.old.items) pool.old pool.new }
+    requires apart { AllPairs (λ j k. j ≢ k) (places_off numbers.now online.old) }
+    requires taken { All (IsTaken pool.old) (places_off numbers.now online.old) }
+    ensures copies { online.new ≡ without_copies numbers.now online.old }
+    ensures blocks { HasGiven (places_off numbers.now online.old) pool.old pool.new }
     ensures marks { MarksFiles numbers.now pages.old pages.new }
 {
     for number in numbers {
@@ -70,16 +63,15 @@ pub(crate) fn take_off(
 }
 
 /// The same of one file.
-fn take_one_off(pool: &mut Pool, pages: &mut Pages, online: &mut Vec<FileCopy>, number: u16)
-    requires rising { AllPairs (λ c d. c.0 < d.0) online.old.items }
+fn take_one_off(pool: &mut Pool, pages: &mut Pages, online: &mut CopyTable, number: u16)
     requires below { number < 1024 }
-    requires apart { AllPairs (λ j k. j ≢ k) (copy_places (copy_at online.old.items number)) }
-    requires taken { All (IsTaken pool.old) (copy_places (copy_at online.old.items number)) }
-    ensures copies { online.new.items ≡ without_copy number online.old.items }
-    ensures blocks { HasGiven (copy_places (copy_at online.old.items number)) pool.old pool.new }
+    requires apart { AllPairs (λ j k. j ≢ k) (copy_places (copy_at online.old number)) }
+    requires taken { All (IsTaken pool.old) (copy_places (copy_at online.old number)) }
+    ensures copies { online.new ≡ without_copy number online.old }
+    ensures blocks { HasGiven (copy_places (copy_at online.old number)) pool.old pool.new }
     ensures marks { pages.new ≡ marked (64 + number) pages.old }
 {
-    give_unless(false, pool, copy_of(online, number));
-    forget_copy(online, number);
+    give_unless(false, pool, online.get(number));
+    online.forget(number);
     pages.changed(FIRST_FILE_BLOCK + u32::from(number));
 }

@@ -5,11 +5,10 @@ ghost use Rattle.g_disc_contents.specs.Contents.{File, recs_in};
 ghost use Rattle.g_disc_contents.specs.Facts.{IsTied, room_of};
 ghost use Rattle.g_online.specs.Room.{FitsDisc};
 
-use crate::copies::copy_of;
 use crate::numbers::UserNumbers;
 use crate::pin_list::PinList;
 use g_blocks::Pool;
-use g_dirs::{FileCopy, Pages};
+use g_dirs::{CopyTable, Pages};
 use g_disc::Disc;
 use g_entry::Head;
 use g_slots::Slots;
@@ -28,7 +27,7 @@ pub struct Online<D: Disc> {
     pub(crate) pool: Pool,
     pub(crate) tree: Tree,
     pub(crate) head: Head,
-    pub(crate) online: Vec<FileCopy>,
+    pub(crate) online: CopyTable,
     pub(crate) pins: Option<PinList>,
     pub(crate) changed: UserNumbers,
     pub(crate) touched: UserNumbers,
@@ -48,7 +47,7 @@ impl<D: Disc> Model for Online<D> {
       users = o.tree.users;
       files = o.tree.files;
       head = o.head;
-      online = o.online.items;
+      online = o.online;
       pins = o.pins;
       changed = o.changed;
       touched = o.touched;
@@ -62,7 +61,7 @@ impl<D: Disc> Model for Online<D> {
       users = o.tree.users;
       files = o.tree.files;
       head = o.head;
-      online = o.online.items;
+      online = o.online;
       pins = o.pins;
       changed = o.changed;
       touched = o.touched;
@@ -103,7 +102,7 @@ impl<D: Disc> Online<D> {
         ensures { (f : File) → Contains self.now.contents.files f → f.rec.number ≡ number
             → result ≡ f.online }
     {
-        copy_of(&self.online, number).is_some()
+        self.online.get(number).is_some()
     }
 
     /// The users whose directory may not be the one that the completed dumps hold, in rising number.

@@ -9,7 +9,6 @@ ghost use Rattle.g_online.specs.DumpedVersions.{HasPut, is_stamp_current, is_wai
 ghost use Rattle.g_online.specs.Invariant.{copy_places};
 ghost use Rattle.g_online.specs.Pins.{HasPinned};
 
-use crate::copies::copy_of;
 use crate::numbers::UserNumbers;
 use crate::pin_list::PinList;
 use crate::pinned::Pinned;
@@ -17,7 +16,7 @@ use crate::{Online, OnlineFault};
 use g_base::{Block, BlockList, NoMemory, blocks_for};
 use g_blocks::Pool;
 use g_copy::DiscCopy;
-use g_dirs::FileCopy;
+use g_dirs::CopyTable;
 use g_disc::Disc;
 use g_entry::{BoxedRec, FileRec, TapeCopy};
 use g_tree::Tree;
@@ -152,11 +151,10 @@ fn is_stamp_current(files: &[BoxedRec], stamp: u64) -> bool
 fn waiting_versions(
     alloc: Global,
     tree: &Tree,
-    online: &[FileCopy],
+    online: &CopyTable,
     serial: u32,
     first: u32,
 ) -> Result<Vec<Pinned>, NoMemory>
-    requires rising { AllPairs (λ c d. c.0 < d.0) online.now }
     requires place { first ≤ 131_072 }
     ensures { IfOk result (λ pins. pins.items
         ≡ pins_from serial first online.now (waiting_below 63 tree.now.files)) }
@@ -180,9 +178,8 @@ fn pin_owner(
     serial: u32,
     owner: u8,
     files: &[BoxedRec],
-    online: &[FileCopy],
+    online: &CopyTable,
 ) -> Result<(), NoMemory>
-    requires rising { AllPairs (λ c d. c.0 < d.0) online.now }
     requires few { length files.now ≤ 1024 }
     requires lengths { All (λ r. r.len ≤ 65536) files.now }
     requires room { at.old + 131_072 < 2 ^ 32 }
@@ -205,9 +202,8 @@ fn pin_file(
     serial: u32,
     owner: u8,
     file: &FileRec,
-    online: &[FileCopy],
+    online: &CopyTable,
 ) -> Result<(), NoMemory>
-    requires rising { AllPairs (λ c d. c.0 < d.0) online.now }
     requires room { at.old + blocks_for file.now.len < 2 ^ 32 }
     ensures { OnOk result (HasPut serial online.now (waiting_of owner (file.now ∷ []))
         pins.old.items at.old pins.new.items at.new) }
@@ -219,7 +215,7 @@ fn pin_file(
         stamp: file.stamp,
         len: file.len,
         copy: TapeCopy { serial, first: *at },
-        blocks: blocks_of(copy_of(online, file.number)),
+        blocks: blocks_of(online.get(file.number)),
     };
     match pins.push(pinned) {
         Ok(()) => {}

@@ -1,7 +1,6 @@
 //! New bytes: they find room and are written beside all that the disc holds, before a commit names them.
-ghost use Rattle.std.specs.Prelude.{◌≡◌, ◌≢◌, ◌⊎◌, ◌↔◌, ◌+◌, ◌<◌, ◌≤◌, ◌^◌, All, AllPairs, Err, IfErr, IfOk, IfSome, IsErrOf, Ok, OnErr, OnOk, [], false, length, true, vec_len};
+ghost use Rattle.std.specs.Prelude.{◌≡◌, ◌≢◌, ◌⊎◌, ◌↔◌, ◌+◌, ◌<◌, ◌≤◌, ◌^◌, All, AllPairs, Err, IfErr, IfOk, IfSome, IsErrOf, Ok, OnErr, OnOk, [], false, length, true};
 ghost use Rattle.std.specs.Option.{ForSome, option_copied};
-ghost use Rattle.std.specs.Vec.{vec_capacity};
 ghost use Rattle.std.specs.FinMap as finmap;
 ghost use Rattle.g_base.specs.Block as block;
 ghost use Rattle.g_base.specs.ToldContent.{Changes};
@@ -23,8 +22,7 @@ ghost use Rattle.g_online.specs.NewBytes.{IsUntouched, TakesBeside, TakesFilesOf
 
 use crate::change::Change;
 use crate::commit::commit;
-use crate::copies::{copy_of, empty_copy, put_copy};
-use crate::erase::{forget_copy, give_unless, is_kept};
+use crate::erase::{give_unless, is_kept};
 use crate::numbers::UserNumbers;
 use crate::pin_list::PinList;
 use crate::records::{kept_head, mark_user_changed};
@@ -32,7 +30,7 @@ use crate::{Online, OnlineFault};
 use g_base::{FIRST_FILE_BLOCK, blocks_for};
 use g_blocks::Pool;
 use g_copy::{DiscCopy, write_copy};
-use g_dirs::{BoxedCopy, FileCopy, Pages};
+use g_dirs::{BoxedCopy, CopyTable, Pages};
 use g_disc::Disc;
 use g_entry::{FileRec, Head};
 use g_name::Text;
@@ -134,30 +132,28 @@ fn make_ready(
     alloc: Global,
     pool: &mut Pool,
     tree: &mut Tree,
-    online: &mut Vec<FileCopy>,
+    online: &mut CopyTable,
     numbers: &[u16],
     len: u32,
 ) -> Result<BoxedCopy, OnlineFault>
-    requires rising { AllPairs (λ c d. c.0 < d.0) online.old.items }
-    requires apart { AllPairs (λ j k. j ≢ k) (places_off numbers.now online.old.items) }
-    requires taken { All (IsTaken pool.old) (places_off numbers.now online.old.items) }
+    requires apart { AllPairs (λ j k. j ≢ k) (places_off numbers.now online.old) }
+    requires taken { All (IsTaken pool.old) (places_off numbers.now online.old) }
     requires len { len ≤ 65536 }
     ensures users { tree.new.users ≡ tree.old.users }
     ensures files { tree.new.files ≡ tree.old.files }
-    ensures items { online.new.items ≡ online.old.items }
-    ensures ok { IfOk result (TakesBeside (places_off numbers.now online.old.items) len pool.old pool.new) }
+    ensures copies { online.new ≡ online.old }
+    ensures ok { IfOk result (TakesBeside (places_off numbers.now online.old) len pool.old pool.new) }
     ensures spare { OnOk result (1 ≤ tree.new.spare) }
-    ensures room { OnOk result (vec_len online.new < vec_capacity online.new) }
     ensures full { IsErrOf result (OnlineFault.DiscFull (block.blocks_for len)
-        (free_count pool.old + length (places_off numbers.now online.old.items)))
-        ↔ (free_count pool.old + length (places_off numbers.now online.old.items) < block.blocks_for len) }
+        (free_count pool.old + length (places_off numbers.now online.old)))
+        ↔ (free_count pool.old + length (places_off numbers.now online.old) < block.blocks_for len) }
     ensures same { OnErr result (pool.new ≡ pool.old) }
     ensures only { IfErr result (λ e. (e ≡ OnlineFault.NoMemory) ⊎ (e ≡ OnlineFault.DiscFull (block.blocks_for len)
-        (free_count pool.old + length (places_off numbers.now online.old.items)))) }
+        (free_count pool.old + length (places_off numbers.now online.old)))) }
 {
-    let lists = make_room(tree, online);
+    let lists = make_room(tree);
     give_all(pool, online, numbers);
-    match take_blocks(alloc, lists, pool, blocks_for(len), len) {
+    match take_blocks(alloc, lists, pool, online, blocks_for(len), len) {
         Ok(copy) => Ok(copy),
         Err(fault) => {
             retake_all(pool, online, numbers);
@@ -166,30 +162,25 @@ fn make_ready(
     }
 }
 
-/// Makes room for one more file in the lists of files and of copies; false without memory.
-fn make_room(tree: &mut Tree, online: &mut Vec<FileCopy>) -> bool
+/// Makes room for one more file in the list of files; false without memory.
+fn make_room(tree: &mut Tree) -> bool
     ensures users { tree.new.users ≡ tree.old.users }
     ensures files { tree.new.files ≡ tree.old.files }
-    ensures items { online.new.items ≡ online.old.items }
     ensures spare { result ≡ true → 1 ≤ tree.new.spare }
-    ensures room { result ≡ true → vec_len online.new < vec_capacity online.new }
 {
     match tree.reserve() {
-        Ok(()) => {}
-        Err(_) => return false,
-    }
-    match online.reserve(1) {
         Ok(()) => true,
         Err(_) => false,
     }
 }
 
-/// Takes the n least free blocks for a copy of `len` bytes, where there is room in the lists. Blocks that aren't there are
-/// told first.
+/// Takes the n least free blocks for a copy of `len` bytes, where there is room in the list of files. Blocks that aren't
+/// there are told first.
 fn take_blocks(
     alloc: Global,
     lists: bool,
     pool: &mut Pool,
+    online: &mut CopyTable,
     n: u32,
     len: u32,
 ) -> Result<BoxedCopy, OnlineFault>
@@ -198,6 +189,7 @@ fn take_blocks(
     ensures taken { IfOk result (λ copy. HasTaken copy.blocks pool.old pool.new) }
     ensures len { IfOk result (λ copy. copy.len ≡ len) }
     ensures lists { OnOk result (lists ≡ true) }
+    ensures copies { online.new ≡ online.old }
     ensures full { IsErrOf result (OnlineFault.DiscFull n (free_count pool.old)) ↔ (free_count pool.old < n) }
     ensures same { OnErr result (pool.new ≡ pool.old) }
     ensures only { IfErr result (λ e. (e ≡ OnlineFault.NoMemory) ⊎ (e ≡ OnlineFault.DiscFull n (free_count pool.old))) }
@@ -209,13 +201,9 @@ fn take_blocks(
     if !lists {
         return Err(OnlineFault::NoMemory);
     }
-    let mut copy = match empty_copy(alloc) {
-        Ok(copy) => copy,
-        Err(_) => return Err(OnlineFault::NoMemory),
-    };
-    match pool.take(alloc, n) {
-        Ok(blocks) => {
-            copy.fill(&blocks, len);
+    match online.empty_copy(alloc) {
+        Ok(mut copy) => {
+            copy.take_blocks(pool, n, len);
             Ok(copy)
         }
         Err(_) => Err(OnlineFault::NoMemory),
@@ -223,8 +211,7 @@ fn take_blocks(
 }
 
 /// Gives the blocks of these files back to the pool.
-fn give_all(pool: &mut Pool, online: &[FileCopy], numbers: &[u16])
-    requires rising { AllPairs (λ c d. c.0 < d.0) online.now }
+fn give_all(pool: &mut Pool, online: &CopyTable, numbers: &[u16])
     requires apart { AllPairs (λ j k. j ≢ k) (places_off numbers.now online.now) }
     requires taken { All (IsTaken pool.old) (places_off numbers.now online.now) }
     ensures { HasGiven (places_off numbers.now online.now) pool.old pool.new }
@@ -235,18 +222,16 @@ fn give_all(pool: &mut Pool, online: &[FileCopy], numbers: &[u16])
 }
 
 /// The same of one file.
-fn give_one(pool: &mut Pool, online: &[FileCopy], number: u16)
-    requires rising { AllPairs (λ c d. c.0 < d.0) online.now }
+fn give_one(pool: &mut Pool, online: &CopyTable, number: u16)
     requires apart { AllPairs (λ j k. j ≢ k) (copy_places (copy_at online.now number)) }
     requires taken { All (IsTaken pool.old) (copy_places (copy_at online.now number)) }
     ensures { HasGiven (copy_places (copy_at online.now number)) pool.old pool.new }
 {
-    give_unless(false, pool, copy_of(online, number));
+    give_unless(false, pool, online.get(number));
 }
 
 /// Takes them again, which needs no memory.
-fn retake_all(pool: &mut Pool, online: &[FileCopy], numbers: &[u16])
-    requires rising { AllPairs (λ c d. c.0 < d.0) online.now }
+fn retake_all(pool: &mut Pool, online: &CopyTable, numbers: &[u16])
     requires apart { AllPairs (λ j k. j ≢ k) (places_off numbers.now online.now) }
     requires free { All (IsFree pool.old) (places_off numbers.now online.now) }
     ensures { HasTaken (places_off numbers.now online.now) pool.old pool.new }
@@ -257,13 +242,12 @@ fn retake_all(pool: &mut Pool, online: &[FileCopy], numbers: &[u16])
 }
 
 /// The same of one file.
-fn retake_one(pool: &mut Pool, online: &[FileCopy], number: u16)
-    requires rising { AllPairs (λ c d. c.0 < d.0) online.now }
+fn retake_one(pool: &mut Pool, online: &CopyTable, number: u16)
     requires apart { AllPairs (λ j k. j ≢ k) (copy_places (copy_at online.now number)) }
     requires free { All (IsFree pool.old) (copy_places (copy_at online.now number)) }
     ensures { HasTaken (copy_places (copy_at online.now number)) pool.old pool.new }
 {
-    retake_copy(pool, copy_of(online, number));
+    retake_copy(pool, online.get(number));
 }
 
 /// Takes the blocks of a copy again, if it is one.
@@ -286,28 +270,27 @@ fn unjam_first<D: Disc>(
     live: &mut bool,
     head: &mut Head,
     tree: &Tree,
-    online: &mut Vec<FileCopy>,
+    online: &mut CopyTable,
     pinned: bool,
     numbers: &[u16],
 ) -> Result<(), OnlineFault>
     requires below { All (λ n. n < 1024) numbers.now }
-    requires copies { AreCopies tree.now.files online.old.items }
+    requires copies { AreCopies tree.now.files online.old }
     requires marked { IsMarked (D.state disc.old) slots.old pages.old
-        (directory_of head.old tree.now.users tree.now.files online.old.items) }
+        (directory_of head.old tree.now.users tree.now.files online.old) }
     requires records { AreRecords Two (directory_of (head_after pinned head.old) tree.now.users tree.now.files
-        (without_copies numbers.now online.old.items)) }
+        (without_copies numbers.now online.old)) }
     requires rules { IsDirectory (D.state disc.old).size (directory_of (head_after pinned head.old)
-        tree.now.users tree.now.files (without_copies numbers.now online.old.items)) }
+        tree.now.users tree.now.files (without_copies numbers.now online.old)) }
     ensures none { numbers.now ≡ [] → IsUntouched (D.state disc.old) (D.state disc.new)
-        (record { side = slots.old; pages = pages.old; head = head.old; online = online.old.items; live = live.old })
-        (record { side = slots.new; pages = pages.new; head = head.new; online = online.new.items; live = live.new })
+        (record { side = slots.old; pages = pages.old; head = head.old; online = online.old; live = live.old })
+        (record { side = slots.new; pages = pages.new; head = head.new; online = online.new; live = live.new })
         result }
     ensures off { 0 < length numbers.now
         → TakesFilesOff numbers.now pinned tree.now.users tree.now.files (D.state disc.old) (D.state disc.new)
-        (record { side = slots.old; pages = pages.old; head = head.old; online = online.old.items; live = live.old })
-        (record { side = slots.new; pages = pages.new; head = head.new; online = online.new.items; live = live.new })
+        (record { side = slots.old; pages = pages.old; head = head.old; online = online.old; live = live.old })
+        (record { side = slots.new; pages = pages.new; head = head.new; online = online.new; live = live.new })
         result }
-    ensures room { vec_len online.old < vec_capacity online.old → vec_len online.new < vec_capacity online.new }
 {
     if numbers.is_empty() {
         return Ok(());
@@ -319,12 +302,10 @@ fn unjam_first<D: Disc>(
 }
 
 /// Takes the copies of these files out of the list, and marks their records.
-fn forget_all(pages: &mut Pages, online: &mut Vec<FileCopy>, numbers: &[u16])
-    requires rising { AllPairs (λ c d. c.0 < d.0) online.old.items }
+fn forget_all(pages: &mut Pages, online: &mut CopyTable, numbers: &[u16])
     requires below { All (λ n. n < 1024) numbers.now }
-    ensures copies { online.new.items ≡ without_copies numbers.now online.old.items }
+    ensures copies { online.new ≡ without_copies numbers.now online.old }
     ensures marks { MarksFiles numbers.now pages.old pages.new }
-    ensures room { vec_len online.old < vec_capacity online.old → vec_len online.new < vec_capacity online.new }
 {
     for number in numbers {
         forget_one(pages, online, *number);
@@ -332,14 +313,12 @@ fn forget_all(pages: &mut Pages, online: &mut Vec<FileCopy>, numbers: &[u16])
 }
 
 /// The same of one file.
-fn forget_one(pages: &mut Pages, online: &mut Vec<FileCopy>, number: u16)
-    requires rising { AllPairs (λ c d. c.0 < d.0) online.old.items }
+fn forget_one(pages: &mut Pages, online: &mut CopyTable, number: u16)
     requires below { number < 1024 }
-    ensures copies { online.new.items ≡ without_copy number online.old.items }
+    ensures copies { online.new ≡ without_copy number online.old }
     ensures marks { pages.new ≡ marked (64 + number) pages.old }
-    ensures room { vec_len online.old < vec_capacity online.old → vec_len online.new < vec_capacity online.new }
 {
-    forget_copy(online, number);
+    online.forget(number);
     pages.changed(FIRST_FILE_BLOCK + u32::from(number));
 }
 
@@ -388,22 +367,15 @@ fn is_kept_at(pins: &Option<PinList>, tree: &Tree, number: u16) -> bool
 }
 
 /// Puts a new copy in the place of the one of its file, whose blocks go back to the pool unless they are kept.
-fn replace_copy(
-    keeps: bool,
-    pool: &mut Pool,
-    online: &mut Vec<FileCopy>,
-    number: u16,
-    copy: BoxedCopy,
-)
-    requires rising { AllPairs (λ c d. c.0 < d.0) online.old.items }
-    requires room { vec_len online.old < vec_capacity online.old }
-    requires apart { keeps ≡ false → AllPairs (λ j k. j ≢ k) (copy_places (copy_at online.old.items number)) }
-    requires taken { keeps ≡ false → All (IsTaken pool.old) (copy_places (copy_at online.old.items number)) }
-    ensures copies { online.new.items ≡ with_copy_at (number, copy) online.old.items }
-    ensures blocks { GivesUnless keeps (copy_places (copy_at online.old.items number)) pool.old pool.new }
+fn replace_copy(keeps: bool, pool: &mut Pool, online: &mut CopyTable, number: u16, copy: BoxedCopy)
+    requires below { number < 1024 }
+    requires apart { keeps ≡ false → AllPairs (λ j k. j ≢ k) (copy_places (copy_at online.old number)) }
+    requires taken { keeps ≡ false → All (IsTaken pool.old) (copy_places (copy_at online.old number)) }
+    ensures copies { online.new ≡ with_copy_at (number, copy) online.old }
+    ensures blocks { GivesUnless keeps (copy_places (copy_at online.old number)) pool.old pool.new }
 {
-    give_unless(keeps, pool, copy_of(online, number));
-    put_copy(online, number, copy);
+    give_unless(keeps, pool, online.get(number));
+    online.put(number, copy);
 }
 
 /// The head behind the record of a new version, if there is one: the next stamp is one more.

@@ -3,4 +3,4 @@ use Rattle.g_online.proofs.OffLemmas.{IsOff}
 use Rattle.g_online.proofs.off.take_off.Given as goal
 
 abbrev pub invariant-loop-number : goal.invariant-loop-number
-invariant-loop-number l = IsOff (take l.number-index l.numbers) l.fn.online.items l.online.items l.fn.pool l.pool l.fn.pages l.pages
+invariant-loop-number l = IsOff (take l.number-index l.numbers) l.fn.online l.online l.fn.pool l.pool l.fn.pages l.pages

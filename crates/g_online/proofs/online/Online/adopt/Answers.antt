@@ -13,7 +13,7 @@ use Rattle.g_online.proofs.online.Online.adopt.Goals.{After-all_changed}
 abbrev before : (g : _) (c : After-all_changed g) → Memory
 before g c =
     memory c.self.inside.slots c.self.inside.pages c.self.inside.pool c.self.inside.tree.users c.self.inside.tree.files c.self.inside.head
-    c.self.inside.online.items c.self.inside.pins c.self.inside.changed c.self.inside.touched c.self.inside.live
+    c.self.inside.online c.self.inside.pins c.self.inside.changed c.self.inside.touched c.self.inside.live
 
 ready : (g : _) (c : After-all_changed g) → IsReady (Adopt c.args.last c.args.copies.now) (g.D.Disc.state c.self.inside.disc) (before g c) (record (before g c) {
   head = c.kept_head-self-inside.result;
@@ -42,20 +42,20 @@ pub commit-requires-clause-marked : goal.commit-requires-clause-marked
 commit-requires-clause-marked g c =
     marked_for (Adopt c.args.last c.args.copies.now) (g.D.Disc.state c.self.inside.disc) _ _
     (ready g (goal.at.commit-requires-clause-marked g c).After-all_changed)
-    c.deref.result.now c.deref.ensures.value
+    c.self.inside.online refl
 
 pub commit-requires-clause-copies : goal.commit-requires-clause-copies
 commit-requires-clause-copies g c =
     copies_for (Adopt c.args.last c.args.copies.now) (g.D.Disc.state c.self.inside.disc) _ _
     (ready g (goal.at.commit-requires-clause-copies g c).After-all_changed)
-    c.deref.result.now c.deref.ensures.value
+    c.self.inside.online refl
 
 pub invariant_of-self : goal.invariant_of-self
 invariant_of-self g c =
     kept_behind (Adopt c.args.last c.args.copies.now) (g.D.Disc.state c.self.inside.disc) (g.D.Disc.state c.commit.new.disc) _ _ c.commit.new.slots
     c.commit.new.pages
     (ready g (goal.at.invariant_of-self g c).After-all_changed)
-    c.commit.new.live c.commit.result c.deref.result.now c.deref.ensures.value c.commit.ensures.ok c.commit.ensures.counts c.commit.ensures.whole
+    c.commit.new.live c.commit.result c.self.inside.online refl c.commit.ensures.ok c.commit.ensures.counts c.commit.ensures.whole
     c.commit.ensures.lives c.commit.ensures.dies
 
 pub returns : goal.returns
@@ -63,6 +63,6 @@ returns g c =
     applied (Adopt c.args.last c.args.copies.now) (g.D.Disc.state c.self.inside.disc) (g.D.Disc.state c.commit.new.disc) _ _ c.commit.new.slots
     c.commit.new.pages
     (ready g (goal.at.returns g c).After-all_changed)
-    c.args.self.now c.self.view_is c.commit.new.live c.commit.result c.deref.result.now c.deref.ensures.value c.commit.ensures.ok c.commit.ensures.stopped
+    c.args.self.now c.self.view_is c.commit.new.live c.commit.result c.self.inside.online refl c.commit.ensures.ok c.commit.ensures.stopped
     c.commit.ensures.counts c.commit.ensures.whole
     c.commit.ensures.only c.commit.ensures.lives c.commit.ensures.dies

@@ -1,3 +1,4 @@
+use Rattle.std.proofs.Common.{refl}
 use Rattle.g_online.specs.declared.change.Change.TheVariants.{Adopt}
 use Rattle.g_online.proofs.AdoptedLemmas.{adopting_is, adopting_ready, may_note, to_adopt}
 use Rattle.g_online.proofs.NotedLemmas.{noted_by, noted_kept}
@@ -12,7 +13,7 @@ commit-requires-clause-marked g c =
     c.ready.inside.tree.files
     c.self.view_is c.self.invariant c.ready.view_is c.requires.live c.requires.none c.requires.ready.1)
     c.all_changed.new.self c.all_changed.ensures.marks c.all_changed.ensures.remembers c.all_changed.ensures.covers)
-    c.deref.result.now c.deref.ensures.value
+    c.self.inside.online refl
 
 pub commit-requires-clause-copies : goal.commit-requires-clause-copies
 commit-requires-clause-copies g c =
@@ -22,7 +23,7 @@ commit-requires-clause-copies g c =
     c.ready.inside.tree.files
     c.self.view_is c.self.invariant c.ready.view_is c.requires.live c.requires.none c.requires.ready.1)
     c.all_changed.new.self c.all_changed.ensures.marks c.all_changed.ensures.remembers c.all_changed.ensures.covers)
-    c.deref.result.now c.deref.ensures.value
+    c.self.inside.online refl
 
 pub invariant_of-self : goal.invariant_of-self
 invariant_of-self g c =
@@ -33,8 +34,8 @@ invariant_of-self g c =
     c.self.view_is c.self.invariant c.ready.view_is c.requires.live c.requires.none c.requires.ready.1)
     c.all_changed.new.self c.new-self-inside.result c.new-self-inside.ensures c.all_changed.ensures.marks c.all_changed.ensures.remembers
     c.all_changed.ensures.covers in
-    noted_kept _ _ _ _ _ _ _ may (g.D.Disc.state c.commit.new.disc) c.commit.new.slots c.commit.new.pages c.commit.new.live c.commit.result c.deref.result.now
-    c.deref.ensures.value
+    noted_kept _ _ _ _ _ _ _ may (g.D.Disc.state c.commit.new.disc) c.commit.new.slots c.commit.new.pages c.commit.new.live c.commit.result c.self.inside.online
+    refl
     c.commit.ensures.ok c.commit.ensures.counts c.commit.ensures.whole c.commit.ensures.lives c.commit.ensures.dies
 
 pub returns : goal.returns
@@ -46,7 +47,7 @@ returns g c = λ copies for.
     c.all_changed.new.self c.new-self-inside.result c.new-self-inside.ensures c.all_changed.ensures.marks c.all_changed.ensures.remembers
     c.all_changed.ensures.covers in
     adopting_is c.args.last copies c.new-self-inside.result _ c.args.self.now _ c.commit.result c.new-self-inside.ensures c.self.view_is
-    (noted_by _ _ _ _ _ _ _ may (g.D.Disc.state c.commit.new.disc) c.commit.new.slots c.commit.new.pages c.commit.new.live c.commit.result c.deref.result.now
-    c.deref.ensures.value
+    (noted_by _ _ _ _ _ _ _ may (g.D.Disc.state c.commit.new.disc) c.commit.new.slots c.commit.new.pages c.commit.new.live c.commit.result c.self.inside.online
+    refl
     c.commit.ensures.ok c.commit.ensures.stopped c.commit.ensures.counts c.commit.ensures.whole c.commit.ensures.only c.commit.ensures.lives
     c.commit.ensures.dies)

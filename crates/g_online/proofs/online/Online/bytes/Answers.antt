@@ -1,4 +1,4 @@
-use Rattle.std.proofs.Common.{◌≡◌, ℕ, List, Result, ◌∙◌, ap, arith, length, subst, sym}
+use Rattle.std.proofs.Common.{◌≡◌, ℕ, List, Result, ◌∙◌, ap, arith, length, subst, sym, refl}
 use Rattle.std.specs.Option.{ForSome}
 use Rattle.std.specs.Prelude.{Contains, IfOk}
 use Rattle.g_disc_contents.specs.Contents.{File}
@@ -13,13 +13,13 @@ pub unreachable-requires : goal.unreachable-requires
 unreachable-requires g c =
     let on = c.requires.online in
     no_copy_no (g.D.Disc.state c.self.inside.disc) _ c.args.self.now c.self.view_is c.self.invariant (ap (λ (o : OnlineFacts). o.live) c.self.view_is ∙
-    c.requires.live) c.args.number c.deref.result.now c.deref.ensures.value on.0 on.1 on.2 on.3 c.in_default.ensures
+    c.requires.live) c.args.number c.self.inside.online refl on.0 on.1 on.2 on.3 c.in_default.ensures
 
 pub returns-then-copy-eq0-clause-text : goal.returns-then-copy-eq0-clause-text
 returns-then-copy-eq0-clause-text g c = λ f there at.
     subst (λ (text : List ℕ). ForSome f.bytes (λ bytes. text ≡ bytes) × (length text ≡ f.rec.len)) (sym (c.from.ensures ∙ c.new.ensures.items))
     (empty_is (g.D.Disc.state c.self.inside.disc) _ c.args.self.now c.self.view_is c.self.invariant (ap (λ (o : OnlineFacts). o.live) c.self.view_is ∙
-    c.requires.live) c.args.number c.deref.result.now c.deref.ensures.value c.in-Some.copy.now c.in-Some.ensures c.if-copy-eq0.true f there at)
+    c.requires.live) c.args.number c.self.inside.online refl c.in-Some.copy.now c.in-Some.ensures c.if-copy-eq0.true f there at)
 
 pub returns-then-copy-eq0-clause-tied : goal.returns-then-copy-eq0-clause-tied
 returns-then-copy-eq0-clause-tied g c = subst IsTied c.self.view_is (tied (g.D.Disc.state c.self.inside.disc) _ c.self.invariant)
@@ -28,7 +28,7 @@ pub read_copy-requires-clause-copy : goal.read_copy-requires-clause-copy
 read_copy-requires-clause-copy g c =
     let on = c.requires.online in
     copy_is (g.D.Disc.state c.self.inside.disc) _ c.args.self.now c.self.view_is c.self.invariant (ap (λ (o : OnlineFacts). o.live) c.self.view_is ∙
-    c.requires.live) c.args.number c.deref.result.now c.deref.ensures.value c.in-Some.copy.now c.in-Some.ensures on.0 on.1 on.2
+    c.requires.live) c.args.number c.self.inside.online refl c.in-Some.copy.now c.in-Some.ensures on.0 on.1 on.2
 
 pub returns-clause-text : goal.returns-clause-text
 returns-clause-text g c =
@@ -38,7 +38,7 @@ returns-clause-text g c =
     elim c.match-read_copy.branch as (λ _. IfOk c.match-read_copy.result Reads) [
       | in-Ok w ↦ subst (λ (r : Result (List ℕ) OnlineFault). IfOk r Reads) (sym w.result-is)
           (text_is (g.D.Disc.state c.self.inside.disc) _ c.args.self.now c.self.view_is c.self.invariant (ap (λ (o : OnlineFacts). o.live) c.self.view_is ∙
-          c.requires.live) c.args.number c.deref.result.now c.deref.ensures.value
+          c.requires.live) c.args.number c.self.inside.online refl
           c.in-Some.copy.now c.in-Some.ensures w.in-Ok.text w.in-Ok.ensures.text w.in-Ok.ensures.len)
       | in-Err-ReadFault w ↦ subst (λ (r : Result (List ℕ) OnlineFault). IfOk r Reads) (sym w.result-is) tt
       | in-Err w ↦ subst (λ (r : Result (List ℕ) OnlineFault). IfOk r Reads) (sym w.result-is) tt
@@ -47,7 +47,7 @@ returns-clause-text g c =
 pub returns-clause-filled : goal.returns-clause-filled
 returns-clause-filled g c = λ fault f there at.
     let len = len_is (g.D.Disc.state c.self.inside.disc) _ c.args.self.now c.self.view_is c.self.invariant (ap (λ (o : OnlineFacts). o.live) c.self.view_is ∙
-    c.requires.live) c.args.number c.deref.result.now c.deref.ensures.value c.in-Some.copy.now c.in-Some.ensures f there at in
+    c.requires.live) c.args.number c.self.inside.online refl c.in-Some.copy.now c.in-Some.ensures f there at in
     let filled = c.if-copy-eq0.false in
     omega (arith, len, filled)
 

@@ -1,4 +1,4 @@
-use Rattle.std.proofs.Common.{◌≡◌, ◌∙◌, ℕ, List, ap, sym}
+use Rattle.std.proofs.Common.{◌≡◌, ◌∙◌, ℕ, List, ap, sym, refl}
 use Rattle.g_entry.specs.declared.file_rec.TapeCopy.{TapeCopy}
 use Rattle.g_online.proofs.CloseLemmas.{close_ready, close_rules, closing_is, lost_to_close, may_close, to_close}
 use Rattle.g_online.proofs.NotedLemmas.{noted_by, noted_kept}
@@ -38,7 +38,7 @@ commit-requires-clause-marked g c =
     c.files.result.now c.pinned_versions-pins.result.now c.files.ensures.value c.pinned_versions-pins.ensures c.free_orphaned_pins.new.pool c.free_orphaned_pins.ensures
     c.note_copies.new.tree.users c.note_copies.new.tree.files c.changed.new.self c.note_copies.new.pages c.note_copies.ensures.users
     (rw (same _ _ _ c.pinned_notes.ensures c.pinned_versions-pins.ensures) at c.note_copies.ensures.files) c.changed.ensures.marks c.changed.ensures.remembers c.changed.ensures.covers (rw (same _ _ _ c.pinned_notes.ensures c.pinned_versions-pins.ensures) at c.note_copies.ensures.marks))
-    c.deref.result.now c.deref.ensures.value
+    c.self.inside.online refl
 
 pub commit-requires-clause-copies : goal.commit-requires-clause-copies
 commit-requires-clause-copies g c =
@@ -48,7 +48,7 @@ commit-requires-clause-copies g c =
     c.files.result.now c.pinned_versions-pins.result.now c.files.ensures.value c.pinned_versions-pins.ensures c.free_orphaned_pins.new.pool c.free_orphaned_pins.ensures
     c.note_copies.new.tree.users c.note_copies.new.tree.files c.changed.new.self c.note_copies.new.pages c.note_copies.ensures.users
     (rw (same _ _ _ c.pinned_notes.ensures c.pinned_versions-pins.ensures) at c.note_copies.ensures.files) c.changed.ensures.marks c.changed.ensures.remembers c.changed.ensures.covers (rw (same _ _ _ c.pinned_notes.ensures c.pinned_versions-pins.ensures) at c.note_copies.ensures.marks))
-    c.deref.result.now c.deref.ensures.value
+    c.self.inside.online refl
 
 pub invariant_of-self : goal.invariant_of-self
 invariant_of-self g c =
@@ -62,8 +62,8 @@ invariant_of-self g c =
     c.note_copies.ensures.users (rw (same _ _ _ c.pinned_notes.ensures c.pinned_versions-pins.ensures) at c.note_copies.ensures.files) c.changed.ensures.marks c.changed.ensures.remembers c.changed.ensures.covers
     (rw (same _ _ _ c.pinned_notes.ensures c.pinned_versions-pins.ensures) at c.note_copies.ensures.marks)
     c.replace-self-inside.ensures.value (c.replace-self-inside.ensures.after ∙ c.new.ensures) in
-    noted_kept _ _ _ _ _ _ _ may (g.D.Disc.state c.commit.new.disc) c.commit.new.slots c.commit.new.pages c.commit.new.live c.commit.result c.deref.result.now
-    c.deref.ensures.value
+    noted_kept _ _ _ _ _ _ _ may (g.D.Disc.state c.commit.new.disc) c.commit.new.slots c.commit.new.pages c.commit.new.live c.commit.result c.self.inside.online
+    refl
     c.commit.ensures.ok c.commit.ensures.counts c.commit.ensures.whole c.commit.ensures.lives c.commit.ensures.dies
 
 pub returns : goal.returns
@@ -83,7 +83,7 @@ returns g c =
     c.requires.rules)
     c.files.result.now c.pinned_versions-pins.result.now c.files.ensures.value c.pinned_versions-pins.ensures c.free_orphaned_pins.new.pool c.free_orphaned_pins.ensures
     c.replace-self-inside.result c.args.self.now _ c.commit.result c.replace-self-inside.ensures.value c.self.view_is
-    (noted_by _ _ _ _ _ _ _ may (g.D.Disc.state c.commit.new.disc) c.commit.new.slots c.commit.new.pages c.commit.new.live c.commit.result c.deref.result.now
-    c.deref.ensures.value
+    (noted_by _ _ _ _ _ _ _ may (g.D.Disc.state c.commit.new.disc) c.commit.new.slots c.commit.new.pages c.commit.new.live c.commit.result c.self.inside.online
+    refl
     c.commit.ensures.ok c.commit.ensures.stopped c.commit.ensures.counts c.commit.ensures.whole c.commit.ensures.only c.commit.ensures.lives
     c.commit.ensures.dies)

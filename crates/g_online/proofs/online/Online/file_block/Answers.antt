@@ -1,4 +1,4 @@
-use Rattle.std.proofs.Common.{◌≡◌, ◌∙◌, Result, ap, subst, sym}
+use Rattle.std.proofs.Common.{◌≡◌, ◌∙◌, Result, ap, subst, sym, refl}
 use Rattle.std.specs.Option.{ForSome}
 use Rattle.std.specs.Prelude.{Contains, OnOk}
 use Rattle.g_disc_contents.specs.Contents.{File}
@@ -15,14 +15,14 @@ unreachable-requires g c =
     let it = c.requires.there in
     part_no (g.D.Disc.state c.self.inside.disc) _ c.args.self.now c.self.view_is c.self.invariant (ap (λ (o : OnlineFacts). o.live) c.self.view_is ∙
     c.requires.live) c.args.number
-    c.deref.result.now c.deref.ensures.value c.args.part it.0 it.1 it.2 it.3 it.4 c.in_default.ensures
+    c.self.inside.online refl c.args.part it.0 it.1 it.2 it.3 it.4 c.in_default.ensures
 
 pub read-requires : goal.read-requires
 read-requires g c =
     let it = c.requires.there in
     part_within (g.D.Disc.state c.self.inside.disc) _ c.args.self.now c.self.view_is c.self.invariant (ap (λ (o : OnlineFacts). o.live) c.self.view_is ∙
     c.requires.live) c.args.number
-    c.deref.result.now c.deref.ensures.value c.args.part it.0 it.1 it.2 it.3 it.4 c.in-Some.place c.in-Some.ensures
+    c.self.inside.online refl c.args.part it.0 it.1 it.2 it.3 it.4 c.in-Some.place c.in-Some.ensures
 
 pub returns-clause-block : goal.returns-clause-block
 returns-clause-block g c =
@@ -32,7 +32,7 @@ returns-clause-block g c =
       | in-Ok w ↦ subst (λ (r : Result (Unit {0}) OnlineFault). OnOk r Reads) (sym w.result-is)
           (part_read (g.D.Disc.state c.self.inside.disc) _ c.args.self.now c.self.view_is c.self.invariant (ap (λ (o : OnlineFacts). o.live) c.self.view_is ∙
           c.requires.live) c.args.number
-          c.deref.result.now c.deref.ensures.value c.args.part c.in-Some.place c.read.new.into c.in-Some.ensures w.in-Ok.ensures.block)
+          c.self.inside.online refl c.args.part c.in-Some.place c.read.new.into c.in-Some.ensures w.in-Ok.ensures.block)
       | in-Err w ↦ subst (λ (r : Result (Unit {0}) OnlineFault). OnOk r Reads) (sym w.result-is) tt
     ]
 

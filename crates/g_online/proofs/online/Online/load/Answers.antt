@@ -1,7 +1,9 @@
-use Rattle.std.proofs.Common.{◌∙◌, ℕ, subst, sym}
+use Rattle.std.proofs.Common.{◌∙◌, ℕ, ap, subst, sym}
 use Rattle.g_blocks.specs.Pool.{IsFresh}
 use Rattle.g_dirs.specs.Rules.{AreApart, numbers_of}
-use Rattle.g_online.proofs.BegunLemmas.{found_apart, found_records, has_loaded, loaded, no_contents}
+use Rattle.g_online.specs.Beginning.{memory_of}
+use Rattle.g_online.specs.Invariant.{IsAgreed, facts_of}
+use Rattle.g_online.proofs.BegunLemmas.{found_apart, found_records, has_loaded, loaded, no_contents, numbers_below}
 use Rattle.g_online.proofs.CopyLemmas.{Copies}
 use Rattle.g_online.proofs.online.Online.load.Goals as goal
 
@@ -16,6 +18,17 @@ pool_of-requires-clause-places g c =
     (found_apart (g.D.Disc.state c.args.disc) (g.D.Disc.state c.find.new.disc) c.in-Ok.found.0 dirs.head dirs.users.items dirs.files.items dirs.online.items
     c.in-Ok.ensures.found c.in-Ok.ensures.copies))
 
+pub of-requires-clause-rising : goal.of-requires-clause-rising
+of-requires-clause-rising g c = c.in-Ok.ensures.copies.rising
+
+pub of-requires-clause-below : goal.of-requires-clause-below
+of-requires-clause-below g c =
+    let dirs = c.in-Ok.found.1 in
+    numbers_below dirs.files.items dirs.online.items
+    (found_records (g.D.Disc.state c.args.disc) (g.D.Disc.state c.find.new.disc) c.in-Ok.found.0 dirs.head dirs.users.items dirs.files.items dirs.online.items
+    c.in-Ok.ensures.found c.in-Ok.ensures.copies).numbers
+    c.in-Ok.ensures.copies
+
 pub from_records-requires : goal.from_records-requires
 from_records-requires g c =
     let dirs = c.in-Ok.found.1 in
@@ -29,10 +42,12 @@ begin-requires-clause-agreed g c =
     let pool : IsFresh (g.D.Disc.state c.find.new.disc).size (numbers_of dirs.online.items) made.1 =
     subst (λ (n : ℕ). IsFresh n (numbers_of dirs.online.items) made.1) c.size.ensures.size
     (subst (λ (l : Copies). IsFresh c.size.result (numbers_of l) made.1) c.as_slice.ensures.value c.in-Ok-pool_of.ensures.pool) in
-    loaded (g.D.Disc.state c.args.disc) (g.D.Disc.state c.find.new.disc) c.in-Ok.found.0 dirs.head dirs.users.items dirs.files.items dirs.online.items
+    subst (λ (l : Copies). IsAgreed (g.D.Disc.state c.find.new.disc) (memory_of c.in-Ok.found.0 made.0 made.1 c.in-Ok-from_records.tree.users
+    c.in-Ok-from_records.tree.files dirs.head l)) (sym c.in-Ok-of.ensures)
+    (loaded (g.D.Disc.state c.args.disc) (g.D.Disc.state c.find.new.disc) c.in-Ok.found.0 dirs.head dirs.users.items dirs.files.items dirs.online.items
     c.in-Ok.ensures.found c.in-Ok.ensures.copies
     made.0 made.1 c.in-Ok-from_records.tree.users c.in-Ok-from_records.tree.files c.in-Ok.ensures.reads c.in-Ok-pool_of.ensures.pages pool
-    c.in-Ok-from_records.ensures.users c.in-Ok-from_records.ensures.files
+    c.in-Ok-from_records.ensures.users c.in-Ok-from_records.ensures.files)
 
 pub returns-in-Ok-from_records-clause-ok : goal.returns-in-Ok-from_records-clause-ok
 returns-in-Ok-from_records-clause-ok g c =
@@ -42,4 +57,5 @@ returns-in-Ok-from_records-clause-ok g c =
     c.in-Ok.ensures.found c.in-Ok.ensures.copies
     made.0 made.1 c.in-Ok-from_records.tree.users c.in-Ok-from_records.tree.files c.begin.result c.in-Ok.ensures.reads (λ is. cc)
     c.in-Ok-pool_of.ensures.pages c.in-Ok-from_records.ensures.users c.in-Ok-from_records.ensures.files
-    c.begin.ensures.facts
+    (c.begin.ensures.facts ∙ ap (λ (l : Copies). facts_of (g.D.Disc.state c.find.new.disc) (memory_of c.in-Ok.found.0 made.0 made.1
+    c.in-Ok-from_records.tree.users c.in-Ok-from_records.tree.files dirs.head l)) c.in-Ok-of.ensures)

@@ -1,7 +1,5 @@
-use Rattle.std.proofs.Common.{◌∙◌, ℕ, List, ap, subst}
-use Rattle.g_copy.specs.declared.copy.DiscCopy.{DiscCopy}
+use Rattle.std.proofs.Common.{◌∙◌, subst}
 use Rattle.g_disc_contents.specs.Facts.{IsTied}
-use Rattle.g_online.specs.DumpedVersions.{pins_from, waiting_below}
 use Rattle.g_online.proofs.PinLemmas.{pinned_facts, pinned_kept}
 use Rattle.g_online.proofs.TieLemmas.{tied}
 use Rattle.g_online.proofs.online.Online.pin.Goals as goal
@@ -10,23 +8,20 @@ pub invariant_of-self : goal.invariant_of-self
 invariant_of-self g c =
     pinned_kept (g.D.Disc.state c.self.inside.disc) _ c.args.self.now c.self.view_is c.self.invariant c.requires.live c.requires.none c.args.serial
     c.args.first c.in-Ok-new.list
-    (c.in-Ok-new.ensures ∙ c.in-Ok.ensures ∙ ap (λ (on : List (ℕ × DiscCopy)). pins_from c.args.serial c.args.first on (waiting_below 63 c.self.inside.tree.files))
-    c.deref.ensures.value)
+    (c.in-Ok-new.ensures ∙ c.in-Ok.ensures)
 
 pub returns-clause-ok : goal.returns-clause-ok
 returns-clause-ok g c =
     pinned_facts (g.D.Disc.state c.self.inside.disc) _ c.args.self.now c.self.view_is c.self.invariant c.requires.live c.requires.none c.args.serial
     c.args.first c.in-Ok-new.list
-    (c.in-Ok-new.ensures ∙ c.in-Ok.ensures ∙ ap (λ (on : List (ℕ × DiscCopy)). pins_from c.args.serial c.args.first on (waiting_below 63 c.self.inside.tree.files))
-    c.deref.ensures.value)
+    (c.in-Ok-new.ensures ∙ c.in-Ok.ensures)
 
 pub returns-clause-tied : goal.returns-clause-tied
 returns-clause-tied g c =
     tied (g.D.Disc.state c.self.inside.disc) _
     (pinned_kept (g.D.Disc.state c.self.inside.disc) _ c.args.self.now c.self.view_is c.self.invariant c.requires.live c.requires.none c.args.serial
     c.args.first c.in-Ok-new.list
-    (c.in-Ok-new.ensures ∙ c.in-Ok.ensures ∙ ap (λ (on : List (ℕ × DiscCopy)). pins_from c.args.serial c.args.first on (waiting_below 63 c.self.inside.tree.files))
-    c.deref.ensures.value))
+    (c.in-Ok-new.ensures ∙ c.in-Ok.ensures))
 
 pub returns-in-Err-clause-tied : goal.returns-in-Err-clause-tied
 returns-in-Err-clause-tied g c = subst IsTied c.self.view_is (tied (g.D.Disc.state c.self.inside.disc) _ c.self.invariant)

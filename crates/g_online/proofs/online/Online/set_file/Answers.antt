@@ -11,7 +11,7 @@ use Rattle.g_online.proofs.online.Online.set_file.Goals.{After-mark_user_changed
 abbrev before : (g : _) (c : After-mark_user_changed g) → Memory
 before g c =
     memory c.self.inside.slots c.self.inside.pages c.self.inside.pool c.self.inside.tree.users c.self.inside.tree.files c.self.inside.head
-    c.self.inside.online.items c.self.inside.pins c.self.inside.changed c.self.inside.touched c.self.inside.live
+    c.self.inside.online c.self.inside.pins c.self.inside.changed c.self.inside.touched c.self.inside.live
 
 ready : (g : _) (c : After-mark_user_changed g) → IsReady (SetFile c.args.rec) (g.D.Disc.state c.self.inside.disc) (before g c) (record (before g c) {
   head = c.carry_head.new.head;
@@ -34,7 +34,7 @@ ready g c =
 pub returns-in-Err : goal.returns-in-Err
 returns-in-Err g c =
     let m : Memory = memory c.self.inside.slots c.self.inside.pages c.self.inside.pool c.self.inside.tree.users c.self.inside.tree.files c.self.inside.head
-    c.self.inside.online.items c.self.inside.pins c.self.inside.changed c.self.inside.touched c.self.inside.live in
+    c.self.inside.online c.self.inside.pins c.self.inside.changed c.self.inside.touched c.self.inside.live in
     not_applied (SetFile c.args.rec) (g.D.Disc.state c.self.inside.disc) m (record m {
       users = c.reserve.new.self.users;
       files = c.reserve.new.self.files;
@@ -56,21 +56,21 @@ mark_user_changed-requires g c = owner_fits c.args.rec (g.D.Disc.state c.self.in
 
 pub commit-requires-clause-marked : goal.commit-requires-clause-marked
 commit-requires-clause-marked g c =
-    marked_for _ _ _ _ (ready g (goal.at.commit-requires-clause-marked g c).After-mark_user_changed) c.deref.result.now c.deref.ensures.value
+    marked_for _ _ _ _ (ready g (goal.at.commit-requires-clause-marked g c).After-mark_user_changed) c.self.inside.online refl
 
 pub commit-requires-clause-copies : goal.commit-requires-clause-copies
 commit-requires-clause-copies g c =
-    copies_for _ _ _ _ (ready g (goal.at.commit-requires-clause-copies g c).After-mark_user_changed) c.deref.result.now c.deref.ensures.value
+    copies_for _ _ _ _ (ready g (goal.at.commit-requires-clause-copies g c).After-mark_user_changed) c.self.inside.online refl
 
 pub invariant_of-self-2 : goal.invariant_of-self-2
 invariant_of-self-2 g c =
-    kept_behind _ _ _ _ _ _ _ (ready g (goal.at.invariant_of-self-2 g c).After-mark_user_changed) c.commit.new.live c.commit.result c.deref.result.now
-    c.deref.ensures.value
+    kept_behind _ _ _ _ _ _ _ (ready g (goal.at.invariant_of-self-2 g c).After-mark_user_changed) c.commit.new.live c.commit.result c.self.inside.online
+    refl
     c.commit.ensures.ok c.commit.ensures.counts c.commit.ensures.whole c.commit.ensures.lives c.commit.ensures.dies
 
 pub returns : goal.returns
 returns g c =
-    applied _ _ _ _ _ _ _ (ready g (goal.at.returns g c).After-mark_user_changed) c.args.self.now c.self.view_is c.commit.new.live c.commit.result c.deref.result.now
-    c.deref.ensures.value
+    applied _ _ _ _ _ _ _ (ready g (goal.at.returns g c).After-mark_user_changed) c.args.self.now c.self.view_is c.commit.new.live c.commit.result c.self.inside.online
+    refl
     c.commit.ensures.ok c.commit.ensures.stopped c.commit.ensures.counts c.commit.ensures.whole c.commit.ensures.only c.commit.ensures.lives
     c.commit.ensures.dies

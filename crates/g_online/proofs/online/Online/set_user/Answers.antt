@@ -1,4 +1,4 @@
-use Rattle.std.proofs.Common.{ℕ, ◌+◌, ap}
+use Rattle.std.proofs.Common.{ℕ, ◌+◌, ap, refl}
 use Rattle.g_online.specs.declared.change.Change.TheVariants.{SetUser}
 use Rattle.g_online.specs.Invariant.{Memory}
 use Rattle.g_online.proofs.RecordLemmas.{user_ready, user_rules}
@@ -10,7 +10,7 @@ use Rattle.g_online.proofs.online.Online.set_user.Goals.{After-changed-2}
 abbrev before : (g : _) (c : After-changed-2 g) → Memory
 before g c =
     memory c.self.inside.slots c.self.inside.pages c.self.inside.pool c.self.inside.tree.users c.self.inside.tree.files c.self.inside.head
-    c.self.inside.online.items c.self.inside.pins c.self.inside.changed c.self.inside.touched c.self.inside.live
+    c.self.inside.online c.self.inside.pins c.self.inside.changed c.self.inside.touched c.self.inside.live
 
 ready : (g : _) (c : After-changed-2 g) → IsReady (SetUser c.args.user.now) (g.D.Disc.state c.self.inside.disc) (before g c) (record (before g c) {
   head = c.kept_head-self-inside.result;
@@ -34,17 +34,17 @@ set_user-requires-clause-rules g c =
 
 pub commit-requires-clause-marked : goal.commit-requires-clause-marked
 commit-requires-clause-marked g c =
-    marked_for _ _ _ _ (ready g (goal.at.commit-requires-clause-marked g c).After-changed-2) c.deref.result.now c.deref.ensures.value
+    marked_for _ _ _ _ (ready g (goal.at.commit-requires-clause-marked g c).After-changed-2) c.self.inside.online refl
 
 pub invariant_of-self : goal.invariant_of-self
 invariant_of-self g c =
-    kept_behind _ _ _ _ _ _ _ (ready g (goal.at.invariant_of-self g c).After-changed-2) c.commit.new.live c.commit.result c.deref.result.now
-    c.deref.ensures.value
+    kept_behind _ _ _ _ _ _ _ (ready g (goal.at.invariant_of-self g c).After-changed-2) c.commit.new.live c.commit.result c.self.inside.online
+    refl
     c.commit.ensures.ok c.commit.ensures.counts c.commit.ensures.whole c.commit.ensures.lives c.commit.ensures.dies
 
 pub returns : goal.returns
 returns g c =
-    applied _ _ _ _ _ _ _ (ready g (goal.at.returns g c).After-changed-2) c.args.self.now c.self.view_is c.commit.new.live c.commit.result c.deref.result.now
-    c.deref.ensures.value
+    applied _ _ _ _ _ _ _ (ready g (goal.at.returns g c).After-changed-2) c.args.self.now c.self.view_is c.commit.new.live c.commit.result c.self.inside.online
+    refl
     c.commit.ensures.ok c.commit.ensures.stopped c.commit.ensures.counts c.commit.ensures.whole c.commit.ensures.only c.commit.ensures.lives
     c.commit.ensures.dies

@@ -6,5 +6,5 @@ use Rattle.g_online.proofs.online.Online.tree.Goals as goal
 
 pub returns-clause-files : goal.returns-clause-files
 returns-clause-files g c =
-    sym (recs_here (g.D.Disc.state c.self.inside.disc).held c.self.inside.tree.files c.self.inside.online.items) ∙ ap (λ (o : OnlineFacts). recs_in
+    sym (recs_here (g.D.Disc.state c.self.inside.disc).held c.self.inside.tree.files c.self.inside.online) ∙ ap (λ (o : OnlineFacts). recs_in
     o.contents) c.self.view_is

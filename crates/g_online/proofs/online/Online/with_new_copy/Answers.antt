@@ -21,27 +21,27 @@ use Rattle.g_online.proofs.online.Online.with_new_copy.Goals.{After-put_record, 
 abbrev start : (g : _) (c : In-Ok g) → Memory
 start g c =
     memory c.self.inside.slots c.self.inside.pages c.self.inside.pool c.make_ready.new.tree.users c.make_ready.new.tree.files c.self.inside.head
-    c.make_ready.new.online.items c.self.inside.pins c.self.inside.changed c.self.inside.touched c.self.inside.live
+    c.make_ready.new.online c.self.inside.pins c.self.inside.changed c.self.inside.touched c.self.inside.live
 
 asked : (g : _) (c : In-Ok g)
     → IsAsked (length c.as_slice-content.result.now) c.as_slice-numbers.result.now (with_bytes c.args.rec c.args.number c.as_slice-content.result.now [])
     (with_bytes c.args.rec c.args.number c.as_slice-content.result.now c.as_slice-numbers.result.now) c.args.self.now (g.D.Disc.state c.self.inside.disc)
     (start g c)
 asked g c =
-    asked_moved _ _ _ _ _ _ _ _ _ _ c.make_ready.ensures.users c.make_ready.ensures.files c.make_ready.ensures.items
+    asked_moved _ _ _ _ _ _ _ _ _ _ c.make_ready.ensures.users c.make_ready.ensures.files c.make_ready.ensures.copies
     (bytes_asked c.args.rec c.args.number c.args.bytes.now _ c.args.unjam.now _ c.args.self.now _ _ c.as_slice-content.ensures c.as_slice-numbers.ensures
     c.self.view_is c.self.invariant c.requires.allowed)
 
 takes : (g : _) (c : In-Ok g)
-    → TakesBeside (places_off c.as_slice-numbers.result.now c.make_ready.new.online.items) (length c.as_slice-content.result.now) c.self.inside.pool
+    → TakesBeside (places_off c.as_slice-numbers.result.now c.make_ready.new.online) (length c.as_slice-content.result.now) c.self.inside.pool
     c.make_ready.new.pool c.in-Ok.copy
-takes g c = taken_moved _ _ _ _ _ _ _ c.make_ready.ensures.items c.in-Ok.ensures.ok
+takes g c = taken_moved _ _ _ _ _ _ _ c.make_ready.ensures.copies c.in-Ok.ensures.ok
 
 -- and when the files are taken off
 abbrev ready_for : (g : _) (c : In-Ok-unjam_first g) → Memory
 ready_for g c =
     memory c.self.inside.slots c.self.inside.pages c.self.inside.pool c.make_ready.new.tree.users c.make_ready.new.tree.files c.self.inside.head
-    c.make_ready.new.online.items c.self.inside.pins c.self.inside.changed c.self.inside.touched c.self.inside.live
+    c.make_ready.new.online c.self.inside.pins c.self.inside.changed c.self.inside.touched c.self.inside.live
 
 prepared : (g : _) (c : In-Ok-unjam_first g)
     → IsPrepared c.args.rec c.args.number c.as_slice-content.result.now c.as_slice-numbers.result.now c.args.self.now (g.D.Disc.state c.self.inside.disc)
@@ -49,15 +49,15 @@ prepared : (g : _) (c : In-Ok-unjam_first g)
       side = c.unjam_first.new.slots;
       pages = c.unjam_first.new.pages;
       head = c.unjam_first.new.head;
-      online = c.unjam_first.new.online.items;
+      online = c.unjam_first.new.online;
       live = c.unjam_first.new.live;
     })
 prepared g c =
     prepare _ _ _ _ _ _ _ _ _ _ _ _ c.is_some-pinned.result c.requires.number
-    (asked_moved _ _ _ _ _ _ _ _ _ _ c.make_ready.ensures.users c.make_ready.ensures.files c.make_ready.ensures.items
+    (asked_moved _ _ _ _ _ _ _ _ _ _ c.make_ready.ensures.users c.make_ready.ensures.files c.make_ready.ensures.copies
     (bytes_asked c.args.rec c.args.number c.args.bytes.now _ c.args.unjam.now _ c.args.self.now _ _ c.as_slice-content.ensures c.as_slice-numbers.ensures
     c.self.view_is c.self.invariant c.requires.allowed))
-    (taken_moved _ _ _ _ _ _ _ c.make_ready.ensures.items c.in-Ok.ensures.ok) c.is_some-pinned.ensures
+    (taken_moved _ _ _ _ _ _ _ c.make_ready.ensures.copies c.in-Ok.ensures.ok) c.is_some-pinned.ensures
     c.in-Ok-unjam_first.ensures.none c.in-Ok-unjam_first.ensures.off
 
 pub overflow_cast-content : goal.overflow_cast-content
@@ -67,12 +67,6 @@ overflow_cast-content g c =
     _
     c.requires.number c.as_slice-content.ensures c.self.view_is c.self.invariant c.requires.allowed).0 in
     omega (arith, short)
-
-pub make_ready-requires-clause-rising : goal.make_ready-requires-clause-rising
-make_ready-requires-clause-rising g c =
-    (asked_copies _ _ _ _ _ _ _
-    (bytes_asked c.args.rec c.args.number c.args.bytes.now c.as_slice-content.result.now c.args.unjam.now c.as_slice-numbers.result.now c.args.self.now _ _
-    c.as_slice-content.ensures c.as_slice-numbers.ensures c.self.view_is c.self.invariant c.requires.allowed)).rising
 
 pub make_ready-requires-clause-apart : goal.make_ready-requires-clause-apart
 make_ready-requires-clause-apart g c =
@@ -95,29 +89,29 @@ make_ready-requires-clause-len g c =
 pub invariant_of-self : goal.invariant_of-self
 invariant_of-self g c =
     (asked_refused _ _ _ _ _ _ _
-    (asked_moved _ _ _ _ _ _ _ _ _ _ c.make_ready.ensures.users c.make_ready.ensures.files c.make_ready.ensures.items
+    (asked_moved _ _ _ _ _ _ _ _ _ _ c.make_ready.ensures.users c.make_ready.ensures.files c.make_ready.ensures.copies
     (bytes_asked c.args.rec c.args.number c.args.bytes.now c.as_slice-content.result.now c.args.unjam.now c.as_slice-numbers.result.now c.args.self.now _ _
     c.as_slice-content.ensures c.as_slice-numbers.ensures c.self.view_is c.self.invariant c.requires.allowed))
     c.in-Err.fault c.make_ready.new.pool c.in-Err.ensures.same
-    (full_moved {T = DiscCopy} (Err c.in-Err.fault) c.as_slice-numbers.result.now c.self.inside.online.items c.make_ready.new.online.items (free_count
+    (full_moved {T = DiscCopy} (Err c.in-Err.fault) c.as_slice-numbers.result.now c.self.inside.online c.make_ready.new.online (free_count
     c.self.inside.pool)
-    (blocks_for (length c.as_slice-content.result.now)) c.make_ready.ensures.items c.in-Err.ensures.full)
-    (only_moved c.in-Err.fault c.as_slice-numbers.result.now c.self.inside.online.items c.make_ready.new.online.items (free_count c.self.inside.pool)
-    (blocks_for (length c.as_slice-content.result.now)) c.make_ready.ensures.items c.in-Err.ensures.only)).0
+    (blocks_for (length c.as_slice-content.result.now)) c.make_ready.ensures.copies c.in-Err.ensures.full)
+    (only_moved c.in-Err.fault c.as_slice-numbers.result.now c.self.inside.online c.make_ready.new.online (free_count c.self.inside.pool)
+    (blocks_for (length c.as_slice-content.result.now)) c.make_ready.ensures.copies c.in-Err.ensures.only)).0
 
 pub returns-in-Err : goal.returns-in-Err
 returns-in-Err g c =
     bytes_answer c.args.rec c.args.number c.args.bytes.now _ c.args.unjam.now _ c.args.self.now _ _ c.as_slice-content.ensures c.as_slice-numbers.ensures
     (asked_refused _ _ _ _ _ _ _
-    (asked_moved _ _ _ _ _ _ _ _ _ _ c.make_ready.ensures.users c.make_ready.ensures.files c.make_ready.ensures.items
+    (asked_moved _ _ _ _ _ _ _ _ _ _ c.make_ready.ensures.users c.make_ready.ensures.files c.make_ready.ensures.copies
     (bytes_asked c.args.rec c.args.number c.args.bytes.now c.as_slice-content.result.now c.args.unjam.now c.as_slice-numbers.result.now c.args.self.now _ _
     c.as_slice-content.ensures c.as_slice-numbers.ensures c.self.view_is c.self.invariant c.requires.allowed))
     c.in-Err.fault c.make_ready.new.pool c.in-Err.ensures.same
-    (full_moved {T = DiscCopy} (Err c.in-Err.fault) c.as_slice-numbers.result.now c.self.inside.online.items c.make_ready.new.online.items (free_count
+    (full_moved {T = DiscCopy} (Err c.in-Err.fault) c.as_slice-numbers.result.now c.self.inside.online c.make_ready.new.online (free_count
     c.self.inside.pool)
-    (blocks_for (length c.as_slice-content.result.now)) c.make_ready.ensures.items c.in-Err.ensures.full)
-    (only_moved c.in-Err.fault c.as_slice-numbers.result.now c.self.inside.online.items c.make_ready.new.online.items (free_count c.self.inside.pool)
-    (blocks_for (length c.as_slice-content.result.now)) c.make_ready.ensures.items c.in-Err.ensures.only)).1
+    (blocks_for (length c.as_slice-content.result.now)) c.make_ready.ensures.copies c.in-Err.ensures.full)
+    (only_moved c.in-Err.fault c.as_slice-numbers.result.now c.self.inside.online c.make_ready.new.online (free_count c.self.inside.pool)
+    (blocks_for (length c.as_slice-content.result.now)) c.make_ready.ensures.copies c.in-Err.ensures.only)).1
 
 pub unjam_first-requires-clause-below : goal.unjam_first-requires-clause-below
 unjam_first-requires-clause-below g c = asked_below _ _ _ _ _ _ _ (asked g (goal.at.unjam_first-requires-clause-below g c).In-Ok)
@@ -181,14 +175,14 @@ returns-in-Err-write_new g c =
 abbrev written_in : (g : _) (c : After-put_record g) → List Bool → Memory
 written_in g c pool =
     memory c.unjam_first.new.slots c.unjam_first.new.pages pool c.make_ready.new.tree.users c.make_ready.new.tree.files c.unjam_first.new.head
-    c.unjam_first.new.online.items c.self.inside.pins c.self.inside.changed c.self.inside.touched c.unjam_first.new.live
+    c.unjam_first.new.online c.self.inside.pins c.self.inside.changed c.self.inside.touched c.unjam_first.new.live
 
 put : (g : _) (c : After-put_record g) (between : List Bool) → HasTaken c.in-Ok.copy.blocks between c.make_ready.new.pool
     → IsPutIn c.args.number c.in-Ok.copy (written_in g c between) c.args.rec c.make_ready.new.pool c.is_kept_at-keeps.result c.is_some-pinned.result
     c.changed.new.self
     (put_in (written_in g c between) c.replace_copy.new.pool c.changed-2.new.self c.kept_head-self-inside.result c.put_record.new.tree.users
     c.put_record.new.tree.files
-    c.replace_copy.new.online.items c.put_record.new.changed c.put_record.new.touched)
+    c.replace_copy.new.online c.put_record.new.changed c.put_record.new.touched)
 put g c between taken = record {
   taken = taken;
   keeps_is = c.is_kept_at-keeps.ensures;
@@ -207,13 +201,11 @@ put g c between taken = record {
   touched = c.put_record.ensures.touched;
 }
 
-pub replace_copy-requires-clause-rising : goal.replace_copy-requires-clause-rising
-replace_copy-requires-clause-rising g c =
-    let un = (prepared g (goal.at.replace_copy-requires-clause-rising g c).In-Ok-unjam_first).un in
-    (un.kept.agreed un.live).copies.rising
-
-pub replace_copy-requires-clause-room : goal.replace_copy-requires-clause-room
-replace_copy-requires-clause-room g c = c.in-Ok-unjam_first.ensures.room c.in-Ok.ensures.room
+pub replace_copy-requires-clause-below : goal.replace_copy-requires-clause-below
+replace_copy-requires-clause-below g c =
+    (bytes_short c.args.rec c.args.number c.args.bytes.now c.as_slice-content.result.now c.args.unjam.now c.args.self.now (g.D.Disc.state c.self.inside.disc)
+    _
+    c.requires.number c.as_slice-content.ensures c.self.view_is c.self.invariant c.requires.allowed).1
 
 pub replace_copy-requires-clause-apart : goal.replace_copy-requires-clause-apart
 replace_copy-requires-clause-apart g c = λ free.
@@ -262,7 +254,7 @@ commit-requires-clause-copies g c =
     (has_written _ _ _ _ _ _ _ _ _ _ _ it (g.D.Disc.state c.write_new.new.disc) c.write_new.ensures.whole c.in-Ok-write_new.ensures.counts
     c.in-Ok-write_new.ensures.ok)
     _ _ _ _ _ _ _ _ _ _ _ _ (put g at.After-put_record it.takes.between it.takes.takes))
-    c.deref.result.now c.deref.ensures.value
+    c.replace_copy.new.online refl
 
 pub commit-requires-clause-marked : goal.commit-requires-clause-marked
 commit-requires-clause-marked g c =
@@ -273,7 +265,7 @@ commit-requires-clause-marked g c =
     (has_written _ _ _ _ _ _ _ _ _ _ _ it (g.D.Disc.state c.write_new.new.disc) c.write_new.ensures.whole c.in-Ok-write_new.ensures.counts
     c.in-Ok-write_new.ensures.ok)
     _ _ _ _ _ _ _ _ _ _ _ _ (put g at.After-put_record it.takes.between it.takes.takes))
-    c.deref.result.now c.deref.ensures.value
+    c.replace_copy.new.online refl
 
 pub invariant_of-self-2 : goal.invariant_of-self-2
 invariant_of-self-2 g c =
@@ -286,7 +278,7 @@ invariant_of-self-2 g c =
     (has_written _ _ _ _ _ _ _ _ _ _ _ it (g.D.Disc.state c.write_new.new.disc) c.write_new.ensures.whole c.in-Ok-write_new.ensures.counts
     c.in-Ok-write_new.ensures.ok)
     _ _ _ _ _ _ _ _ _ _ _ _ (put g at.After-put_record it.takes.between it.takes.takes))
-    c.commit.new.live c.commit.result c.deref.result.now c.deref.ensures.value c.commit.ensures.ok c.commit.ensures.counts c.commit.ensures.whole
+    c.commit.new.live c.commit.result c.replace_copy.new.online refl c.commit.ensures.ok c.commit.ensures.counts c.commit.ensures.whole
     (subst (λ (l : Bool). OnOk c.commit.result (c.commit.new.live ≡ l)) c.in-Ok-write_new.ensures.lives c.commit.ensures.lives) c.commit.ensures.dies
 
 pub returns : goal.returns
@@ -295,10 +287,10 @@ returns g c =
     let it = prepared g at.In-Ok-unjam_first in
     bytes_answer c.args.rec c.args.number c.args.bytes.now _ c.args.unjam.now _ c.args.self.now _ _ c.as_slice-content.ensures c.as_slice-numbers.ensures
     (commit_answers _ _ _ _ _ _ _ _ _ _ _ it (g.D.Disc.state c.write_new.new.disc) (g.D.Disc.state c.commit.new.disc) _
-    c.commit.new.slots c.commit.new.pages c.commit.new.live c.commit.result c.deref.result.now
+    c.commit.new.slots c.commit.new.pages c.commit.new.live c.commit.result c.replace_copy.new.online
     (bytes_ready _ _ _ _ _ _ _ _ _
     (has_written _ _ _ _ _ _ _ _ _ _ _ it (g.D.Disc.state c.write_new.new.disc) c.write_new.ensures.whole c.in-Ok-write_new.ensures.counts
     c.in-Ok-write_new.ensures.ok)
     _ _ _ _ _ _ _ _ _ _ _ _ (put g at.After-put_record it.takes.between it.takes.takes))
-    c.deref.ensures.value c.commit.ensures.ok c.commit.ensures.stopped c.commit.ensures.counts c.commit.ensures.whole c.commit.ensures.only
+    refl c.commit.ensures.ok c.commit.ensures.stopped c.commit.ensures.counts c.commit.ensures.whole c.commit.ensures.only
     (subst (λ (l : Bool). OnOk c.commit.result (c.commit.new.live ≡ l)) c.in-Ok-write_new.ensures.lives c.commit.ensures.lives) c.commit.ensures.dies)

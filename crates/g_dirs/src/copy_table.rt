@@ -1,0 +1,142 @@
+//! The copies on disc of all files, by their numbers.
+ghost use Rattle.std.specs.Prelude.{◌≡◌, ◌<◌, ◌∷◌, ◌++◌, ◌==◌, All, AllPairs, IfOk, None, [], filter, length, nat_lt, not, replicate};
+ghost use Rattle.std.specs.Option.{option_copied};
+ghost use Rattle.g_dirs.specs.Directory.{copy_at};
+
+use crate::{BoxedCopy, FileCopy};
+use g_base::NoMemory;
+use g_copy::DiscCopy;
+use std::alloc::Global;
+use std::marker::Model;
+
+/// Where the bytes of files lie, with a place for each number of a file: no copy is searched for, and none moves where another
+/// comes or goes. Contracts see the copies in order of number, each with its number.
+#[derive(Drop)]
+pub struct CopyTable {
+    places: Vec<Option<BoxedCopy>>,
+
+    // The box of the copy that went last, for the next one.
+    spare: Option<BoxedCopy>,
+}
+
+impl Model for CopyTable {
+    ghost use Rattle.std.specs.Prelude.{◌≡◌, ℕ, List, length};
+    ghost use Rattle.g_copy.specs.declared.copy.DiscCopy.{DiscCopy};
+    ghost use Rattle.g_dirs.specs.CopyTable.{listed_from};
+
+    ghost Value = { List (ℕ × DiscCopy) };
+
+    ghost view = { λ t. listed_from 0 t.places.items };
+
+    ghost invariant = { λ t. length t.places.items ≡ 1024 };
+}
+
+impl CopyTable {
+    /// The table of these copies.
+    pub fn of(alloc: Global, copies: Vec<FileCopy>) -> Result<CopyTable, NoMemory>
+        requires rising { AllPairs (λ c d. c.0 < d.0) copies.items }
+        requires below { All (λ c. c.0 < 1024) copies.items }
+        ensures { IfOk result (λ t. t ≡ copies.items) }
+    {
+        let mut table = CopyTable::new(alloc)?;
+        table.put_all(copies);
+        Ok(table)
+    }
+
+    /// A table without copies.
+    fn new(alloc: Global) -> Result<CopyTable, NoMemory>
+        ensures { IfOk result (λ t. t ≡ []) }
+    {
+        let places = no_copies(alloc, 1024)?;
+        Ok(CopyTable {
+            places,
+            spare: None,
+        })
+    }
+
+    /// Puts copies in order of number into a table without copies.
+    fn put_all(&mut self, copies: Vec<FileCopy>)
+        requires empty { self.old ≡ [] }
+        requires rising { AllPairs (λ c d. c.0 < d.0) copies.items }
+        requires below { All (λ c. c.0 < 1024) copies.items }
+        ensures { self.new ≡ copies.items }
+    {
+        let mut left = copies;
+        while let Some(copy) = left.pop() {
+            let number = copy.number();
+            self.put(number, copy.into_copy());
+        }
+    }
+
+    /// The copy of the file of this number, where there is one.
+    pub fn get(&self, number: u16) -> Option<&DiscCopy>
+        ensures { option_copied result ≡ copy_at self.now number }
+    {
+        match self.places.get(number as usize) {
+            Some(place) => lent(place),
+            None => None,
+        }
+    }
+
+    /// Puts the copy of the file of this number among the others, in the place of the one that it had. It takes no memory.
+    pub fn put(&mut self, number: u16, copy: BoxedCopy)
+        requires { number < 1024 }
+        ensures { self.new ≡ filter (λ c. nat_lt c.0 number) self.old ++ (number, copy)
+            ∷ filter (λ c. nat_lt number c.0) self.old }
+    {
+        let was = self.places[number as usize].replace(copy);
+        keep_box(&mut self.spare, was);
+    }
+
+    /// Takes the copy of the file of this number out, if there is one.
+    pub fn forget(&mut self, number: u16)
+        requires { number < 1024 }
+        ensures { self.new ≡ filter (λ c. not (c.0 == number)) self.old }
+    {
+        let was = self.places[number as usize].take();
+        keep_box(&mut self.spare, was);
+    }
+
+    /// The copy of an empty file, which has no block: in the box of a copy that went, or in a new one.
+    pub fn empty_copy(&mut self, alloc: Global) -> Result<BoxedCopy, NoMemory>
+        ensures copy { IfOk result (λ copy. copy ≡ record { blocks = []; len = 0 }) }
+        ensures same { self.new ≡ self.old }
+    {
+        match self.spare.take() {
+            Some(mut copy) => {
+                copy.clear();
+                Ok(copy)
+            }
+            None => BoxedCopy::empty(alloc),
+        }
+    }
+}
+
+/// What stands at a place.
+fn lent(place: &Option<BoxedCopy>) -> Option<&DiscCopy>
+    ensures { option_copied result ≡ place.now }
+{
+    match place {
+        Some(copy) => Some(copy.get()),
+        None => None,
+    }
+}
+
+/// Keeps the box of a copy that went, if there is one.
+fn keep_box(spare: &mut Option<BoxedCopy>, was: Option<BoxedCopy>) {
+    if was.is_some() {
+        *spare = was;
+    }
+}
+
+/// So many places, and no copy.
+fn no_copies(alloc: Global, count: usize) -> Result<Vec<Option<BoxedCopy>>, NoMemory>
+    ensures none { IfOk result (λ places. places.items ≡ replicate count None) }
+    ensures all { IfOk result (λ places. length places.items ≡ count) }
+{
+    let mut places = Vec::with_capacity(alloc, count)?;
+    for _ in 0..count {
+        places.push_reserved(None);
+    }
+    Ok(places)
+}
