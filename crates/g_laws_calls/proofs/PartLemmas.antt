@@ -8,7 +8,6 @@ use Rattle.std.proofs.lemmas.Bool.{both_ways}
 use Rattle.std.proofs.lemmas.List.Elements.{Contains-get_or}
 use Rattle.std.proofs.lemmas.Option.{slice_get-get_or}
 use Rattle.g_entry.specs.declared.file_rec.FileRec.{FileRec}
-use Rattle.g_entry.specs.declared.file_rec.TapeCopy.{TapeCopy}
 use Rattle.g_entry.specs.declared.head.Intent.{Intent}
 use Rattle.g_entry.specs.declared.user_rec.UserRec.{UserRec}
 use Rattle.g_tape.specs.Reel.{Reel}
@@ -20,18 +19,18 @@ use Rattle.g_tree.specs.Records.{IsRecords, name_of}
 use Rattle.g_tree.proofs.LawLemmas.{same_bytes}
 use Rattle.g_tree.proofs.RecordLemmas.{name_at, nobody}
 use Rattle.g_disc_contents.specs.Contents.{Contents, committed, recs_in, with_number}
-use Rattle.g_disc_contents.specs.Facts.{OnlineFacts, Pin}
+use Rattle.g_disc_contents.specs.Facts.{OnlineFacts}
 use Rattle.g_incr.specs.Layout.{Dump}
-use Rattle.g_incr.specs.Plan.{needs}
 use Rattle.g_store_model.specs.State as state
 use Rattle.g_store_model.specs.CallStep.{after_call, brings_now, changes, commits, kept_intent, places_after, touched_by, writes}
 use Rattle.g_store_meaning.specs.Laws.{with_text}
 use Rattle.g_store_meaning.specs.Meaning.{DumpedDirectory}
-use Rattle.g_store_meaning.specs.Reading.{Opened, View, dumped_of, names_of, open_of, open_tree, own_opened, places_of, row_of, state_up, tree_by, users_in, users_not_in, waiting_of}
+use Rattle.g_store_meaning.specs.Reading.{Opened, View, dumped_of, names_of, open_of, open_tree, own_opened, places_of, row_of, state_up, tree_by, users_in, users_not_in}
 use Rattle.g_store_meaning.specs.StoreInvariant.{DumpFacts}
 use Rattle.g_laws_memory.specs.Rooms.{held_in}
 use Rattle.g_laws_memory.proofs.NeedsLemmas.{users_named}
 use Rattle.g_laws_memory.proofs.UserLemmas.{dumped_texts_stay, users_go_by_change}
+use Rattle.g_laws_store.proofs.UpOneLemmas.{open_with}
 use Rattle.g_laws_calls.specs.Calls.{IsBehind, marked}
 
 -- a call that the plain step grants
@@ -48,21 +47,6 @@ intent_by false e (Some d) same = absurd (both_ways false refl same)
 some_mapped : {A B : Type 0} (f : A → B) (o : Option A) → is_some (option_map f o) ≡ is_some o
 some_mapped f None = refl
 some_mapped f (Some x) = refl
-
--- an open dump by its tree and the users who were touched
-open_with : DumpFacts → Option (List Pin) → Tree → FinMap nat_cmp state.Place → FinMap nat_cmp TapeCopy → state.Users → state.OpenDump
-open_with d pins tree places own touched = record {
-  number = d.plan.number;
-  serial = d.plan.serial;
-  place = d.plan.place;
-  needs = needs d.plan;
-  done = d.done;
-  tree = tree;
-  places = places;
-  waiting = waiting_of pins;
-  own = own;
-  touched = touched;
-}
 
 -- a text of a version that no dump has changes nothing of an open one
 open_places : (x y : ℕ → List ℕ) (opened : Option Opened) → (open_tree x opened).1 ≡ (open_tree y opened).1
@@ -152,7 +136,6 @@ module _ (v : View) (reels : List Reel) (o new : OnlineFacts) (dump : Option Dum
         ∙ goes.touched
 
     open_is : (x : Option DumpFacts) → is_some x ≡ pinned → option_map (open_of w new) x ≡ option_map (touched_by s k who call) (option_map (open_of v o) x)
-    unfolding open_with
     open_is None same = refl
     open_is (Some d) same =
         λ i.

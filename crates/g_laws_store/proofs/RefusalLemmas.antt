@@ -4,6 +4,7 @@ use Rattle.std.specs.Prelude.{◌⊎◌, ◌&&◌, ◌||◌, not, nat_lt, MatchO
 use Rattle.std.proofs.lemmas.Bool.{and_parts, ltb-true, not-true}
 use Rattle.std.proofs.lemmas.Option.{same_Some}
 use Rattle.g_name.specs.declared.full.Full.{Full}
+use Rattle.g_name.specs.declared.path.Path.{Path}
 use Rattle.g_entry.specs.declared.file_rec.TapeCopy.{TapeCopy}
 use Rattle.g_plain.specs.declared.calls.StoreCall.{StoreCall}
 use Rattle.g_plain.specs.declared.calls.StoreCall.TheVariants.{Put, Append, Fetch, List as ListFiles, TrapCheck, Retrieve}
@@ -13,11 +14,11 @@ use Rattle.g_plain.specs.declared.faults.StoreFault.TheVariants.{WaitTape, DiscF
 use Rattle.g_plain.specs.PlainStep.{first_fault, fault_of, reply_to}
 use Rattle.g_plain.specs.PlainTree.{Tree, input_name}
 use Rattle.g_plain.proofs.StepAnswers.{is_plain, own_fault}
-use Rattle.g_store_model.specs.State.{Holding, State, is_mounted, place_at}
-use Rattle.g_store_model.specs.CallStep.{CallStep, LeftByRefusal, Outcome, Planned, brings_now, copy_serial, early, is_cut, is_disc_read, is_offline, is_tape_read, late, len_of, need, reel_of, room_until, stamp_of, version_read, wants_bytes, writes}
+use Rattle.g_store_model.specs.State.{Holding, State, is_mounted}
+use Rattle.g_store_model.specs.CallStep.{CallStep, LeftByRefusal, Outcome, Planned, brings_now, copy_serial, early, is_cut, is_disc_read, is_offline, is_tape_read, late, len_of, need, place_of, reel_of, room_until, version_read, wants_bytes, writes}
 use Rattle.g_store_meaning.specs.Answers.{Leads, WantsCopy}
 use Rattle.g_store_meaning.specs.StoreInvariant.{StoreFacts}
-use Rattle.g_laws_store.specs.Refusals.{CallIsGranted, ReadsOffline, RefusalsOfCalls, asks_bytes, only_tells, takes_room}
+use Rattle.g_laws_store.specs.Refusals.{CallIsGranted, ReadsOffline, RefusalsOfCalls, asks_bytes, only_tells, path_read, takes_room}
 
 -- THE CAUSE of a refusal of the step
 data Cause (s : State) (k : Holding) (who : List ℕ) (call : StoreCall) (o : Outcome) (fault : StoreFault) : Type 0 where
@@ -104,43 +105,26 @@ record IsRead (s : State) (k : Holding) (who : List ℕ) (call : StoreCall) : Ty
   is : version_read k.tree who call ≡ Some full
   reads : ReadsOffline s who call full (reel_of s k who call)
 
+reads_path : (s : State) (k : Holding) (who : List ℕ) (call : StoreCall) (path : Path) → s.holding ≡ Some k → fault_of k.tree who call ≡ None → is_offline s k who call ≡ true
+    → path_read call ≡ Some path → version_read k.tree who call ≡ Some (input_name k.tree who path) → IsRead s k who call
+reads_path s k who call path holds granted off reads is = record {
+  full = input_name k.tree who path;
+  is = is;
+  reads = record {
+    grants = record { held = k; holds = holds; granted = granted };
+    path = path;
+    reads = reads;
+    full_is = refl;
+    offline = not-true (place_of s k who call (Some (input_name k.tree who path))).online (subst (λ (v : Option Full). not (place_of s k who call v).online ≡ true) is off);
+    reel = λ copy there.
+        sym (ap (λ (v : Option Full). copy_serial s k who call (place_of s k who call v).copy) is ∙ ap (λ (c : Option TapeCopy). copy_serial s k who call c) there);
+  };
+}
+
 reads_offline : (s : State) (k : Holding) (who : List ℕ) (call : StoreCall) → s.holding ≡ Some k → fault_of k.tree who call ≡ None → is_offline s k who call ≡ true → IsRead s k who call
-reads_offline s k who (Append path bytes) holds granted off = record {
-  full = input_name k.tree who path;
-  is = refl;
-  reads = record {
-    grants = record { held = k; holds = holds; granted = granted };
-    path = path;
-    reads = refl;
-    full_is = refl;
-    offline = not-true (place_at k.places (stamp_of k.tree (input_name k.tree who path))).online off;
-    reel = λ copy is. sym (ap (λ (c : Option TapeCopy). copy_serial s k who (Append path bytes) c) is);
-  };
-}
-reads_offline s k who (Fetch path mode) holds granted off = record {
-  full = input_name k.tree who path;
-  is = refl;
-  reads = record {
-    grants = record { held = k; holds = holds; granted = granted };
-    path = path;
-    reads = refl;
-    full_is = refl;
-    offline = not-true (place_at k.places (stamp_of k.tree (input_name k.tree who path))).online off;
-    reel = λ copy is. sym (ap (λ (c : Option TapeCopy). copy_serial s k who (Fetch path mode) c) is);
-  };
-}
-reads_offline s k who (Retrieve path) holds granted off = record {
-  full = input_name k.tree who path;
-  is = refl;
-  reads = record {
-    grants = record { held = k; holds = holds; granted = granted };
-    path = path;
-    reads = refl;
-    full_is = refl;
-    offline = not-true (place_at k.places (stamp_of k.tree (input_name k.tree who path))).online off;
-    reel = λ copy is. sym (ap (λ (c : Option TapeCopy). copy_serial s k who (Retrieve path) c) is);
-  };
-}
+reads_offline s k who (Append path bytes) holds granted off = reads_path s k who (Append path bytes) path holds granted off refl refl
+reads_offline s k who (Fetch path mode) holds granted off = reads_path s k who (Fetch path mode) path holds granted off refl refl
+reads_offline s k who (Retrieve path) holds granted off = reads_path s k who (Retrieve path) path holds granted off refl refl
 reads_offline s k who call holds granted off = absurd (let no : ⊥ = cc in no)
 
 asks : (call : StoreCall) → wants_bytes call ≡ true → asks_bytes call ≡ true

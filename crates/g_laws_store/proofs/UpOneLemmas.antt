@@ -120,9 +120,9 @@ agree_with d a b reels agree r there = ap (λ (ds : List Dump). let es : List Du
 holding_by : Tree → List UserRec → Contents → state.Holding
 holding_by tree kept c = record { tree = tree; places = places_of c.files; last = c.head.last_dump; intent = c.head.intent; kept = names_of kept }
 
--- an open dump by what a view says of it: tree and places, and the copies of its own records
-open_by : OnlineFacts → DumpFacts → Tree → FinMap nat_cmp state.Place → FinMap nat_cmp TapeCopy → state.OpenDump
-open_by o d tree places own = record {
+-- an open dump by its tree and places, the copies of its own records, and the users who were touched
+abbrev pub open_with : DumpFacts → Option (List Pin) → Tree → FinMap nat_cmp state.Place → FinMap nat_cmp TapeCopy → state.Users → state.OpenDump
+open_with d pins tree places own touched = record {
   number = d.plan.number;
   serial = d.plan.serial;
   place = d.plan.place;
@@ -130,10 +130,14 @@ open_by o d tree places own = record {
   done = d.done;
   tree = tree;
   places = places;
-  waiting = waiting_of o.pins;
+  waiting = waiting_of pins;
   own = own;
-  touched = names_of (users_in o.touched o.contents.users);
+  touched = touched;
 }
+
+-- and by what a view says of it
+open_by : OnlineFacts → DumpFacts → Tree → FinMap nat_cmp state.Place → FinMap nat_cmp TapeCopy → state.OpenDump
+open_by o d tree places own = open_with d o.pins tree places own (names_of (users_in o.touched o.contents.users))
 
 open_is : (v : View) (o : OnlineFacts) (d : DumpFacts) (opened : Opened) (made : Dump) → v.opened ≡ Some opened → opened.dump ≡ made
     → open_of v o d ≡ open_by o d (dumped_of v.text opened.directory).tree (dumped_of v.text opened.directory).places (own_of made)

@@ -21,6 +21,7 @@ pub fn some_state()
 
 /// What a store that is up keeps, it keeps where users are added, an intent is dropped, a tape is written or mounted, and where a
 /// dump is opened, goes on, is given up or is closed.
+#[tactic(auto, using(crate::proofs::DumpingLemmas::events_stay_up))]
 pub fn events_stay_up()
     ensures events { EventsStayUp }
     ensures opening { OpeningStaysUp }

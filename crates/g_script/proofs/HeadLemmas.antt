@@ -145,24 +145,22 @@ abbrev pub what_for : WrittenOperator → What
 what_for (Bare o) = what.Bare o
 what_for (Job name user time money lines) = what.Job name user time money
 
+-- a number behind its word, whatever else the text may be read as
+number_behind_word : (operator : ℕ → Operator) (word : List ℕ) (most n : ℕ) (others : List ℕ → Option Operator) → most < 2 ^ 64 → 1 ≤ n → n ≤ most
+    → bare_or (number_or operator (from_one_read most (decimal n)) (others (word ++ decimal n))) (argument_read (word ++ decimal n)) ≡ Some (what.Bare (operator n))
+number_behind_word operator word most n others fits least few =
+    number_found operator (from_one_read most (decimal n)) n (others (word ++ decimal n)) (argument_read (word ++ decimal n)) (from_one-complete most n fits least few)
+
 pub what-complete : (w : WrittenOperator) → IsWrittenOperator w → what_read (written_text w) ≡ Some (what_for w)
 what-complete (Bare line.Format) is = refl
 what-complete (Bare line.Start) is = refl
 what-complete (Bare line.Restore) is = refl
 what-complete (Bare line.Shut) is = refl
 what-complete (Bare (line.Job name user time money lines)) is = absurd is
-what-complete (Bare (line.Mount s)) is =
-    let text : List ℕ = codes "MOUNT " ++ decimal s in
-    number_found line.Mount (from_one_read 999999 (decimal s)) s (unmount_read text) (argument_read text) (from_one-complete 999999 s (omega arith) is.0 is.1)
-what-complete (Bare (line.Unmount s)) is =
-    let text : List ℕ = codes "UNMOUNT " ++ decimal s in
-    number_found line.Unmount (from_one_read 999999 (decimal s)) s (dump_read text) (argument_read text) (from_one-complete 999999 s (omega arith) is.0 is.1)
-what-complete (Bare (line.Dump s)) is =
-    let text : List ℕ = codes "DUMP " ++ decimal s in
-    number_found line.Dump (from_one_read 999999 (decimal s)) s (process_read text) (argument_read text) (from_one-complete 999999 s (omega arith) is.0 is.1)
-what-complete (Bare (line.Process s)) is =
-    let text : List ℕ = codes "PROCESS " ++ decimal s in
-    number_found line.Process (from_one_read 999999 (decimal s)) s (stop_read text) (argument_read text) (from_one-complete 999999 s (omega arith) is.0 is.1)
+what-complete (Bare (line.Mount s)) is = number_behind_word line.Mount (codes "MOUNT ") 999999 s unmount_read (omega arith) is.0 is.1
+what-complete (Bare (line.Unmount s)) is = number_behind_word line.Unmount (codes "UNMOUNT ") 999999 s dump_read (omega arith) is.0 is.1
+what-complete (Bare (line.Dump s)) is = number_behind_word line.Dump (codes "DUMP ") 999999 s process_read (omega arith) is.0 is.1
+what-complete (Bare (line.Process s)) is = number_behind_word line.Process (codes "PROCESS ") 999999 s stop_read (omega arith) is.0 is.1
 what-complete (Bare (line.Migrate path)) is =
     let name : List ℕ = name_text (path_name path) in let text : List ℕ = codes "MIGRATE " ++ name in
     ap (λ (o : Option Path). bare_or (option_map line.Migrate o) (bare_or (login_read text) (bare_or (typed_read text) (job_read text)))) (file-complete path name (is, refl))
@@ -170,9 +168,7 @@ what-complete (Bare (line.StopDisc k)) is =
     let text : List ℕ = codes "STOP DISC " ++ decimal k in
     number_found line.StopDisc (from_one_read 1000000000 (decimal k)) k (number_or line.StopTape (number_behind 1000000000 (codes "STOP TAPE ") text) (logout_read text)) (argument_read text)
     (from_one-complete 1000000000 k (omega arith) is.0 is.1)
-what-complete (Bare (line.StopTape k)) is =
-    let text : List ℕ = codes "STOP TAPE " ++ decimal k in
-    number_found line.StopTape (from_one_read 1000000000 (decimal k)) k (logout_read text) (argument_read text) (from_one-complete 1000000000 k (omega arith) is.0 is.1)
+what-complete (Bare (line.StopTape k)) is = number_behind_word line.StopTape (codes "STOP TAPE ") 1000000000 k logout_read (omega arith) is.0 is.1
 what-complete (Bare (line.Login t user time)) is =
     let text : List ℕ = codes "LOGIN " ++ (decimal t ++ 44 ∷ login_tail user time) in
     ap what_read (login_regrouped t user time) ∙ ap (λ (o : Option Operator). bare_or o (bare_or (typed_read text) (job_read text))) (login-complete t user time is)
@@ -348,14 +344,18 @@ job_with-sound text name user rest is_name is_user is = by (allowances_read rest
     by (Some a) read asked e =
         subst (λ (x : What). IsSaid x text) (same_Some (what.Job name user a.0 a.1) asked e) (some_job text name user rest a is_name is_user (allowances-sound rest a read) is)
 
-job_of-sound : (text name rest : List ℕ) → is_word name ≡ true → text ≡ codes "JOB " ++ (name ++ 44 ∷ rest) → Whats (job_of name (job_user_read rest)) text
-job_of-sound text name rest is_name is = by (job_user_read rest) refl
+-- what is said of a user and what stands behind him, by whether they are read
+by_user : (P : Option (List ℕ × List ℕ) → Type 0) (rest : List ℕ) → P None → ((user tail : List ℕ) → is_word user ≡ true → rest ≡ (58 ∷ user) ++ 44 ∷ tail → P (Some (user, tail))) → P (job_user_read rest)
+by_user P rest none some = by (job_user_read rest) refl
   where
-    by : (o : Option (List ℕ × List ℕ)) → job_user_read rest ≡ o → Whats (job_of name o) text
-    by None read asked e = absurd cc
-    by (Some p) read asked e =
-        let user = user-part rest p.0 p.1 read in
-        job_with-sound text name p.0 p.1 is_name user.0 (is ∙ ap (λ (x : List ℕ). codes "JOB " ++ (name ++ 44 ∷ x)) user.1) asked e
+    by : (o : Option (List ℕ × List ℕ)) → job_user_read rest ≡ o → P o
+    by None read = none
+    by (Some p) read = let user = user-part rest p.0 p.1 read in some p.0 p.1 user.0 user.1
+
+job_of-sound : (text name rest : List ℕ) → is_word name ≡ true → text ≡ codes "JOB " ++ (name ++ 44 ∷ rest) → Whats (job_of name (job_user_read rest)) text
+job_of-sound text name rest is_name is =
+    by_user (λ o. Whats (job_of name o) text) rest (λ asked e. absurd cc)
+    (λ user tail is_user same. job_with-sound text name user tail is_name is_user (is ∙ ap (λ (x : List ℕ). codes "JOB " ++ (name ++ 44 ∷ x)) same))
 
 job-sound : (text : List ℕ) → Whats (job_read text) text
 job-sound text asked e = option_and_then_some job_behind (behind (codes "JOB ") text) asked e (λ rest there read. by rest (behind-is (codes "JOB ") text rest there) (name_read rest) refl asked read)
@@ -404,13 +404,9 @@ login_with-sound text t user rest is_t is_user is = by (time_read rest) refl
         ) asked e
 
 login_of-sound : (text : List ℕ) (t : ℕ) (rest : List ℕ) → IsTerminal t → text ≡ codes "LOGIN " ++ (decimal t ++ 44 ∷ rest) → Bares (login_of t (job_user_read rest)) text
-login_of-sound text t rest is_t is = by (job_user_read rest) refl
-  where
-    by : (o : Option (List ℕ × List ℕ)) → job_user_read rest ≡ o → Bares (login_of t o) text
-    by None read asked e = absurd cc
-    by (Some p) read asked e =
-        let user = user-part rest p.0 p.1 read in
-        login_with-sound text t p.0 p.1 is_t user.0 (is ∙ ap (λ (x : List ℕ). codes "LOGIN " ++ (decimal t ++ 44 ∷ x)) user.1) asked e
+login_of-sound text t rest is_t is =
+    by_user (λ o. Bares (login_of t o) text) rest (λ asked e. absurd cc)
+    (λ user tail is_user same. login_with-sound text t user tail is_t is_user (is ∙ ap (λ (x : List ℕ). codes "LOGIN " ++ (decimal t ++ 44 ∷ x)) same))
 
 login-sound : (text : List ℕ) → Bares (login_read text) text
 login-sound text asked e = option_and_then_some login_behind (behind (codes "LOGIN ") text) asked e (λ rest there read. by rest (behind-is (codes "LOGIN ") text rest there) (terminal_read rest) refl asked read)

@@ -1,10 +1,6 @@
 use Rattle.g_laws_store.proofs.ClosingLemmas.{closing_stays}
-use Rattle.g_laws_store.proofs.DumpingLemmas.{events_stay_up}
 use Rattle.g_laws_store.proofs.OpeningLemmas.{opening_stays}
 use Rattle.g_laws_store.proofs.events_stay_up.Goals as goal
-
-pub returns-clause-events : goal.returns-clause-events
-returns-clause-events c = events_stay_up
 
 pub returns-clause-opening : goal.returns-clause-opening
 returns-clause-opening c = opening_stays
