@@ -31,10 +31,11 @@ use std::alloc::Global;
 use std::marker::Model;
 
 /// A job: its document with the macros that it has called, a program, units, its allowances of TIME and MONEY, and its
-/// monitoring file. Contracts see a `JobState` (`docs/DEFINITIONS.md`, "A job and its turn").
+/// monitoring file. Contracts see a `JobState` (`docs/DEFINITIONS.md`, "A job and its turn"). Its parts lie in a box: a job is
+/// moved into the table of jobs and out of it, and with it a pointer.
 #[derive(Debug, Drop)]
 pub struct Job {
-    pub(crate) parts: Parts,
+    pub(crate) parts: Box<Parts>,
 }
 
 impl Model for Job {
@@ -51,9 +52,9 @@ impl Model for Job {
     ghost use Rattle.g_job.specs.Rules.{IsJob};
     ghost use Rattle.g_job.specs.Terminal.{is_ready};
 
-    ghost view = { λ j. job_of j.parts };
+    ghost view = { λ j. job_of j.parts.value };
 
-    ghost invariant = { λ j. IsJob (job_of j.parts) × (j.parts.ready ≡ is_ready (job_of j.parts)) };
+    ghost invariant = { λ j. IsJob (job_of j.parts.value) × (j.parts.value.ready ≡ is_ready (job_of j.parts.value)) };
 }
 
 impl Job {
@@ -77,25 +78,27 @@ impl Job {
         let monitor = first_line(with_room(alloc)?, number, &name, &user)?;
         let mut work = Work::new(alloc, levels, units);
         work.reuse_buffer(with_room(alloc)?);
-        Ok(Job {
-            parts: Parts {
-                number,
-                name,
-                user,
-                allowance: time,
-                money,
-                used: 0,
-                used_money: 0,
-                turns: 0,
-                work,
-                again: None,
-                wants: None,
-                monitor,
-                over: false,
-                terminal: None,
-                ready: true,
-            },
-        })
+        let parts = Parts {
+            number,
+            name,
+            user,
+            allowance: time,
+            money,
+            used: 0,
+            used_money: 0,
+            turns: 0,
+            work,
+            again: None,
+            wants: None,
+            monitor,
+            over: false,
+            terminal: None,
+            ready: true,
+        };
+        match Box::new(alloc, parts) {
+            Ok(parts) => Ok(Job { parts }),
+            Err(_) => Err(NoMemory),
+        }
     }
 
     /// Takes a turn: goes on with what waited, or with a run of the program that isn't over, or takes the next line; does its
