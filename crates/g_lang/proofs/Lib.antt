@@ -1,4 +1,5 @@
 pub mod CutLemmas
+pub mod ParamLemmas
 pub mod ParseLemmas
 pub mod PartLemmas
 pub mod PieceLemmas

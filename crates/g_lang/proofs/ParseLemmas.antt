@@ -9,23 +9,14 @@ use Rattle.g_lang.proofs.ValueLemmas.{behind-is}
 use Rattle.g_lang.specs.LineReader.{Front, before_comma, behind, behind_comma, behind_word, command_read, cond_read, line_read, option_read, params_read, parts_of, reading, verb_read, wrong_from}
 use Rattle.g_lang.specs.Lines.{IsLineText, IsReading, LineSaid, Said, SaidGoto, SaidIf, SaidWhenever}
 use Rattle.g_lang.specs.Meaning.{command_said, is_input_of, is_input_said, said_inside}
+use Rattle.g_lang.specs.Texts.{bytes_left, params_left}
 use Rattle.g_lang.specs.Words.{is_label, trimmed, word_of}
 use Rattle.g_lang.specs.declared.line.Command.{Command}
 use Rattle.g_lang.specs.declared.line.Command.TheVariants.{Blank, Goto, If', Verb, Whenever}
 use Rattle.g_lang.specs.declared.line.Cond.{Cond}
 use Rattle.g_name.specs.Order.{same_text}
 
--- the parts that are still to come
-abbrev pub parts_left : Option (Bor (List ℕ)) → List (List ℕ)
-parts_left None = []
-parts_left (Some rest) = map trimmed (parts_of 0 rest.now)
-
--- the bytes that are still to come, and whether any part is
-abbrev pub left_size : Option (Bor (List ℕ)) → ℕ
-left_size None = 0
-left_size (Some rest) = suc (length rest.now)
-
-pub params-first : (text : Bor (List ℕ)) → (text.now ≡ [] → ⊥) → parts_left (Some text) ≡ params_read text.now
+pub params-first : (text : Bor (List ℕ)) → (text.now ≡ [] → ⊥) → params_left (Some text) ≡ params_read text.now
 params-first text some = first text.now some
   where
     first : (t : List ℕ) → (t ≡ [] → ⊥) → map trimmed (parts_of 0 t) ≡ params_read t
@@ -33,12 +24,12 @@ params-first text some = first text.now some
     first (c ∷ cs) some = refl
 
 pub left-more : (rest part : List ℕ) (more : Option (Bor (List ℕ))) → MatchOption more (parts_of 0 rest ≡ part ∷ []) (λ r. parts_of 0 rest ≡ part ∷ parts_of 0 r.now)
-    → map trimmed (parts_of 0 rest) ≡ trimmed part ∷ parts_left more
+    → map trimmed (parts_of 0 rest) ≡ trimmed part ∷ params_left more
 left-more rest part None is = ap (map trimmed) is
 left-more rest part (Some r) is = ap (map trimmed) is
 
 pub left-less : (rest : List ℕ) (more : Option (Bor (List ℕ))) → MatchOption more (behind_comma 0 rest ≡ []) (λ r. (r.now ≡ behind_comma 0 rest) × (length r.now < length rest))
-    → left_size more < suc (length rest)
+    → bytes_left more < suc (length rest)
 left-less rest None is = omega arith
 left-less rest (Some r) is = let h = is.1 in omega (arith, h)
 

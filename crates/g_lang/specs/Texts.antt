@@ -1,8 +1,9 @@
 -- Texts that are cut out of a line.
-use Rattle.std.specs.Prelude.{Err, List, None, Ok, Option, Result, Some, [], false, true, ℕ, ◌≡◌, ◌≢◌}
-use Rattle.g_lang.specs.LineReader.{Params, behind_word, wrong_from}
+use denote.Ref.{Bor}
+use Rattle.std.specs.Prelude.{Err, List, None, Ok, Option, Result, Some, [], false, length, map, suc, true, ℕ, ◌≡◌, ◌≢◌}
+use Rattle.g_lang.specs.LineReader.{Params, behind_word, parts_of, wrong_from}
 use Rattle.g_lang.specs.Lines.{IsCommandText}
-use Rattle.g_lang.specs.Words.{is_label, without_back, word_of}
+use Rattle.g_lang.specs.Words.{is_label, trimmed, without_back, word_of}
 use Rattle.g_lang.specs.declared.fault.LangFault.{LangFault}
 use Rattle.g_lang.specs.declared.fault.LangFault.TheVariants.{BadLine, NoMemory}
 use Rattle.g_name.specs.Grammar.{is_word}
@@ -25,3 +26,17 @@ abbrev pub ReadsParams : ℕ → List ℕ → Result (List ℕ) LangFault → Ty
 ReadsParams from params (Ok text) = (wrong_from (Params 0) from params ≡ None) × (text ≡ without_back params)
 ReadsParams from params (Err (BadLine place)) = wrong_from (Params 0) from params ≡ Some place
 ReadsParams from params (Err NoMemory) = wrong_from (Params 0) from params ≡ None
+
+-- the parameters of a text, also of an empty one, which is a parameter behind a comma
+abbrev pub params_of : List ℕ → List (List ℕ)
+params_of text = map trimmed (parts_of 0 text)
+
+-- the parameters that are left of a text, if anything is left
+abbrev pub params_left : Option (Bor (List ℕ)) → List (List ℕ)
+params_left None = []
+params_left (Some rest) = params_of rest.now
+
+-- the bytes that are left, and one more, if anything is left
+abbrev pub bytes_left : Option (Bor (List ℕ)) → ℕ
+bytes_left None = 0
+bytes_left (Some rest) = suc (length rest.now)

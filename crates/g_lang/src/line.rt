@@ -2,7 +2,7 @@
 ghost use Rattle.std.specs.Prelude.{◌≡◌};
 ghost use Rattle.g_lang.specs.Conditions.{same_cond};
 
-use crate::Label;
+use crate::{Label, Rest};
 use g_name::{Local, Text};
 
 /// A line: a label and a command, each of which may be absent.
@@ -25,7 +25,7 @@ pub enum Command {
     Whenever { cond: Cond, command: Text },
     /// A verb or a macro; `rest` is what stands from the first parameter on, as it was written,
     /// without the spaces at the line's end. `read_params` and `only_param` take the parameters out of it.
-    Verb { name: Local, rest: Text },
+    Verb { name: Local, rest: Rest },
 }
 
 /// A test, or that it fails.

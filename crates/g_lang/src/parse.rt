@@ -12,7 +12,7 @@ use crate::pieces::{
     without_last,
 };
 use crate::reader::{is_keyword, wrong_by_steps, wrong_in_params, wrong_place};
-use crate::{Command, Cond, Label, LangFault, Line, Test};
+use crate::{Command, Cond, Label, LangFault, Line, Rest, Test};
 use g_base::NoMemory;
 use g_lines::Texts;
 use g_name::{Local, Text};
@@ -117,14 +117,14 @@ fn verb_name(word: &[u8]) -> Option<Local>
 }
 
 /// The text of a verb's parameters, which begin behind so many bytes of the line, without the spaces behind them.
-fn parse_params(alloc: Global, params: &[u8], from: usize) -> Result<Text, LangFault>
+fn parse_params(alloc: Global, params: &[u8], from: usize) -> Result<Rest, LangFault>
     requires { from + length params.now < 2 ^ 64 }
     ensures { ReadsParams from params.now result }
 {
     if let Some(place) = wrong_in_params(params, from) {
         return Err(LangFault::BadLine(place));
     }
-    match Text::from_slice(alloc, without_back(params)) {
+    match Rest::new(alloc, without_back(params)) {
         Ok(rest) => Ok(rest),
         Err(NoMemory) => Err(LangFault::NoMemory),
     }
@@ -236,7 +236,7 @@ fn read_verb(alloc: Global, text: &[u8]) -> Result<Command, NoMemory>
 {
     let (word, params) = split_word(text);
     let name = Local::new(word).unwrap();
-    let rest = Text::from_slice(alloc, params)?;
+    let rest = Rest::new(alloc, params)?;
     Ok(Command::Verb { name, rest })
 }
 

@@ -1,7 +1,7 @@
 //! Lines, good and bad, with what they say and with their places taken from the grammar by hand.
 use g_lang::{
-    Command, Label, LangFault, Line, Test, is_input_line, label_of, only_param, parse_line,
-    read_params, two_params,
+    Command, Label, LangFault, Line, Test, count_params, is_input_line, label_of, only_param,
+    param_at, parse_line, read_params, two_params,
 };
 use g_lines::Texts;
 use std::alloc::Global;
@@ -199,13 +199,15 @@ fn is_verb(
 fn are_params(told: &Texts, all: &[u8], params: &[&[u8]]) -> bool {
     let told = told.rows();
     if told.len() != params.len()
+        || count_params(all) != params.len()
+        || param_at(all, params.len()).is_some()
         || only_param(all).is_some() != (params.len() == 1)
         || two_params(all).is_some() != (params.len() == 2)
     {
         return false;
     }
     for i in 0..told.len() {
-        if told[i].as_slice() != params[i] {
+        if told[i].as_slice() != params[i] || param_at(all, i) != Some(params[i]) {
             return false;
         }
     }

@@ -74,9 +74,9 @@ met_holds whole inner cond w (Some other) is spoken on met = (
       ∙ ap (λ (b : Bool). if b then command room who by (said_inside inner) w else Gives w) on ∙ not_blank inner spoken room who by w ∙ met.1 room who by),
 )
 
--- the index that a refusal of a verb tells
-pub index_read : (asked : Result Action ℕ) (fault : VerbFault) (index : ℕ) → fault ≡ BadParameter index → IsActionRead asked (Err fault) → asked ≡ Err index
-index_read asked fault index is read = subst (λ (f : VerbFault). IsActionRead asked (Err f)) is read
+-- the index that a refusal of a verb tells, however it is taken out
+pub index_read : (index : VerbFault → ℕ) → ((n : ℕ) → index (BadParameter n) ≡ n) → (asked : Result Action ℕ) (fault : VerbFault) → IsActionRead asked (Err fault) → asked ≡ Err (index fault)
+index_read index is asked (BadParameter n) read = read ∙ ap (λ (m : ℕ). let r : Result Action ℕ = Err m in r) (sym (is n))
 
 -- the text that a DISPLAY was read to say
 pub text_read : (asked : Result Action ℕ) (a : Action) (text : List ℕ) → a ≡ action.Display text → IsActionRead asked (Ok a) → asked ≡ Ok (action.Display text)

@@ -1,5 +1,5 @@
 -- What is done with a file's bytes, by what they were fetched for.
-use Rattle.std.proofs.Common.{◌≡◌, ℕ, Bool, true, false, if◌then◌else◌, List, Result, Ok, Err, length, refl, sym, subst, ◌∙◌, ap}
+use Rattle.std.proofs.Common.{◌≡◌, ℕ, Bool, true, false, if◌then◌else◌, List, OnErr, Result, Ok, Err, inr, length, refl, sym, subst}
 use Rattle.g_turn.specs.Asking.{append, put}
 use Rattle.g_turn.specs.Outcomes.{in_error, with_bytes}
 use Rattle.g_turn.specs.State.{Work}
@@ -15,6 +15,9 @@ use Rattle.g_peri.specs.JobUnits.{is_assigned, is_reader}
 use Rattle.g_peri.specs.declared.unit.Unit as unit
 use Rattle.g_plain.specs.Programs.{Answer, Asks, Gives, RanInPart}
 use Rattle.g_plain.specs.declared.calls.StoreCall.{StoreCall}
+use Rattle.g_plain.specs.declared.calls.StoreCall.TheVariants as call
+use Rattle.g_plain.specs.declared.calls.StoreReply.{StoreReply}
+use Rattle.g_plain.specs.declared.calls.StoreReply.TheVariants.{Made}
 use Rattle.g_plan.specs.Assembly.{assembled}
 use Rattle.g_trap.specs.declared.mode_set.Mode.{Mode}
 use Rattle.g_trap.specs.declared.mode_set.Mode.TheVariants as mode
@@ -67,3 +70,10 @@ assemble_well answers is_spent can_wait who s t room path m use_for to full byte
     subst (λ (u : uses.Use). RanWell answers is_spent can_wait who s (use_bytes room path m (use_of u) full bytes (with_bytes (length bytes) w)) made t) (sym is)
     (subst (λ (y : Work). RanWell answers is_spent can_wait who s (put_or_bad room to (assembled bytes) y) made t) counted
     (subst (λ (text : List ℕ). RanWell answers is_spent can_wait who s (put_or_bad room to (assembled text) v) made t) same r))
+
+-- bytes were put, and what came behind found no memory
+pub put_asked : {T E S : Type 0} (answers : S → List ℕ → StoreCall → Answer → S → Type 0) (who : List ℕ) (old new : S) (room : ℕ) (well : Bool) (path : Path) (bytes : List ℕ) (w : Work)
+    (reply : StoreReply) (full : Full) (r : Result T E) → reply ≡ Made full → answers old who (call.Put path bytes) (Ok reply) new → OnErr r (RanInPart answers who old (put room well path bytes w) new)
+put_asked answers who old new room well path bytes w reply full (Ok x) is a = tt
+put_asked answers who old new room well path bytes w reply full (Err e) is a =
+    inr (inr (Ok (Made full), new, subst (λ (made : StoreReply). answers old who (call.Put path bytes) (Ok made) new) is a, tt, refl))

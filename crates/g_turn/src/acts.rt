@@ -1,5 +1,5 @@
 //! What each verb does.
-ghost use Rattle.std.specs.Prelude.{◌≡◌, ◌≤◌, ◌<◌, ◌+◌, ℕ, [], Bool, false, true, length, unwrap_or, IfErr, IfOk, OnErr, OnOk};
+ghost use Rattle.std.specs.Prelude.{◌≡◌, ◌≤◌, ◌<◌, ◌+◌, ℕ, [], Bool, false, true, length, unwrap_or, OnErr, OnOk};
 ghost use Rattle.g_turn.specs.Actions as actions;
 ghost use Rattle.g_turn.specs.Asking as asking;
 ghost use Rattle.g_turn.specs.Outcomes as said;
@@ -17,6 +17,7 @@ use crate::asker::Asker;
 use crate::uses::Use;
 use crate::work::Work;
 use g_base::NoMemory;
+use g_lang::Param;
 use g_monitor::Mark;
 use g_name::{Path, Text, User};
 use g_plain::{Filestore, StoreCall};
@@ -61,49 +62,48 @@ fn is_of_files(action: &Action) -> bool
     )
 }
 
-/// The call of a verb that makes one, hands over no bytes and has its reply said; any other verb is given back.
-fn call_of(action: Action, who: &User) -> Result<StoreCall, Action>
+/// The call of a verb that makes one, hands over no bytes and has its reply said.
+fn call_of(action: Action, who: &User) -> StoreCall
     requires sound { verbs.IsSound action }
-    ensures call { IfOk result (λ call. (room : ℕ) (by : Bool) (w : state.Work)
-        → actions.act room who.now by action w ≡ asking.one_call room call w) }
-    ensures limits { IfOk result (λ call. IsWithinLimits call) }
-    ensures other { IfErr result (λ other. other ≡ action) }
-    ensures kind { IfErr result (λ other. actions.is_one_call other ≡ false) }
+    requires kind { actions.is_one_call action ≡ true }
+    ensures call { (room : ℕ) (by : Bool) (w : state.Work)
+        → actions.act room who.now by action w ≡ asking.one_call room result w }
+    ensures limits { IsWithinLimits result }
 {
     match action {
-        Action::Erase { file } => Ok(StoreCall::Erase { path: file }),
-        Action::Rename { file, to } => Ok(StoreCall::Rename { path: file, to }),
-        Action::ListDir { user } => Ok(StoreCall::List {
+        Action::Erase { file } => StoreCall::Erase { path: file },
+        Action::Rename { file, to } => StoreCall::Rename { path: file, to },
+        Action::ListDir { user } => StoreCall::List {
             user: user.unwrap_or(who.copy()),
-        }),
-        Action::TrapGo { file, user, modes } => Ok(StoreCall::TrapGo {
+        },
+        Action::TrapGo { file, user, modes } => StoreCall::TrapGo {
             path: file,
             user,
             modes,
-        }),
-        Action::TrapStop { file, user, modes } => Ok(StoreCall::TrapStop {
+        },
+        Action::TrapStop { file, user, modes } => StoreCall::TrapStop {
             path: file,
             user,
             modes,
-        }),
-        Action::TrapCheck { file, user } => Ok(StoreCall::TrapCheck {
+        },
+        Action::TrapCheck { file, user } => StoreCall::TrapCheck {
             path: file,
             user: user.unwrap_or(who.copy()),
-        }),
+        },
         Action::NewUser {
             user,
             space,
             time,
             money,
-        } => Ok(StoreCall::NewUser {
+        } => StoreCall::NewUser {
             user,
             space: space as u32,
             time,
             money: money.unwrap_or(MONEY),
-        }),
-        Action::Budget { user, kind, amount } => Ok(StoreCall::Budget { user, kind, amount }),
-        Action::Retrieve { file } => Ok(StoreCall::Retrieve { path: file }),
-        other => Err(other),
+        },
+        Action::Budget { user, kind, amount } => StoreCall::Budget { user, kind, amount },
+        Action::Retrieve { file } => StoreCall::Retrieve { path: file },
+        _ => unreachable!(),
     }
 }
 
@@ -155,10 +155,8 @@ impl Work {
         ensures same_waits { (s : ℕ) → S.can_wait store.new s ≡ S.can_wait store.old s }
         ensures blocks { OnOk result (self.new.blocks ≤ self.old.blocks + 2048) }
     {
-        match call_of(action, asker.who) {
-            Ok(call) => self.one_call(store, asker, &call),
-            Err(_) => unreachable!(),
-        }
+        let call = call_of(action, asker.who);
+        self.one_call(store, asker, &call)
     }
 
     /// Does what a verb asks for that isn't one call alone.
@@ -192,10 +190,7 @@ impl Work {
             Action::Resume => self.resume(asker.alloc, asker.room, by),
             Action::Release { unit } => self.release(store, asker, unit),
             Action::Delete => self.delete(store, asker),
-            Action::SetParam { letter, text } => {
-                self.set_param(asker.alloc, letter, text);
-                Ok(())
-            }
+            Action::SetParam { letter, text } => self.set_param(asker.alloc, letter, text),
             Action::Display { text } => self.display(asker.alloc, asker.room, text.as_slice()),
             Action::EndJob => self.end_job(store, asker),
             Action::Macro { name, params } => { self.look_up(store, asker, &name, params) }
@@ -266,14 +261,17 @@ impl Work {
     }
 
     /// SETPARAM: the empty text where none is given.
-    fn set_param(&mut self, alloc: Global, letter: u8, text: Option<Text>)
+    fn set_param(&mut self, alloc: Global, letter: u8, text: Param) -> Result<(), NoMemory>
         requires level { 0 < length self.old.desk.levels.levels }
         requires letter { IsLetter letter }
-        ensures { self.new ≡ said.with_levels
-            (with_param letter (unwrap_or text []) self.old.desk.levels) self.old }
+        ensures ok { OnOk result (self.new ≡ said.with_levels
+            (with_param letter (unwrap_or text []) self.old.desk.levels) self.old) }
+        ensures blocks { OnOk result (self.new.blocks ≡ self.old.blocks) }
     {
-        let value = text.unwrap_or(Text::new(alloc));
+        let given = text.to_text(alloc)?;
+        let value = given.unwrap_or(Text::new(alloc));
         self.levels.set_param(letter, value);
+        Ok(())
     }
 
     /// DISPLAY.

@@ -1,11 +1,11 @@
 //! Calls of a store, and what a work makes of their answers.
-ghost use Rattle.std.specs.Prelude.{◌≡◌, ◌≤◌, ◌+◌, ◌++◌, ℕ, Err, false, IfOk, OnErr, OnOk, if◌then◌else◌};
+ghost use Rattle.std.specs.Prelude.{◌≡◌, ◌≤◌, ◌+◌, ◌++◌, ℕ, Err, Ok, false, IfErr, IfOk, OnErr, OnOk, if◌then◌else◌};
 ghost use Rattle.g_turn.specs.Asking as asking;
 ghost use Rattle.g_turn.specs.Outcomes as said;
 ghost use Rattle.g_turn.specs.Steps.{IsStep, RanWell};
 ghost use Rattle.g_monitor.specs.Parts.{full_text};
 ghost use Rattle.g_monitor.specs.Replies.{reply_lines};
-ghost use Rattle.g_plain.specs.Programs.{RanInPart};
+ghost use Rattle.g_plain.specs.Programs.{RanInPart, is_memory};
 ghost use Rattle.g_plain.specs.Replies.{IsReplyTo};
 ghost use Rattle.g_plain.specs.Rules.{IsWithinLimits};
 
@@ -13,7 +13,7 @@ use crate::asker::Asker;
 use crate::work::Work;
 use g_base::NoMemory;
 use g_name::{Full, Path, Text, User};
-use g_plain::{Filestore, StoreCall, StoreFault, StoreReply, ask};
+use g_plain::{Filestore, StoreCall, StoreFault, StoreReply};
 use std::alloc::Global;
 
 /// Makes one call, and says of its answer all that is known of any store. Want of memory is no answer.
@@ -22,17 +22,17 @@ pub(crate) fn ask_any<S: Filestore>(
     store: &mut S,
     who: &User,
     call: &StoreCall,
-) -> Result<Result<StoreReply, StoreFault>, NoMemory>
+) -> Result<StoreReply, StoreFault>
     requires running { S.is_spent store.old ≡ false }
     requires limits { IsWithinLimits call.now }
-    ensures step { IfOk result (λ answer.
-        IsStep S.answers S.is_spent S.can_wait who.now store.old call.now answer store.new) }
-    ensures memory { OnErr result
-        (S.answers store.old who.now call.now (Err StoreFault.NoMemory) store.new) }
-    ensures live { OnErr result (S.is_spent store.new ≡ false) }
+    ensures granted { IfOk result (λ reply.
+        IsStep S.answers S.is_spent S.can_wait who.now store.old call.now (Ok reply) store.new) }
+    ensures refused { IfErr result (λ fault. is_memory fault ≡ false →
+        IsStep S.answers S.is_spent S.can_wait who.now store.old call.now (Err fault) store.new) }
+    ensures answers { S.answers store.old who.now call.now result store.new }
     ensures same_waits { (s : ℕ) → S.can_wait store.new s ≡ S.can_wait store.old s }
 {
-    ask(alloc, store, who, call)
+    store.call(alloc, who, call)
 }
 
 impl Work {
@@ -55,9 +55,9 @@ impl Work {
         ensures blocks { OnOk result (self.new.blocks ≡ self.old.blocks) }
     {
         match ask_any(asker.alloc, store, asker.who, call) {
-            Ok(Ok(reply)) => self.grant(asker.alloc, asker.room, call, &reply),
-            Ok(Err(fault)) => self.refuse(asker.alloc, asker.room, &fault),
-            Err(NoMemory) => Err(NoMemory),
+            Ok(reply) => self.grant(asker.alloc, asker.room, call, &reply),
+            Err(StoreFault::NoMemory) => Err(NoMemory),
+            Err(fault) => self.refuse(asker.alloc, asker.room, &fault),
         }
     }
 
@@ -103,15 +103,15 @@ impl Work {
         let len = bytes.as_slice().len();
         let call = StoreCall::Put { path, bytes };
         match ask_any(asker.alloc, store, asker.who, &call) {
-            Ok(Ok(reply)) => match reply {
+            Ok(reply) => match reply {
                 StoreReply::Made(full) => {
                     self.done_if(comes_well);
                     self.say_handed(asker, len, b"MADE ", &full)
                 }
                 _ => Ok(()),
             },
-            Ok(Err(fault)) => self.refuse(asker.alloc, asker.room, &fault),
-            Err(NoMemory) => Err(NoMemory),
+            Err(StoreFault::NoMemory) => Err(NoMemory),
+            Err(fault) => self.refuse(asker.alloc, asker.room, &fault),
         }
     }
 
@@ -136,15 +136,15 @@ impl Work {
         let len = bytes.as_slice().len();
         let call = StoreCall::Append { path, bytes };
         match ask_any(asker.alloc, store, asker.who, &call) {
-            Ok(Ok(reply)) => match reply {
+            Ok(reply) => match reply {
                 StoreReply::Appended(full) => {
                     self.done();
                     self.say_handed(asker, len, b"APPENDED ", &full)
                 }
                 _ => Ok(()),
             },
-            Ok(Err(fault)) => self.refuse(asker.alloc, asker.room, &fault),
-            Err(NoMemory) => Err(NoMemory),
+            Err(StoreFault::NoMemory) => Err(NoMemory),
+            Err(fault) => self.refuse(asker.alloc, asker.room, &fault),
         }
     }
 

@@ -15,7 +15,7 @@ ghost use Rattle.g_verbs.specs.VerbReader.{action_read};
 use crate::asker::Asker;
 use crate::work::Work;
 use g_base::NoMemory;
-use g_lang::{Command, Cond, Label};
+use g_lang::{Command, Cond, Label, Rest};
 use g_macro::MacroFault;
 use g_monitor::CommandError;
 use g_name::{Local, Text};
@@ -27,7 +27,7 @@ use std::alloc::Global;
 #[derive(Drop)]
 struct VerbLine {
     name: Local,
-    rest: Text,
+    rest: Rest,
 }
 
 impl Work {
@@ -208,7 +208,7 @@ impl Work {
         ensures blocks { OnOk result (self.new.blocks ≤ self.old.blocks + 2048) }
     {
         let VerbLine { name, rest } = line;
-        match read_verb(asker.alloc, &name, rest) {
+        match read_verb(&name, rest) {
             // An action is large: so that of the most common verb isn't moved on.
             Ok(Action::Display { text }) => {
                 self.display(asker.alloc, asker.room, text.as_slice())
@@ -217,7 +217,6 @@ impl Work {
             Err(VerbFault::BadParameter(index)) => {
                 self.bad_parameter(asker.alloc, asker.room, &name, index)
             }
-            Err(VerbFault::NoMemory) => Err(NoMemory),
         }
     }
 

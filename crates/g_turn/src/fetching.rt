@@ -19,7 +19,7 @@ use g_mill::{LoadFault, Program, load};
 use g_monitor::{CommandError, JobLine};
 use g_name::{Full, Path, Text};
 use g_peri::{Kind, Unit};
-use g_plain::{Filestore, StoreCall, StoreReply};
+use g_plain::{Filestore, StoreCall, StoreFault, StoreReply};
 use g_plan::{PlanFault, assemble};
 use g_trap::Mode;
 use std::alloc::Global;
@@ -48,7 +48,7 @@ impl Work {
         let (path, mode) = file;
         let call = StoreCall::Fetch { path, mode };
         match ask_any(asker.alloc, store, asker.who, &call) {
-            Ok(Ok(reply)) => match reply {
+            Ok(reply) => match reply {
                 StoreReply::Bytes { full, bytes } => {
                     match self.use_fetched(store, asker, use_for, (full, bytes)) {
                         Ok(()) => Ok(()),
@@ -57,11 +57,11 @@ impl Work {
                 }
                 _ => Ok(()),
             },
-            Ok(Err(fault)) => match self.refuse(asker.alloc, asker.room, &fault) {
+            Err(StoreFault::NoMemory) => Err(NoMemory),
+            Err(fault) => match self.refuse(asker.alloc, asker.room, &fault) {
                 Ok(()) => Ok(()),
                 Err(NoMemory) => Err(NoMemory),
             },
-            Err(NoMemory) => Err(NoMemory),
         }
     }
 

@@ -12,7 +12,8 @@ use crate::asker::Asker;
 use crate::asking::ask_any;
 use crate::work::Work;
 use g_base::NoMemory;
-use g_lines::{Document, Texts};
+use g_lang::Params;
+use g_lines::Document;
 use g_macro::MacroFault;
 use g_monitor::CommandError;
 use g_name::{Local, Path, User};
@@ -42,7 +43,7 @@ impl Work {
         store: &mut S,
         asker: &Asker<'_>,
         name: &Local,
-        params: Texts,
+        params: Params,
     ) -> Result<(), NoMemory>
         requires running { S.is_spent store.old ≡ false }
         requires few { self.old.blocks ≤ 4096 }
@@ -57,7 +58,7 @@ impl Work {
     {
         let call = look_for(None, name);
         match ask_any(asker.alloc, store, asker.who, &call) {
-            Ok(Ok(reply)) => match reply {
+            Ok(reply) => match reply {
                 StoreReply::Bytes { bytes, .. } => {
                     match self.call_macro(asker.alloc, asker.room, params, bytes.as_slice()) {
                         Ok(()) => Ok(()),
@@ -66,11 +67,11 @@ impl Work {
                 }
                 _ => Ok(()),
             },
-            Ok(Err(fault)) => match fault {
+            Err(StoreFault::NoMemory) => Err(NoMemory),
+            Err(fault) => match fault {
                 StoreFault::NoFile => self.look_up_shared(store, asker, name, params),
                 other => self.refuse(asker.alloc, asker.room, &other),
             },
-            Err(NoMemory) => Err(NoMemory),
         }
     }
 
@@ -80,7 +81,7 @@ impl Work {
         store: &mut S,
         asker: &Asker<'_>,
         name: &Local,
-        params: Texts,
+        params: Params,
     ) -> Result<(), NoMemory>
         requires running { S.is_spent store.old ≡ false }
         requires few { self.old.blocks ≤ 4096 }
@@ -95,7 +96,7 @@ impl Work {
     {
         let call = look_for(Some(User::macros()), name);
         match ask_any(asker.alloc, store, asker.who, &call) {
-            Ok(Ok(reply)) => match reply {
+            Ok(reply) => match reply {
                 StoreReply::Bytes { bytes, .. } => {
                     match self.call_macro(asker.alloc, asker.room, params, bytes.as_slice()) {
                         Ok(()) => Ok(()),
@@ -104,7 +105,8 @@ impl Work {
                 }
                 _ => Ok(()),
             },
-            Ok(Err(fault)) => match fault {
+            Err(StoreFault::NoMemory) => Err(NoMemory),
+            Err(fault) => match fault {
                 StoreFault::NoFile => self.in_error(
                     asker.alloc,
                     asker.room,
@@ -112,7 +114,6 @@ impl Work {
                 ),
                 other => self.refuse(asker.alloc, asker.room, &other),
             },
-            Err(NoMemory) => Err(NoMemory),
         }
     }
 
@@ -121,7 +122,7 @@ impl Work {
         &mut self,
         alloc: Global,
         room: usize,
-        params: Texts,
+        params: Params,
         bytes: &[u8],
     ) -> Result<(), NoMemory>
         requires few { self.old.blocks ≤ 4096 }
@@ -133,7 +134,8 @@ impl Work {
     {
         self.count_bytes(bytes.len());
         let lines = Document::of_text(alloc, bytes)?;
-        match self.levels.call(alloc, lines, params) {
+        let texts = params.list(alloc)?;
+        match self.levels.call(alloc, lines, texts) {
             Ok(()) => {
                 self.done();
                 Ok(())

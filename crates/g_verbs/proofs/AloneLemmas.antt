@@ -14,7 +14,7 @@ use Rattle.g_verbs.specs.Verbs.{IsActionRead, IsRead, IsSound, Reads, forms_with
 use Rattle.g_verbs.specs.declared.action.Action.{Action}
 use Rattle.g_verbs.specs.declared.action.Action.TheVariants as action
 use Rattle.g_verbs.specs.declared.fault.VerbFault.{VerbFault}
-use Rattle.g_verbs.specs.declared.fault.VerbFault.TheVariants.{BadParameter, NoMemory}
+use Rattle.g_verbs.specs.declared.fault.VerbFault.TheVariants.{BadParameter}
 use Rattle.g_verbs.specs.declared.form.Form.{Form}
 use Rattle.g_verbs.specs.declared.form.Form.TheVariants as form
 use Rattle.g_verbs.specs.declared.verb.Verb.{Verb}
@@ -128,7 +128,6 @@ pub read_reads : (name : List ℕ) (params : List (List ℕ)) (rest : List ℕ) 
     → Reads name params rest r
 read_reads name params rest (Ok a) word is = subst (IsRead name params rest) is (reading-right name params rest word)
 read_reads name params rest (Err (BadParameter index)) word is = subst (IsRead name params rest) is (reading-right name params rest word)
-read_reads name params rest (Err NoMemory) word is = tt
 
 pub read_sound : (name : List ℕ) (params : List (List ℕ)) (rest : List ℕ) (r : Result Action VerbFault) → is_word name ≡ true → IsActionRead (action_read name params rest) r
     → IfOk r IsSound

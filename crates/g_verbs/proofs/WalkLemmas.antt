@@ -4,7 +4,7 @@ use Rattle.std.specs.Prelude.{if◌then◌else◌, ◌==◌}
 use Rattle.std.specs.List.{slice_get}
 use Rattle.std.specs.Option.{option_map}
 use Rattle.std.proofs.lemmas.Bool.{cases_lt, cond_both, eqb-false, eqb-true, false≢true}
-use Rattle.std.proofs.lemmas.Option.{get_or_from_slice_get, slice_get-get_or, slice_get_past, slice_get_read, slice_get_within}
+use Rattle.std.proofs.lemmas.Option.{get_or_from_slice_get, slice_get-get_or, slice_get_past, slice_get_within}
 use Rattle.g_verbs.proofs.ParamLemmas.{is_of-complete, is_of-sound}
 use Rattle.g_verbs.specs.Forms.{AreGood, Fits, Forms, IsFirstWrong, IsGoodPlace, IsOf, form_at, or_any}
 use Rattle.g_verbs.specs.VerbReader.{first_wrong, fits, is_of, param, wrong_in}
@@ -152,11 +152,6 @@ given f params place form asked good inside =
     let at = slice_get-get_or params place [] inside in
     there_by f params place form (get_or params place []) asked at (subst (IsGoodPlace f place) at (good place))
 
--- what a slice has at a place
-pub at-item : (params : List (List ℕ)) (place : ℕ) (item text : List ℕ) → place < length params → item ≡ get_or params place item → text ≡ item → slice_get params place ≡ Some text
-at-item params place item text inside is same =
-    slice_get_read params (length params) place item refl inside is ∙ ap (λ (t : List ℕ). let o : Option (List ℕ) = Some t in o) (sym same)
-
 -- one parameter after another
 module _ (f : Forms) (params : List (List ℕ)) where
   abbrev pub GoodBelow : ℕ → Type 0
@@ -179,7 +174,7 @@ module _ (f : Forms) (params : List (List ℕ)) where
   lacks_by None at short good = omega (arith, short, good)
   lacks_by (Some text) at short good = let inside = slice_get_within params (length params) text at in omega (arith, inside)
 
-  pub wrong-end : GoodBelow (length params) → length params < f.least → IsFirstWrong f params (length params + 1)
+  wrong-end : GoodBelow (length params) → length params < f.least → IsFirstWrong f params (length params + 1)
   wrong-end good short = record {
     from_one = omega arith;
     before = λ k h. good k (omega (arith, h));
@@ -192,5 +187,11 @@ module _ (f : Forms) (params : List (List ℕ)) where
   good_past : (place : ℕ) → f.least ≤ length params → length params ≤ place → IsGoodPlace f place (slice_get params place)
   good_past place long past = subst (IsGoodPlace f place) (sym (slice_get_past params place past)) (omega (arith, long, past))
 
-  pub good-end : GoodBelow (length params) → f.least ≤ length params → AreGood f params
+  good-end : GoodBelow (length params) → f.least ≤ length params → AreGood f params
   good-end good long place = ⊎_elim (λ inside. good place inside) (λ past. good_past place long past) (cases_lt place (length params))
+
+  pub wrong-count : (count : ℕ) → count ≡ length params → GoodBelow count → count < f.least → IsFirstWrong f params (count + 1)
+  wrong-count count same = subst (λ (n : ℕ). GoodBelow n → n < f.least → IsFirstWrong f params (n + 1)) (sym same) wrong-end
+
+  pub good-count : (count : ℕ) → count ≡ length params → GoodBelow count → f.least ≤ count → AreGood f params
+  good-count count same = subst (λ (n : ℕ). GoodBelow n → f.least ≤ n → AreGood f params) (sym same) good-end

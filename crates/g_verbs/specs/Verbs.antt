@@ -12,7 +12,7 @@ use Rattle.g_verbs.specs.Parameters.{AreModes, IsAmount, IsFile, IsLocal, IsUnit
 use Rattle.g_verbs.specs.declared.action.Action.{Action}
 use Rattle.g_verbs.specs.declared.action.Action.TheVariants.{Append, Assign, Budget, Copy, Delete, Display, EndJob, Enter, Erase, Input, ListDir, ListFile, Load, Macro, NewUser, Plan, Release, Rename, Resume, Retrieve, SetParam, TrapCheck, TrapGo, TrapStop}
 use Rattle.g_verbs.specs.declared.fault.VerbFault.{VerbFault}
-use Rattle.g_verbs.specs.declared.fault.VerbFault.TheVariants.{BadParameter, NoMemory}
+use Rattle.g_verbs.specs.declared.fault.VerbFault.TheVariants.{BadParameter}
 use Rattle.g_verbs.specs.declared.form.Form.TheVariants as form
 use Rattle.g_verbs.specs.declared.verb.Verb.{Verb}
 use Rattle.g_verbs.specs.declared.verb.Verb.TheVariants as verb
@@ -161,17 +161,15 @@ abbrev pub IsRead : List ℕ → List (List ℕ) → List ℕ → Result Action 
 IsRead name params rest (Ok action) = Says action name params rest
 IsRead name params rest (Err index) = IsBadParameter name params index
 
--- how a verb is read; nothing is said where memory is wanting
+-- how a verb is read
 abbrev pub Reads : List ℕ → List (List ℕ) → List ℕ → Result Action VerbFault → Type 0
 Reads name params rest (Ok action) = Says action name params rest
 Reads name params rest (Err (BadParameter index)) = IsBadParameter name params index
-Reads name params rest (Err NoMemory) = Unit {0}
 
 -- the reading of a verb, as it is answered
 abbrev pub IsActionRead : Result Action ℕ → Result Action VerbFault → Type 0
 IsActionRead r (Ok action) = r ≡ Ok action
 IsActionRead r (Err (BadParameter index)) = r ≡ Err index
-IsActionRead r (Err NoMemory) = Unit {0}
 
 -- what an action asks for is within the limits of the store's calls, of the order code and of the levels
 abbrev pub IsSound : Action → Type 0

@@ -1,6 +1,6 @@
 //! What a verb with its parameters asks for.
-use g_lines::Texts;
-use g_name::{Local, Path, Text, User};
+use g_lang::{Param, Params, Rest};
+use g_name::{Local, Path, User};
 use g_peri::Unit;
 use g_plain::BudgetKind;
 use g_trap::Modes;
@@ -104,17 +104,17 @@ pub enum Action {
     /// Sets a parameter of the level, `A` to `X`; to the empty text where none is given.
     SetParam {
         letter: u8,
-        text: Option<Text>,
+        text: Param,
     },
     /// Prints a text: the parameters as they were written.
     Display {
-        text: Text,
+        text: Rest,
     },
     /// Ends the job.
     EndJob,
     /// Goes on with the lines of a macro; it gets up to 24 parameters.
     Macro {
         name: Local,
-        params: Texts,
+        params: Params,
     },
 }

@@ -8,7 +8,4 @@ pub enum VerbFault {
     /// is one too many, or lacks (`docs/DEFINITIONS.md`, "Verbs").
     #[error("parameter {0} isn't what the verb asks for")]
     BadParameter(usize),
-    /// The memory for the parameters was refused; nothing is known of them.
-    #[error("out of memory")]
-    NoMemory,
 }

@@ -1,11 +1,13 @@
 //! The forms of parameters, and the first parameter that isn't of the form that is asked for at its place.
-ghost use Rattle.std.specs.Prelude.{◌≡◌, MatchOption};
+ghost use Rattle.std.specs.Prelude.{◌≡◌, ◌<◌, length, MatchOption};
+ghost use Rattle.g_lang.specs.LineReader.{params_read};
 ghost use Rattle.g_verbs.specs.Forms.{AreGood, IsFirstWrong, form_at};
 ghost use Rattle.g_verbs.specs.VerbReader as how;
 ghost use Rattle.g_verbs.specs.Tables.{forms_said};
 
 use crate::parameter;
-use g_name::Text;
+use crate::values::text_at;
+use g_lang::count_params;
 use g_plain::BudgetKind;
 
 /// What a parameter has to be.
@@ -65,29 +67,34 @@ pub struct Forms {
 }
 
 impl Forms {
-    /// The first wrong parameter, counted from 1: one that isn't of its form, or is one too many, or lacks.
-    pub fn first_wrong(&self, params: &[Text]) -> Option<usize>
-        ensures { MatchOption result (AreGood (forms_said self.now) params.now)
-            (IsFirstWrong (forms_said self.now) params.now) }
+    /// The first wrong parameter of those that stand in a text, counted from 1: one that isn't of its form, or is one too
+    /// many, or lacks.
+    pub fn first_wrong(&self, text: &[u8]) -> Option<usize>
+        ensures { MatchOption result (AreGood (forms_said self.now) (params_read text.now))
+            (IsFirstWrong (forms_said self.now) (params_read text.now)) }
     {
-        for (place, param) in params.iter().enumerate() {
-            if !self.takes(place, param.as_slice()) {
+        let count = count_params(text);
+        for place in 0..count {
+            if !self.takes(text, place) {
                 return Some(place + 1);
             }
         }
-        if params.len() < self.least {
-            Some(params.len() + 1)
+        if count < self.least {
+            Some(count + 1)
         } else {
             None
         }
     }
 
-    /// Whether a text may stand at a place.
-    fn takes(&self, place: usize, text: &[u8]) -> bool
-        ensures { result ≡ how.fits (form_at (forms_said self.now) place) text.now }
+    /// Whether the parameter at a place of those that stand in a text may stand there.
+    fn takes(&self, text: &[u8], place: usize) -> bool
+        requires { place < length (params_read text.now) }
+        ensures { result ≡ how.fits (form_at (forms_said self.now) place) (how.param (params_read text.now) place) }
     {
         match self.all.get(place) {
-            Some(form) => form.is_form_of(text),
+            // Any text will do, so it isn't looked for: the parameters of a macro are counted alone.
+            Some(Form::Text) => true,
+            Some(form) => form.is_form_of(text_at(text, place)),
             None => self.any_more,
         }
     }

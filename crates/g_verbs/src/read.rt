@@ -10,35 +10,26 @@ ghost use Rattle.g_verbs.specs.declared.verb.Verb.TheVariants as verb;
 
 use crate::verb::macro_forms;
 use crate::{Action, Forms, Verb, VerbFault, asked, parameter};
-use g_base::NoMemory;
-use g_lang::{only_param, read_params, two_params};
-use g_lines::Texts;
-use g_name::{Local, Path, Text};
-use std::alloc::Global;
+use g_lang::{Params, Rest, only_param, two_params};
+use g_name::{Local, Path};
 
 /// What a verb asks for with the parameters that stand in a text (`docs/DEFINITIONS.md`, "Verbs"): as they were written,
 /// from the first one on.
 ///
 /// `BadParameter` comes exactly where a parameter is bad. A name that is no verb's is that of a macro, which isn't
-/// looked for here. It takes memory for the parameters, but for DISPLAY, and for a good verb that takes one file, two files,
-/// or a file and its new name.
-pub fn read_verb(alloc: Global, name: &Local, rest: Text) -> Result<Action, VerbFault>
+/// looked for here. It takes no memory.
+pub fn read_verb(name: &Local, rest: Rest) -> Result<Action, VerbFault>
     ensures grammar { verbs.Reads name.now (params_read rest) rest result }
     ensures one { verbs.IsActionRead (how.action_read name.now (params_read rest) rest) result }
     ensures sound { IfOk result verbs.IsSound }
 {
     let verb = Verb::of(name.as_slice());
-    read_known(alloc, verb, name, rest)
+    read_known(verb, name, rest)
 }
 
 /// The same where the verb of the name is known. What is large is made in a function of its own: so no verb pays for
 /// what others make.
-fn read_known(
-    alloc: Global,
-    verb: Option<Verb>,
-    name: &Local,
-    rest: Text,
-) -> Result<Action, VerbFault>
+fn read_known(verb: Option<Verb>, name: &Local, rest: Rest) -> Result<Action, VerbFault>
     requires { verb ≡ verbs.verb_of name.now }
     ensures { verbs.IsActionRead (how.action_read name.now (params_read rest) rest) result }
 {
@@ -48,24 +39,19 @@ fn read_known(
         return Ok(Action::Display { text: rest });
     }
     if is_of_one_file(verb) {
-        return read_file(alloc, verb, name, rest);
+        return read_file(verb, name, rest);
     }
     if is_of_two_files(verb) {
-        return read_files(alloc, verb, name, rest);
+        return read_files(verb, name, rest);
     }
     if is_rename(verb) {
-        return read_rename(alloc, verb, name, rest);
+        return read_rename(verb, name, rest);
     }
-    read_listed(alloc, verb, name, rest)
+    read_from(verb, name, rest)
 }
 
 /// The same of a verb that takes one file and nothing else.
-fn read_file(
-    alloc: Global,
-    verb: Option<Verb>,
-    name: &Local,
-    rest: Text,
-) -> Result<Action, VerbFault>
+fn read_file(verb: Option<Verb>, name: &Local, rest: Rest) -> Result<Action, VerbFault>
     requires verb { verb ≡ verbs.verb_of name.now }
     requires kind { is_of_one_file verb ≡ true }
     ensures { verbs.IsActionRead (how.action_read name.now (params_read rest) rest) result }
@@ -75,16 +61,11 @@ fn read_file(
     if let Some(file) = only_file(rest.as_slice()) {
         return Ok(of_file(verb, file));
     }
-    read_listed(alloc, verb, name, rest)
+    read_from(verb, name, rest)
 }
 
 /// The same of a verb that takes two files and nothing else.
-fn read_files(
-    alloc: Global,
-    verb: Option<Verb>,
-    name: &Local,
-    rest: Text,
-) -> Result<Action, VerbFault>
+fn read_files(verb: Option<Verb>, name: &Local, rest: Rest) -> Result<Action, VerbFault>
     requires verb { verb ≡ verbs.verb_of name.now }
     requires kind { is_of_two_files verb ≡ true }
     ensures { verbs.IsActionRead (how.action_read name.now (params_read rest) rest) result }
@@ -94,16 +75,11 @@ fn read_files(
     if let Some(both) = two_files(rest.as_slice()) {
         return Ok(of_two_files(verb, both));
     }
-    read_listed(alloc, verb, name, rest)
+    read_from(verb, name, rest)
 }
 
 /// The same of RENAME.
-fn read_rename(
-    alloc: Global,
-    verb: Option<Verb>,
-    name: &Local,
-    rest: Text,
-) -> Result<Action, VerbFault>
+fn read_rename(verb: Option<Verb>, name: &Local, rest: Rest) -> Result<Action, VerbFault>
     requires verb { verb ≡ verbs.verb_of name.now }
     requires kind { is_rename verb ≡ true }
     ensures { verbs.IsActionRead (how.action_read name.now (params_read rest) rest) result }
@@ -113,42 +89,21 @@ fn read_rename(
     if let Some(both) = file_and_local(rest.as_slice()) {
         return Ok(rename(both));
     }
-    read_listed(alloc, verb, name, rest)
+    read_from(verb, name, rest)
 }
 
-/// The same from the list of the parameters.
-fn read_listed(
-    alloc: Global,
-    verb: Option<Verb>,
-    name: &Local,
-    rest: Text,
-) -> Result<Action, VerbFault>
+/// The same of any verb, whose parameters are looked at one by one.
+fn read_from(verb: Option<Verb>, name: &Local, rest: Rest) -> Result<Action, VerbFault>
     requires { verb ≡ verbs.verb_of name.now }
     ensures { verbs.IsActionRead (how.action_read name.now (params_read rest) rest) result }
-{
-    match read_params(alloc, rest.as_slice()) {
-        Ok(params) => read_from(verb, name, params, rest),
-        Err(NoMemory) => Err(VerbFault::NoMemory),
-    }
-}
-
-/// The same from the parameters, which it looks at one by one. `rest` is their text.
-fn read_from(
-    verb: Option<Verb>,
-    name: &Local,
-    params: Texts,
-    rest: Text,
-) -> Result<Action, VerbFault>
-    requires { verb ≡ verbs.verb_of name.now }
-    ensures { verbs.IsActionRead (how.action_read name.now params rest) result }
 {
     // The name is a word.
     let _word = name.as_slice();
     let forms = forms_of(verb);
-    if let Some(index) = forms.first_wrong(params.rows()) {
+    if let Some(index) = forms.first_wrong(rest.as_slice()) {
         return Err(VerbFault::BadParameter(index));
     }
-    Ok(asked_by(verb, name, params, rest))
+    Ok(asked_by(verb, name, rest))
 }
 
 /// Whether a verb is DISPLAY.
@@ -289,56 +244,56 @@ fn forms_of(verb: Option<Verb>) -> Forms
 }
 
 /// What a verb or a macro asks for, whose parameters are good.
-fn asked_by(verb: Option<Verb>, name: &Local, params: Texts, rest: Text) -> Action
-    requires { AreGood (verbs.forms_with verb) params }
-    ensures { result ≡ how.asked verb name.now params rest }
+fn asked_by(verb: Option<Verb>, name: &Local, rest: Rest) -> Action
+    requires { AreGood (verbs.forms_with verb) (params_read rest) }
+    ensures { result ≡ how.asked verb name.now (params_read rest) rest }
 {
     match verb {
-        Some(verb) => action_of(verb, params, rest),
+        Some(verb) => action_of(verb, rest),
         None => Action::Macro {
             name: name.copy(),
-            params,
+            params: Params::new(rest),
         },
     }
 }
 
 /// What a verb asks for, whose parameters are good.
-fn action_of(verb: Verb, params: Texts, rest: Text) -> Action
-    requires { AreGood (verbs.verb_forms verb) params }
-    ensures { result ≡ how.action_of verb params rest }
+fn action_of(verb: Verb, rest: Rest) -> Action
+    requires { AreGood (verbs.verb_forms verb) (params_read rest) }
+    ensures { result ≡ how.action_of verb (params_read rest) rest }
 {
     match verb {
         Verb::Input => Action::Input {
-            file: asked::only_file(params.rows()),
+            file: asked::only_file(rest.as_slice()),
         },
-        Verb::Copy => asked::copy(params.rows()),
-        Verb::Append => asked::append(params.rows()),
+        Verb::Copy => asked::copy(rest.as_slice()),
+        Verb::Append => asked::append(rest.as_slice()),
         Verb::Erase => Action::Erase {
-            file: asked::only_file(params.rows()),
+            file: asked::only_file(rest.as_slice()),
         },
-        Verb::Rename => asked::rename(params.rows()),
+        Verb::Rename => asked::rename(rest.as_slice()),
         Verb::ListFile => Action::ListFile {
-            file: asked::only_file(params.rows()),
+            file: asked::only_file(rest.as_slice()),
         },
-        Verb::ListDir => asked::list_dir(params.rows()),
-        Verb::TrapGo => asked::trap_go(params.rows()),
-        Verb::TrapStop => asked::trap_stop(params.rows()),
-        Verb::TrapCheck => asked::trap_check(params.rows()),
-        Verb::NewUser => asked::new_user(params.rows()),
-        Verb::Budget => asked::budget(params.rows()),
+        Verb::ListDir => asked::list_dir(rest.as_slice()),
+        Verb::TrapGo => asked::trap_go(rest.as_slice()),
+        Verb::TrapStop => asked::trap_stop(rest.as_slice()),
+        Verb::TrapCheck => asked::trap_check(rest.as_slice()),
+        Verb::NewUser => asked::new_user(rest.as_slice()),
+        Verb::Budget => asked::budget(rest.as_slice()),
         Verb::Retrieve => Action::Retrieve {
-            file: asked::only_file(params.rows()),
+            file: asked::only_file(rest.as_slice()),
         },
         Verb::Load => Action::Load {
-            file: asked::only_file(params.rows()),
+            file: asked::only_file(rest.as_slice()),
         },
-        Verb::Plan => asked::plan(params.rows()),
-        Verb::Enter => asked::enter(params.rows()),
+        Verb::Plan => asked::plan(rest.as_slice()),
+        Verb::Enter => asked::enter(rest.as_slice()),
         Verb::Resume => Action::Resume,
-        Verb::Assign => asked::assign(params.rows()),
-        Verb::Release => asked::release(params.rows()),
+        Verb::Assign => asked::assign(rest.as_slice()),
+        Verb::Release => asked::release(rest.as_slice()),
         Verb::Delete => Action::Delete,
-        Verb::SetParam => asked::set_param(params),
+        Verb::SetParam => asked::set_param(rest),
         Verb::Display => Action::Display { text: rest },
         Verb::EndJob => Action::EndJob,
     }

@@ -1,5 +1,6 @@
 //! A verb with ample memory.
-use g_name::{Local, Text};
+use g_lang::Rest;
+use g_name::Local;
 use g_verbs::{Action, read_verb};
 use std::test::Fail;
 
@@ -21,13 +22,13 @@ fn is_asked(action: &Action) -> bool {
     }
 }
 
-/// A verb with four parameters, with ample memory.
+/// A verb with four parameters, whose text takes memory.
 #[test]
 fn ample(rt: HostRuntime) -> Result<(), Fail> {
     let params = b":ANNE,SPACE 65535,TIME 0,MONEY 1000000000";
-    let rest = Text::from_slice(rt.alloc(), params)?;
+    let rest = Rest::new(rt.alloc(), params)?;
     let name = Local::new(b"NEWUSER").ok_or("no name")?;
-    let action = read_verb(rt.alloc(), &name, rest)?;
+    let action = read_verb(&name, rest)?;
     assert!(rt; is_asked(&action));
     Ok(())
 }

@@ -12,9 +12,8 @@ fn bad_in(alloc: Global, line: &str) -> Result<Option<usize>, Fail> {
     let Command::Verb { name, rest } = command else {
         return Err("no verb".into());
     };
-    match read_verb(alloc, &name, rest) {
+    match read_verb(&name, rest) {
         Err(VerbFault::BadParameter(index)) => Ok(Some(index)),
-        Err(fault) => Err(fault.into()),
         Ok(_) => Ok(None),
     }
 }

@@ -13,7 +13,7 @@ fn asked(alloc: Global, line: &str) -> Result<Action, Fail> {
     let Command::Verb { name, rest } = command else {
         return Err("no verb".into());
     };
-    let action = read_verb(alloc, &name, rest)?;
+    let action = read_verb(&name, rest)?;
     Ok(action)
 }
 

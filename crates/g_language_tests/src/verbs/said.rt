@@ -17,7 +17,7 @@ enum Value<'a> {
     Kind(BudgetKind),
     Unit(Unit),
     Letter(u8),
-    Text(Option<&'a Text>),
+    Text(Option<&'a [u8]>),
     Texts(&'a Texts),
 }
 
@@ -152,21 +152,34 @@ fn push_said_of_jobs(alloc: Global, said: &mut Text, action: &Action) -> Result<
         Action::Release { unit } => push(alloc, said, b"RELEASE", &[Value::Unit(*unit)]),
         Action::Delete => said.extend(b"DELETE"),
         Action::SetParam { letter, text } => {
+            let text = text.to_text(alloc)?;
+            let text = match &text {
+                Some(text) => Some(text.as_slice()),
+                None => None,
+            };
             push(
                 alloc,
                 said,
                 b"SETPARAM",
-                &[Value::Letter(*letter), Value::Text(text.as_ref())],
+                &[Value::Letter(*letter), Value::Text(text)],
             )
         }
-        Action::Display { text } => push(alloc, said, b"DISPLAY", &[Value::Text(Some(text))]),
+        Action::Display { text } => {
+            push(
+                alloc,
+                said,
+                b"DISPLAY",
+                &[Value::Text(Some(text.as_slice()))],
+            )
+        }
         Action::EndJob => said.extend(b"ENDJOB"),
         Action::Macro { name, params } => {
+            let params = params.list(alloc)?;
             push(
                 alloc,
                 said,
                 b"MACRO",
-                &[Value::Local(name), Value::Texts(params)],
+                &[Value::Local(name), Value::Texts(&params)],
             )
         }
         _ => Ok(()),
@@ -190,7 +203,7 @@ fn push_value(alloc: Global, said: &mut Text, value: &Value) -> Result<(), NoMem
         Value::Kind(kind) => push_word(said, kind_word(*kind)),
         Value::Unit(unit) => push_number(alloc, said, unit_word(unit.kind), u64::from(unit.number)),
         Value::Letter(letter) => push_word(said, &[*letter]),
-        Value::Text(Some(text)) => push_text(said, text.as_slice()),
+        Value::Text(Some(text)) => push_text(said, text),
         Value::Texts(texts) => push_texts(said, texts),
         Value::User(None) | Value::Number(None) | Value::Text(None) => Ok(()),
     }

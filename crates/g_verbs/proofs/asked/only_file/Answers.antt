@@ -1,8 +1,9 @@
 use Rattle.std.proofs.Common.{[], arith, refl, ◌∷◌}
+use Rattle.g_lang.specs.LineReader.{params_read}
 use Rattle.g_verbs.proofs.WalkLemmas.{wanted}
 use Rattle.g_verbs.specs.Forms.{just}
 use Rattle.g_verbs.specs.declared.form.Form.TheVariants as form
 use Rattle.g_verbs.proofs.asked.only_file.Goals as goal
 
 pub file_at-requires : goal.file_at-requires
-file_at-requires c = wanted (just (form.File ∷ [])) c.args.params.now 0 form.File refl (omega arith) c.requires
+file_at-requires c = wanted (just (form.File ∷ [])) (params_read c.args.params.now) 0 form.File refl (omega arith) c.requires

@@ -1,4 +1,5 @@
 use Rattle.std.proofs.Common.{List, arith, refl, subst, sym, ℕ}
+use Rattle.g_lang.specs.LineReader.{params_read}
 use Rattle.g_verbs.proofs.WalkLemmas.{wanted}
 use Rattle.g_verbs.specs.Tables.{IsThere}
 use Rattle.g_verbs.specs.Verbs.{verb_forms}
@@ -8,4 +9,5 @@ use Rattle.g_verbs.proofs.asked.set_param.Goals as goal
 
 pub letter_at-letter-requires : goal.letter_at-letter-requires
 letter_at-letter-requires c =
-    subst (λ (ps : List (List ℕ)). IsThere form.Letter ps 0) (sym c.rows.ensures) (wanted (verb_forms verb.SetParam) c.args.params 0 form.Letter refl (omega arith) c.requires)
+    subst (λ (ts : List ℕ). IsThere form.Letter (params_read ts) 0) (sym c.as_slice.ensures)
+    (wanted (verb_forms verb.SetParam) (params_read c.args.params) 0 form.Letter refl (omega arith) c.requires)

@@ -1,7 +1,7 @@
+use borrow.Enum.Total.{values_d}
 use Rattle.std.proofs.Common.{List, ap, refl, subst, sym, ℕ, ◌∙◌}
 use Rattle.std.proofs.lemmas.Result.{on_ok_weaker}
 use Rattle.g_lang.specs.LineReader.{params_read}
-use Rattle.g_plain.proofs.AskLemmas.{RanInPart-none}
 use Rattle.g_turn.specs.Commands.{acted}
 use Rattle.g_turn.specs.Outcomes.{done, say}
 use Rattle.g_turn.specs.Steps.{RanWell}
@@ -9,6 +9,7 @@ use Rattle.g_monitor.specs.JobLines.{marked}
 use Rattle.g_monitor.specs.declared.job_lines.Mark.TheVariants as mark
 use Rattle.g_turn.proofs.SpokenLemmas.{index_read, text_read}
 use Rattle.g_verbs.specs.VerbReader.{action_read}
+use Rattle.g_verbs.specs.contracts.fault.VerbFault.{enum}
 use Rattle.g_turn.proofs.work.Work.verb.Goals as goal
 
 pub returns-in-Ok-Display-clause-ok : goal.returns-in-Ok-Display-clause-ok
@@ -21,14 +22,8 @@ returns-in-Ok-Display-clause-ok g c =
 
 pub returns-in-Err-BadParameter-clause-ok : goal.returns-in-Err-BadParameter-clause-ok
 returns-in-Err-BadParameter-clause-ok g c =
-    let read = index_read (action_read c.args.line.name (params_read c.args.line.rest) c.args.line.rest) c.in-Err-BadParameter.field-0 c.in-Err-BadParameter.index
-    c.in-Err-BadParameter.field-0-is c.in-Err-BadParameter.ensures.one in
+    let read = index_read (λ fault. (values_d enum 0 (0, tt {0}) fault).0) (λ n. refl) (action_read c.args.line.name (params_read c.args.line.rest) c.args.line.rest)
+    c.in-Err-BadParameter.field-0 c.in-Err-BadParameter.ensures.one in
     on_ok_weaker c.bad_parameter.result (λ did. subst (λ asked. RanWell g.S.Filestore.answers g.S.Filestore.is_spent g.S.Filestore.can_wait c.args.asker.now.who.now c.args.store.now
     (acted c.args.asker.now.room c.args.asker.now.who.now c.args.by c.args.line.name asked c.args.self.now) c.bad_parameter.new.self c.args.store.now)
     (sym read) (did, refl)) c.bad_parameter.ensures.ok
-
-pub returns-in-Err-NoMemory-clause-err : goal.returns-in-Err-NoMemory-clause-err
-returns-in-Err-NoMemory-clause-err g c =
-    RanInPart-none g.S.Filestore.answers c.args.asker.now.who.now
-    (acted c.args.asker.now.room c.args.asker.now.who.now c.args.by c.args.line.name (action_read c.args.line.name (params_read c.args.line.rest) c.args.line.rest) c.args.self.now)
-    c.args.store.now

@@ -1,0 +1,8 @@
+-- Where the text of a verb's parameters is kept.
+use Rattle.std.specs.Prelude.{List, ℕ}
+use Rattle.g_lang.specs.declared.rest.Kept.{Kept}
+use Rattle.g_lang.specs.declared.rest.Kept.TheVariants.{Few, Many}
+
+abbrev pub kept_bytes : Kept → List ℕ
+kept_bytes (Few few) = few.items
+kept_bytes (Many text) = text
