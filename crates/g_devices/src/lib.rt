@@ -26,5 +26,5 @@ pub use looking::look_at;
 pub use names::is_there;
 pub use pair::open_duplex;
 pub use rack::open_rack;
-pub use streams::{StdSink, StdSource};
+pub use streams::{StdSink, StdSource, placeholders};
 pub use words::{texts_of, words_of};

@@ -3,6 +3,7 @@ ghost use Rattle.std.specs.Prelude.{◌≤◌, None, IfOk, length};
 
 use g_base::{ReadFailed, WriteFailed, raised};
 use g_io::{Sink, Source};
+use std::fs::File;
 use std::io::{self, ErrorKind, Read, Write};
 
 /// A source over a reader. A read that a signal interrupted is tried again.
@@ -74,4 +75,15 @@ impl<W: Write + Drop> Sink for StdSink<W> {
             }
         }
     }
+}
+
+/// Files that take the places of the standard streams that were closed, as long as they live: nothing can be read from them, and
+/// nothing written to them. Where one is missing, an image or a reel would take its place, and is refused (`claim`).
+pub fn placeholders(rt: &HostRuntime) -> (Option<File>, Option<File>, Option<File>) {
+    (placeholder(rt), placeholder(rt), placeholder(rt))
+}
+
+/// One of them.
+fn placeholder(rt: &HostRuntime) -> Option<File> {
+    File::open(rt, "/dev/null").ok()
 }

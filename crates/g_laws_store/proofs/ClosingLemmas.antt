@@ -85,7 +85,7 @@ pub record IsOf (P : FileRec → Type 0) (p : Pin) : Type 0 where
   pub stamp : rec.stamp ≡ p.stamp
   pub tape : rec.tape ≡ Some p.copy
 
-pins_are : (P : FileRec → Type 0) (serial at : ℕ) (files : List FileRec) (pins : List Pin) → ArePinned serial at (waiting files) pins → All P (noted_files serial at files) → All (IsOf P) pins
+pub pins_are : (P : FileRec → Type 0) (serial at : ℕ) (files : List FileRec) (pins : List Pin) → ArePinned serial at (waiting files) pins → All P (noted_files serial at files) → All (IsOf P) pins
 pins_are P serial at [] pins are all = subst (All (IsOf P)) (sym are) (All-nil (IsOf P))
 pins_are P serial at (r ∷ rs) pins are all = by_copy (cases_Bool (waits r)) (pins_are P serial (at + blocks_for r.len) rs) (pins_are P serial at rs)
   where

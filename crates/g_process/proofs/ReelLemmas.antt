@@ -31,21 +31,22 @@ ending_filled (x ∷ xs) k b r is =
     ap (λ (bs : Option (List (List ℕ))). holding (k + 1) bs r) (mapped_const w k b r.blocks ∙ ap (λ (v : List (List ℕ)). option_map (λ (bs : List (List ℕ)). v ++ b ∷ []) r.blocks) all)
     ∙ ap (λ (n : ℕ). holding n (option_map (λ (bs : List (List ℕ)). w ++ b ∷ []) r.blocks) r) long
 
+-- what doesn't hang on the blocks stays
+filled_keeps : {X : Type 0} (of : Reel → X) (w : List (List ℕ)) (r : Reel) → ((n : ℕ) (o : Option (List (List ℕ))) → of (holding n o r) ≡ of r) → of (filled w r) ≡ of r
+filled_keeps of [] r same = refl
+filled_keeps of (b ∷ bs) r same = same (length (b ∷ bs)) (option_map (λ (old : List (List ℕ)). b ∷ bs) r.blocks)
+
 pub filled_serial : (w : List (List ℕ)) (r : Reel) → (filled w r).serial ≡ r.serial
-filled_serial [] r = refl
-filled_serial (b ∷ bs) r = refl
+filled_serial w r = filled_keeps (λ (x : Reel). x.serial) w r (λ n o. refl)
 
 pub filled_times : (w : List (List ℕ)) (r : Reel) → (filled w r).times_read ≡ r.times_read
-filled_times [] r = refl
-filled_times (b ∷ bs) r = refl
+filled_times w r = filled_keeps (λ (x : Reel). x.times_read) w r (λ n o. refl)
 
 pub filled_mounted : (w : List (List ℕ)) (r : Reel) → (filled w r).mounted ≡ r.mounted
-filled_mounted [] r = refl
-filled_mounted (b ∷ bs) r = refl
+filled_mounted w r = filled_keeps (λ (x : Reel). x.mounted) w r (λ n o. refl)
 
 pub filled_capacity : (w : List (List ℕ)) (r : Reel) → (filled w r).capacity ≡ r.capacity
-filled_capacity [] r = refl
-filled_capacity (b ∷ bs) r = refl
+filled_capacity w r = filled_keeps (λ (x : Reel). x.capacity) w r (λ n o. refl)
 
 pub filled_long : (w : List (List ℕ)) (r : Reel) → 0 < length w → (filled w r).len ≡ length w
 filled_long [] r some = absurd (let no : ⊥ = omega (arith, some) in no)

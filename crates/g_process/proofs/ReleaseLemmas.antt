@@ -70,12 +70,15 @@ has_other [] s n apart = ap (λ (b : Bool). b || false) (ne_eqb s n apart)
 has_other (x ∷ xs) s n apart = ap (λ (b : Bool). (x == n) || b) (has_other xs s n apart)
 
 -- RELEASED once more is the same
-released_serial : (ss : List ℕ) (r : Reel) → (released ss r).serial ≡ r.serial
-released_serial ss r = by_case (has ss r.serial)
+released_keeps : {X : Type 0} (of : Reel → X) (ss : List ℕ) (r : Reel) → of (ending 0 zeros r) ≡ of r → of (released ss r) ≡ of r
+released_keeps of ss r same = by_case (has ss r.serial)
   where
-    by_case : (b : Bool) → (if b then ending 0 zeros r else r).serial ≡ r.serial
-    by_case true = refl
+    by_case : (b : Bool) → of (if b then ending 0 zeros r else r) ≡ of r
+    by_case true = same
     by_case false = refl
+
+released_serial : (ss : List ℕ) (r : Reel) → (released ss r).serial ≡ r.serial
+released_serial ss r = released_keeps (λ (x : Reel). x.serial) ss r refl
 
 again : (o : Option (List (List ℕ))) → option_map (λ (bs : List (List ℕ)). take 0 bs ++ zeros ∷ []) (option_map (λ (bs : List (List ℕ)). take 0 bs ++ zeros ∷ []) o)
     ≡ option_map (λ (bs : List (List ℕ)). take 0 bs ++ zeros ∷ []) o
@@ -153,18 +156,10 @@ reel_released s ss (r ∷ rs) =
     ]
 
 released_mounted : (ss : List ℕ) (r : Reel) → (released ss r).mounted ≡ r.mounted
-released_mounted ss r = by_case (has ss r.serial)
-  where
-    by_case : (b : Bool) → (if b then ending 0 zeros r else r).mounted ≡ r.mounted
-    by_case true = refl
-    by_case false = refl
+released_mounted ss r = released_keeps (λ (x : Reel). x.mounted) ss r refl
 
 released_capacity : (ss : List ℕ) (r : Reel) → (released ss r).capacity ≡ r.capacity
-released_capacity ss r = by_case (has ss r.serial)
-  where
-    by_case : (b : Bool) → (if b then ending 0 zeros r else r).capacity ≡ r.capacity
-    by_case true = refl
-    by_case false = refl
+released_capacity ss r = released_keeps (λ (x : Reel). x.capacity) ss r refl
 
 pub mounted_at : (n : ℕ) (rs : List Reel) → All (λ r. r.mounted ≡ true) rs → (r : Reel) → reel n rs ≡ Some r → r.mounted ≡ true
 mounted_at n rs all r is = All-contains (λ (q : Reel). q.mounted ≡ true) rs r all (reel-found n rs r is).0

@@ -2,11 +2,9 @@
 use Rattle.std.proofs.Common.{◌≡◌, ℕ, zero, suc, ◌+◌, ◌<◌, ◌≤◌, Bool, true, false, List, [], ◌∷◌, ◌++◌, get_or, length, slice_get, take, Option, Some, None, refl, sym, ◌∙◌, ap, arith, subst}
 use Rattle.std.specs.Prelude.{All, find, is_some, map, nat_lt, option_map, if◌then◌else◌}
 use Rattle.std.specs.Option.{ForSome}
-use Rattle.std.specs.List.Sorted.{IsStrictlyIncreasing}
 use Rattle.std.proofs.lemmas.Bool.{false≢true, ltb-false}
-use Rattle.std.proofs.lemmas.List.{get_or-map, length-map, take_all}
+use Rattle.std.proofs.lemmas.List.{get_or-map, take_all}
 use Rattle.std.proofs.lemmas.List.Elements.{All-contains, All-cons, All-head, All-map, All-more, All-nil, All-tail, Contains-append_right}
-use Rattle.std.proofs.lemmas.List.Kept.{AllPairs-from_increasing}
 use Rattle.std.proofs.lemmas.Option.{get_or_from_slice_get, none-some}
 use Rattle.g_tape.specs.Rack.{AreReels, Rack, reel}
 use Rattle.g_tape.specs.Reads.{unread}
@@ -18,6 +16,7 @@ use Rattle.g_shelf.proofs.QuietLemmas.{within}
 use Rattle.g_store_model.specs.State as state
 use Rattle.g_store_meaning.specs.Reading.{ReelsTold, row_of}
 use Rattle.g_store.specs.Refusing.{first_used, is_used}
+use Rattle.g_shelf.proofs.RackLemmas.{rises}
 
 abbrev pub used : Reel → Bool
 used r = nat_lt 0 r.len
@@ -33,14 +32,6 @@ none_empty rack = All-nil (λ (r : Reel). used r ≡ false)
 serial_at : (reels : List Reel) (i serial : ℕ) (d : Reel) → i < length reels → slice_get (map (λ (r : Reel). r.serial) reels) i ≡ Some serial → (get_or reels i d).serial ≡ serial
 serial_at reels i serial d inside is =
     sym (get_or-map (λ (r : Reel). r.serial) reels i d 0 inside) ∙ get_or_from_slice_get (map (λ (r : Reel). r.serial) reels) i serial 0 is
-
-rises : (rs : List Reel) → IsStrictlyIncreasing (map (λ (r : Reel). r.serial) rs) → (j i : ℕ) (d e : Reel) → j < i → i < length rs → (get_or rs j d).serial < (get_or rs i e).serial
-rises rs rising j i d e below inside =
-    let long = length-map rs (λ (r : Reel). r.serial) in
-    let at_j = get_or-map (λ (r : Reel). r.serial) rs j d 0 (omega arith) in
-    let at_i = get_or-map (λ (r : Reel). r.serial) rs i e 0 inside in
-    let less = AllPairs-from_increasing (map (λ (r : Reel). r.serial) rs) rising j i 0 below (omega arith) in
-    omega arith
 
 found_at : (reels : List Reel) (i serial : ℕ) → AreReels reels → i < length reels → slice_get (map (λ (r : Reel). r.serial) reels) i ≡ Some serial → (d : Reel) → reel serial reels ≡ Some (get_or reels i d)
 found_at reels i serial are inside is d =

@@ -1,6 +1,6 @@
 -- Taking a file off the disc is the step's.
 use Rattle.std.proofs.Common.{◌≡◌, ℕ, Bool, true, false, List, [], ◌∷◌, get_or, Option, Some, None, is_some, refl, sym, ◌∙◌, ap, subst, inl, inr, true≢false}
-use Rattle.std.specs.Prelude.{◌⊎◌, ◌||◌, All, Contains, IfSome, is_none, map, not, if◌then◌else◌}
+use Rattle.std.specs.Prelude.{◌⊎◌, ◌||◌, All, Contains, IfSome, is_none, map, not}
 use Rattle.std.specs.Option.{option_map}
 use Rattle.std.proofs.lemmas.Bool.{false≢true}
 use Rattle.std.proofs.lemmas.List.Elements.{All-contains, All-map, Contains-get_or}
@@ -43,7 +43,7 @@ use Rattle.g_laws_memory.proofs.UnjamLemmas.{numbers_apart as files_numbered}
 use Rattle.g_laws_calls.proofs.FileLemmas.{of_stamp, offline_recs}
 use Rattle.g_migrate.proofs.MigrationLemmas.{rec_there}
 use Rattle.g_migrate.proofs.UsedLemmas.{used_there}
-use Rattle.g_store_calls.proofs.BehindLemmas.{rack_seen, told_then}
+use Rattle.g_store_calls.proofs.BehindLemmas.{rack_seen, told_then, CopyHolds, off, off_text}
 use Rattle.g_store.specs.Naming.{IsNamedBy, IsNamedFile, naming_refuses}
 use Rattle.g_store.proofs.OffLemmas.{TellsOnline, off_places, place_is, tells_online}
 
@@ -230,28 +230,6 @@ module _ (v : View) (reels : List Reel) (o : OnlineFacts) (dump : Option DumpFac
         let s : state.State = record { up = false; size = size i; holding = Some (held_off [] (is_some o.pins) pinned i); reels = map (row_of v.shelf) reels; dumped = up.dumped; open_dump = None } in s
 
 -- THE VIEW stays right
-
-off : Bool → File → File
-off b g = if b then record g { online = false; bytes = None } else g
-
--- a copy holds the text of its version, where that is on the disc too
-abbrev CopyHolds : Type 0 → (ℕ → List ℕ) → List Dump → File → Type 0
-CopyHolds all text dumps g = all → g.online ≡ true → IfSome g.rec.tape (λ place. IsContent dumps place (text g.rec.stamp))
-
-off_text : (all now : Type 0) (text : ℕ → List ℕ) (dumps : List Dump) (b : Bool) (g : File) → (now → all) → CopyHolds all text dumps g → HasText all (text g.rec.stamp) dumps g
-    → (let h = off b g in HasText now (text h.rec.stamp) dumps h)
-unfolding off
-off_text all now text dumps false g back copy has = record { len = has.len; bytes = has.bytes; tape = λ told. has.tape (back told) }
-off_text all now text dumps true g back copy has = record {
-  len = has.len;
-  bytes = λ x none. absurd (none-some x none);
-  tape = λ told offline. by_online g.online refl (back told);
-}
-  where
-    by_online : (on : Bool) → g.online ≡ on → all → IfSome g.rec.tape (λ place. IsContent dumps place (text g.rec.stamp))
-    by_online true is told = copy told is
-    by_online false is told = has.tape told is
-
 module _ (t : StoreFacts) (unspent : t.spent ≡ false) (keeps : IsStore t) (belongs : Belongs t) (v : View) (right : IsView t.online.disc.held (told_reels t.rack) t.online.contents v) where
   abbrev reels : List Reel
   reels = told_reels t.rack

@@ -40,7 +40,7 @@ use Rattle.g_store.specs.Naming.{IsNamedFile, named_answer, naming_refuses, stop
 use Rattle.g_store.specs.Refusing.{IsExact}
 use Rattle.g_store.proofs.EventLemmas.{held_by, leads_same, none_written, refused}
 use Rattle.g_store.proofs.MigrateLemmas.{IsFileOf, file_of, down_before, down_behind, name_refused, refusal_is, stamp_is, state_done, tree_in, two_faults, unload_is, view_off}
-use Rattle.g_store.proofs.OpenedLemmas.{devices_hold}
+use Rattle.g_store_calls.proofs.RecordLemmas.{devices_hold}
 use Rattle.g_store_calls.proofs.SeenLemmas.{Seen, seen, stands}
 use Rattle.g_store_calls.proofs.BehindLemmas.{files_seen, told_then}
 

@@ -16,7 +16,6 @@ use Rattle.std.proofs.lemmas.Option.{same_Some, slice_get-get_or}
 use Rattle.g_base.specs.Block.{blocks_for}
 use Rattle.g_name.specs.Order.{text_cmp}
 use Rattle.g_entry.specs.declared.file_rec.FileRec.{FileRec}
-use Rattle.g_entry.specs.declared.file_rec.TapeCopy.{TapeCopy}
 use Rattle.g_entry.specs.declared.user_rec.UserRec.{UserRec}
 use Rattle.g_plain.specs.PlainTree.{Tree, UserRow}
 use Rattle.g_plain.proofs.TextMaps.{text_exact, text_total}
@@ -34,7 +33,7 @@ use Rattle.g_store_model.specs.DumpSteps.{kept_now, waiting_blocks, writes_conte
 use Rattle.g_store_meaning.specs.Meaning.{DumpedDirectory, Gathers, HasDirectory, files_in, files_of}
 use Rattle.g_store_meaning.specs.Reading.{dumped_place, dumped_places, names_of, users_in, users_not_in, waiting_of}
 use Rattle.g_store_meaning.specs.StoreInvariant.{ArePinned}
-use Rattle.g_laws_store.proofs.ClosingLemmas.{IsOf, all_left, all_right, contains_filter}
+use Rattle.g_laws_store.proofs.ClosingLemmas.{IsOf, all_left, all_right, contains_filter, pins_are}
 use Rattle.g_laws_store.proofs.PinLemmas.{OtherStamp}
 use Rattle.g_laws_memory.specs.Places.{AreNotedIn}
 use Rattle.g_laws_memory.specs.Users.{IsNamed}
@@ -133,30 +132,6 @@ held_each P d rules each i other within =
     let number : u.number ≡ r.owner = rules.users.numbered r.owner u (slice_get-get_or d.users r.owner nobody owner) in
     All-contains P (files_of u.number d.files) r (each u (Contains-get_or d.users r.owner nobody owner) (ap (holds d.held) number ∙ rules.owners i other within))
     (contains_filter (λ (s : FileRec). s.owner == u.number) d.files r there (eq-eqb r.owner u.number (sym number)))
-
--- each pin is of a record with its copy
-pins_each : (P : FileRec → Type 0) (serial at : ℕ) (files : List FileRec) (pins : List Pin) → ArePinned serial at (waiting files) pins → All P (noted_files serial at files) → All (IsOf P) pins
-pins_each P serial at [] pins are all = subst (All (IsOf P)) (sym are) (All-nil (IsOf P))
-pins_each P serial at (r ∷ rs) pins are all = by_copy (cases_Bool (waits r)) (pins_each P serial (at + blocks_for r.len) rs) (pins_each P serial at rs)
-  where
-    by_copy : (waits r ≡ true) ⊎ (waits r ≡ false)
-        → ((ps : List Pin) → ArePinned serial (at + blocks_for r.len) (waiting rs) ps → All P (noted_files serial (at + blocks_for r.len) rs) → All (IsOf P) ps)
-        → ((ps : List Pin) → ArePinned serial at (waiting rs) ps → All P (noted_files serial at rs) → All (IsOf P) ps) → All (IsOf P) pins
-    by_copy (inl is) gets keeps =
-        let (pin, rest, same, stamp, len, copy, blocks, more) = subst (λ (ws : List FileRec). ArePinned serial at ws pins) (cond-true (waits r) (r ∷ waiting rs) (waiting rs) is) are in
-        let noted : List FileRec = noted_files serial (at + blocks_for r.len) rs in
-        let every = subst (All P) (cond-true (waits r) (noted_rec serial at r ∷ noted) (r ∷ noted_files serial at rs) is) all in
-        let one : IsOf P pin = record {
-          rec = noted_rec serial at r;
-          is = All-head P (noted_rec serial at r) noted every;
-          stamp = sym stamp;
-          tape = ap (λ (x : TapeCopy). let o : Option TapeCopy = Some x in o) (sym copy);
-        } in
-        subst (All (IsOf P)) (sym same) (All-cons (IsOf P) pin rest one (gets rest more (All-tail P (noted_rec serial at r) noted every)))
-    by_copy (inr isnt) gets keeps =
-        keeps pins (subst (λ (ws : List FileRec). ArePinned serial at ws pins) (cond-false (waits r) (r ∷ waiting rs) (waiting rs) isnt) are)
-        (All-tail P r (noted_files serial at rs)
-        (subst (All P) (cond-false (waits r) (noted_rec serial at r ∷ noted_files serial (at + blocks_for r.len) rs) (r ∷ noted_files serial at rs) isnt) all))
 
 -- THE PLACES of a dumped directory are those of its records
 module _ (dumps : List Dump) (t : DumpedDirectory dumps) where
@@ -265,7 +240,7 @@ module _ (plan : Plan) (content : List (List ℕ)) (pins : List Pin) (are : AreP
         (λ p it.
         ap (λ (m : FinMap nat_cmp state.Place). (state.place_at m p.stamp).copy) places_is
         ∙ ap (λ (n : ℕ). (state.place_at (dumped_places (files_in t)) n).copy) (sym it.stamp) ∙ it.is ∙ it.tape) pins
-        (pins_each (CopyAt dumps t) plan.serial (first_content plan) plan.files pins are
+        (pins_are (CopyAt dumps t) plan.serial (first_content plan) plan.files pins are
         (unnumbered_all (CopyAt dumps t) (λ n r is. is) 0 (noted_files plan.serial (first_content plan) plan.files) (made_at dumps t made there low apart rules)));
     apart = pins_two stamps;
   }

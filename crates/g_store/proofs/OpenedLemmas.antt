@@ -64,6 +64,7 @@ use Rattle.g_store.proofs.EventLemmas.{leads_same, none_written, refused}
 use Rattle.g_store.proofs.MountLemmas.{lacks_by, mounted_by, reel_unread, row_found}
 use Rattle.g_store_calls.proofs.SeenLemmas.{Seen, seen, stands}
 use Rattle.g_store_calls.proofs.BehindLemmas.{files_seen}
+use Rattle.g_store_calls.proofs.RecordLemmas.{devices_hold}
 
 abbrev pub OpensBy : ℕ → state.State → state.Holding → Outcome → Result ℕ StoreFault → state.State → Type 0
 OpensBy serial s k o a n = OpenStep s k serial o a n
@@ -87,18 +88,6 @@ number_of (Err fault) = Err fault
 pub spent_stands : (o : OnlineFacts) (rack : Rack) (u : state.State) → DevicesStandFor o.disc.size o.disc.held (told_reels rack) u → StandsForState (spent_with o rack) u
 unfolding Stands
 spent_stands o rack u is = let devices : Stands true o None u (told_reels rack) = is in back true o None u rack devices
-
--- what devices stand for whose disc holds these contents
-pub devices_hold : (size : ℕ) (held : Option (List (List ℕ))) (reels : List Reel) (u : state.State) (v : View) (c : Contents) (blocks : List (List ℕ)) → held ≡ Some blocks → Holds blocks c
-    → IsView held reels c v → u ≡ state_down v reels size (Some c) → DevicesStandFor size held reels u
-devices_hold size held reels u v c blocks has holds seen is = record {
-  view = v;
-  contents = Some c;
-  is = (blocks, has, holds, seen);
-  none = λ no. absurd (true≢false no);
-  rack = seen.rack;
-  state_is = is;
-}
 
 -- and a spent store over them, part by part
 pub spent_holding : (o : OnlineFacts) (rack : Rack) (u : state.State) (v : View) (c : Contents) (blocks : List (List ℕ)) → o.disc.held ≡ Some blocks → Holds blocks c

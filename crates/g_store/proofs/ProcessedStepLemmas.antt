@@ -10,7 +10,6 @@ use Rattle.std.proofs.lemmas.List.Kept.{AllPairs-from_increasing}
 use Rattle.std.proofs.lemmas.Option.{none-some}
 use Rattle.g_base.specs.Block.{blocks_for}
 use Rattle.g_base.specs.Counts.{Rose}
-use Rattle.g_entry.specs.declared.file_rec.FileRec.{FileRec}
 use Rattle.g_entry.specs.declared.file_rec.TapeCopy.{TapeCopy}
 use Rattle.g_entry.specs.declared.user_rec.UserRec.{UserRec}
 use Rattle.g_tape.specs.Rack.{AreReels, Rack, reel}
@@ -25,7 +24,7 @@ use Rattle.g_tree.specs.Records.{IsRecords}
 use Rattle.g_disc_contents.specs.Contents.{Contents, File, Holds, contents_of, has, recs_in, with_copies}
 use Rattle.g_disc_contents.specs.Facts.{IsTied, OnlineFacts}
 use Rattle.g_incr.specs.Layout.{Dump, ends, holds}
-use Rattle.g_incr.specs.Plan.{needs, first_content, numbered_from}
+use Rattle.g_incr.specs.Plan.{needs, first_content}
 use Rattle.g_shelf.specs.CompletedDumps.{AreCompleted, AreShelved, all_dumps}
 use Rattle.g_shelf.specs.LastDump.{first_unmounted}
 use Rattle.g_shelf.proofs.QuietLemmas.{within}
@@ -39,9 +38,9 @@ use Rattle.g_store_model.specs.Rising.{fault_from, has_none}
 use Rattle.g_store_meaning.specs.Answers.{Belongs, IsStore, Raised, Told}
 use Rattle.g_store_meaning.specs.Belonging.{KeepsFile, RackBelongs}
 use Rattle.g_store_meaning.specs.Meaning.{DumpedDirectory, IsContent, told_reels}
-use Rattle.g_store_meaning.specs.Reading.{AllTold, HasText, IsView, StandsForState, View, dumped_of, dumped_places, holding_of, names_of, open_of, own_of, places_of, row_of, shelved_of, state_up, tree_by, users_not_in}
+use Rattle.g_store_meaning.specs.Reading.{AllTold, HasText, IsView, StandsForState, View, dumped_of, holding_of, names_of, open_of, places_of, row_of, shelved_of, state_up, tree_by, users_not_in}
 use Rattle.g_store_meaning.specs.StoreInvariant.{DumpFacts, IsUp, StoreFacts, with_dump}
-use Rattle.g_store_meaning.proofs.OneLemmas.{on_reel}
+use Rattle.g_store_meaning.proofs.OneLemmas.{on_reel, dumped_parts}
 use Rattle.g_laws_store.proofs.StateLemmas.{is_view, view_by}
 use Rattle.g_laws_store.proofs.UpOneLemmas.{on_all, store_is_one}
 use Rattle.g_laws_memory.specs.Rooms.{HasLength, held_in}
@@ -209,17 +208,9 @@ rose_of old new (inl both) = inl both.0
 rose_of old new (inr both) = inr both.0
 
 -- what is dumped goes by the newest dump and by what is gathered
-dumped_as : (ℕ → List ℕ) → Dump → List FileRec → state.Dumped
-dumped_as text d gathered = record {
-  number = d.number;
-  tree = tree_by text d.users (numbered_from 0 gathered) d.next;
-  places = dumped_places (numbered_from 0 gathered);
-  own = own_of d;
-}
-
 dumped_one : (text : ℕ → List ℕ) (xs ys : List Dump) (t : DumpedDirectory xs) (u : DumpedDirectory ys) → t.last ≡ u.last → t.gathered ≡ u.gathered → dumped_of text t ≡ dumped_of text u
-unfolding dumped_as
-dumped_one text xs ys t u last gathered = λ i. dumped_as text (last i) (gathered i)
+unfolding dumped_parts
+dumped_one text xs ys t u last gathered = λ i. dumped_parts text (last i) (gathered i)
 
 -- THE REELS before it, which tell what they hold
 module _ (o : OnlineFacts) (old : Rack) (reels : AreReels old.reels) (told : AllTold o.disc.held (told_reels old)) (shelf : ℕ → List Dump) (shelved_as : AreShelved shelf (told_reels old)) where

@@ -251,7 +251,7 @@ numbered_copied n (r ∷ rs) all =
     All-cons IsCopied (with_number n r) (numbered_from (n + 1) rs) (All-head IsCopied r rs all) (numbered_copied (n + 1) rs (All-tail IsCopied r rs all))
 
 -- what a state says of a dumped directory, of its parts
-dumped_parts : (ℕ → List ℕ) → Dump → List FileRec → state.Dumped
+unfoldable pub dumped_parts : (ℕ → List ℕ) → Dump → List FileRec → state.Dumped
 dumped_parts text last gathered = record {
   number = last.number;
   tree = tree_by text last.users (numbered_from 0 gathered) last.next;
