@@ -10,6 +10,7 @@ ghost use Rattle.g_store_meaning.specs.Laws.{ClosingBelongs, FilesBelong, Format
 /// Which changes keep disc and rack together: a new version, with other files taken off the disc for it; a file erased,
 /// recorded anew, taken off or brought back; an intent and its dropping; the closing commit of a dump and its adoption;
 /// what a restore makes; and the first directory over reels without a dump.
+#[tactic(auto, using(crate::proofs::ChangeLemmas::files_belong, crate::proofs::ChangeLemmas::intents_belong, crate::proofs::ChangeLemmas::format_belongs))]
 pub fn changes_belong()
     ensures version { NewVersionBelongs }
     ensures files { FilesBelong }
@@ -32,6 +33,7 @@ pub fn one_state()
 
 /// Users who aren't changed keep their directories, which are those of the completed dumps: over a new version, an erasure,
 /// another record, files taken off the disc or brought back, an intent, and other users; and behind the closing of a dump.
+#[tactic(auto, using(crate::proofs::DirectoryLemmas::changes_keep_others, crate::proofs::DirectoryLemmas::others_stay, crate::proofs::DirectoryLemmas::closing_keeps_directories))]
 pub fn directories_stay()
     ensures changes { ChangesKeepOthers }
     ensures others { OthersStay }

@@ -126,21 +126,19 @@ none_above (e ∷ es) user all =
 first_above : (e : ℕ × ℕ) (es : List (ℕ × ℕ)) (user : ℕ) → FitsAt user (e ∷ es) zero → user < e.0
 first_above e es user at = at.above zero e (omega arith) (omega arith)
 
-pub absent : (es : List (ℕ × ℕ)) (user k : ℕ) → FitsAt user es k → find nat_cmp user es ≡ None
-absent es user zero at = (none_above es user (λ k d h. at.above k d (omega arith) h)).0
-absent [] user (suc k) at = absurd (let w = at.within in omega arith)
-absent (e ∷ es) user (suc k) at =
+none_there : (es : List (ℕ × ℕ)) (user k : ℕ) → FitsAt user es k → (find nat_cmp user es ≡ None) × (others_than user es ≡ es)
+none_there es user zero at = none_above es user (λ k d h. at.above k d (omega arith) h)
+none_there [] user (suc k) at = absurd (let w = at.within in omega arith)
+none_there (e ∷ es) user (suc k) at =
     let below : e.0 < user = at.below zero e (omega arith) (omega arith) in
-    let later = absent es user k (fits_later e es user k at) in
-    grind (arith, nat_tests)
+    let later = none_there es user k (fits_later e es user k at) in
+    (let none = later.0 in grind (arith, nat_tests), let same = later.1 in grind (arith, nat_tests))
+
+pub absent : (es : List (ℕ × ℕ)) (user k : ℕ) → FitsAt user es k → find nat_cmp user es ≡ None
+absent es user k at = (none_there es user k at).0
 
 pub drop_absent : (es : List (ℕ × ℕ)) (user k : ℕ) → FitsAt user es k → others_than user es ≡ es
-drop_absent es user zero at = (none_above es user (λ k d h. at.above k d (omega arith) h)).1
-drop_absent [] user (suc k) at = absurd (let w = at.within in omega arith)
-drop_absent (e ∷ es) user (suc k) at =
-    let below : e.0 < user = at.below zero e (omega arith) (omega arith) in
-    let later = drop_absent es user k (fits_later e es user k at) in
-    grind (arith, nat_tests)
+drop_absent es user k at = (none_there es user k at).1
 
 pub placed : (es : List (ℕ × ℕ)) (user modes k : ℕ) → FitsAt user es k → put nat_cmp user modes es ≡ insert es k (user, modes)
 placed [] user modes zero at = refl
