@@ -3,7 +3,6 @@
 //! store, and a store in memory.
 #![tactic(auto)]
 
-mod asking;
 mod calls;
 mod faults;
 mod file_map;
@@ -19,7 +18,6 @@ mod runs;
 mod trap_map;
 mod user_map;
 
-pub use asking::ask;
 pub use calls::{BudgetKind, Listing, StoreCall, StoreReply};
 pub use faults::StoreFault;
 pub use filestore::Filestore;
