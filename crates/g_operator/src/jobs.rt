@@ -9,13 +9,15 @@ ghost use Rattle.g_run_model.specs.Texts as texts;
 
 use crate::day::Day;
 use crate::progress::{Ended, Failure};
-use crate::puts::{say_made, told};
+use crate::puts::{ROOM, put_made, say_made};
 use crate::stopping::{goes_down, refuse_or_go_down};
 use crate::system::{System, take_down};
 use g_base::NoMemory;
 use g_disc::Disc;
 use g_io::Sink;
-use g_job_table::{NewJob, NotTaken, job_text, push_refusal};
+use g_job_table::{NewJob, NotTaken, push_refusal};
+use g_lines::push_decimal;
+use g_monitor::push_number;
 use g_name::{Local, Text, User};
 use g_plain::StoreFault;
 use g_tape::Tapes;
@@ -73,8 +75,9 @@ fn take_job<K: Sink, D: Disc, T: Tapes>(
     let name = job.name.copy();
     match day.crew.take_in(alloc, known, job) {
         Ok(number) => {
-            let made = came_in(alloc, number, &name);
-            told(alloc, day, made, out)
+            let made = came_in(alloc, day.count, number, &name);
+            let failure = put_made(out, made);
+            Ended { day, failure }
         }
         Err(why) => {
             let failure = turned_away(alloc, day.count, why, out);
@@ -101,12 +104,22 @@ pub(crate) fn turned_away<K: Sink>(
     }
 }
 
-/// What is told of a job that came in.
-pub(crate) fn came_in(alloc: Global, number: u64, name: &Local) -> Result<Text, NoMemory>
-    ensures { IfOk result (λ text. text ≡ texts.job_text number (name.now ++ codes " IN")) }
+/// The line that tells of a job that came in, made in one text.
+pub(crate) fn came_in(
+    alloc: Global,
+    count: u64,
+    number: u64,
+    name: &Local,
+) -> Result<Text, NoMemory>
+    ensures { IfOk result (λ text. text ≡ texts.operator_line count (texts.job_text number (name.now ++ codes " IN"))) }
 {
-    let mut text = job_text(alloc, number, name.as_slice())?;
-    text.extend(b" IN")?;
+    let mut text = Text::from(Vec::with_capacity(alloc, ROOM)?);
+    push_decimal(&mut text, count)?;
+    text.extend(b" ")?;
+    push_number(&mut text, b"JOB ", number)?;
+    text.extend(b" ")?;
+    text.extend(name.as_slice())?;
+    text.extend(b" IN\n")?;
     Ok(text)
 }
 

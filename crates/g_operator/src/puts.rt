@@ -91,7 +91,7 @@ pub(crate) fn refuse<K: Sink>(
 }
 
 /// The room that is asked for at once for a line of the operator's: most are shorter.
-const ROOM: usize = 64;
+pub(crate) const ROOM: usize = 64;
 
 /// A line of the operator's.
 pub(crate) fn line(alloc: Global, count: u64, what: &[u8]) -> Result<Text, NoMemory>

@@ -18,7 +18,7 @@ ghost use Rattle.g_run_model.specs.Texts as texts;
 use crate::day::Day;
 use crate::jobs::{came_in, knows, turned_away};
 use crate::progress::{Ended, Failure};
-use crate::puts::{line, put_made, say_made};
+use crate::puts::{put_made, say_made};
 use crate::stopping::refuse_or_go_down;
 use crate::system::System;
 use g_base::NoMemory;
@@ -97,8 +97,7 @@ fn logged_in(
         → text ≡ texts.operator_line count (texts.job_text number (shown.terminal_name terminal ++ codes " IN")) ++ pushed_of job 0) }
 {
     let name = terminal_name(terminal);
-    let how = came_in(alloc, number, &name)?;
-    let mut text = line(alloc, count, how.as_slice())?;
+    let mut text = came_in(alloc, count, number, &name)?;
     crew.push_shown(&mut text, number, 0)?;
     Ok(text)
 }
