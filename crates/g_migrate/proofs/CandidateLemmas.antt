@@ -63,18 +63,16 @@ module _ (files : List File) (recs : List FileRec) (i : ℕ) (r : FileRec) (foun
 
 -- WHETHER A FILE IS ONE, by its record
 three : (a b c : Bool) → (a && b && c) ≡ (if b && c then a else false)
-three true true c = by_last c
+three true b c = chosen_true (b && c)
   where
-    by_last : (c : Bool) → (true && true && c) ≡ (if true && c then true else false)
-    by_last true = refl
-    by_last false = refl
-three true false c = refl
-three false true c = by_last c
+    chosen_true : (x : Bool) → x ≡ (if x then true else false)
+    chosen_true true = refl
+    chosen_true false = refl
+three false b c = chosen_false (b && c)
   where
-    by_last : (c : Bool) → (false && true && c) ≡ (if true && c then false else false)
-    by_last true = refl
-    by_last false = refl
-three false false c = refl
+    chosen_false : (x : Bool) → false ≡ (if x then false else false)
+    chosen_false true = refl
+    chosen_false false = refl
 
 by_tape : (f : File) (r : FileRec) (there dumped : Bool) → f.rec ≡ r → dumped ≡ (nat_lt 0 r.len && is_some r.tape) → there ≡ f.online → (if dumped then there else false) ≡ is_candidate f
 by_tape f r there dumped same tells online =

@@ -7,7 +7,7 @@ use Rattle.std.proofs.lemmas.List.{get_or-map, length-map}
 use Rattle.std.proofs.lemmas.Option.{same_Some}
 use Rattle.std.proofs.lemmas.List.Elements.{All-cons, All-contains, All-nil, Contains-get_or}
 use Rattle.g_disc.specs.Disc.{Causes, DiscState}
-use Rattle.g_disc.proofs.CallLemmas.{Causes-for, stands_later}
+use Rattle.g_disc.proofs.CallLemmas.{Causes-for, Causes-none}
 use Rattle.g_entry.specs.declared.file_rec.FileRec.{FileRec}
 use Rattle.g_entry.specs.declared.file_rec.TapeCopy.{TapeCopy}
 use Rattle.g_entry.specs.declared.user_rec.UserRec.{UserRec}
@@ -86,23 +86,12 @@ may_unload o number live tied used free =
 no_stop : (fault : StoreFault) → fault ≢ Stopped → (let r : Result (Unit {0}) StoreFault = Err fault in r ≡ Err Stopped) → ⊥
 no_stop fault other is = other (let e : fault ≡ Stopped = cc in e)
 
-still : (d : DiscState) (stopped : Type 0) → (stopped → ⊥) → Causes ⊥ stopped d d
-still d stopped never = record {
-  size = refl;
-  arms = refl;
-  later = stands_later refl;
-  reads_kept = λ none. refl;
-  reads_rose = λ none. absurd none;
-  writes_kept = λ none. refl;
-  writes_rose = λ is. absurd (never is);
-}
-
 pub refused : (o : OnlineFacts) (number : ℕ) (fault : StoreFault) → fault ≢ Stopped → IsTied o → HasMigrated number o o (Err fault)
 refused o number fault other tied = record {
   ok = tt;
   stopped = λ is. absurd (no_stop fault other is);
   same = λ _. refl;
-  causes = still o.disc _ (no_stop fault other);
+  causes = Causes-none o.disc (λ none. none) (no_stop fault other);
   tied = tied;
   told = refl;
 }

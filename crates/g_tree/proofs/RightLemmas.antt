@@ -71,3 +71,17 @@ module _ (users : List UserRec) (files : List FileRec) (is : IsRecords users fil
         sym (same_user users r.owner 1 is.each_user is.among_users.names (inr (omega arith))) ∙ ap (same_text (name_of users r.owner)) macros_is in
         let given = sym (modes_found users r.owner r.traps (are_trapped users files r is there) user) in
         (λ i. cond (macros i) (bit_or (given i) 2) (given i))
+
+    -- what answers by the numbered traps answers by those of the tree
+    pub modes_answered : (number : ℕ) (r : FileRec) (user given : ℕ) → get (by_number files) number ≡ Some r
+        → given ≡ cond (r.owner == 1) (bit_or (numbered_modes r.traps r.owner user) 2) (numbered_modes r.traps r.owner user)
+        → IfSome (name_of_file users files number) (λ full. given ≡ modes_of (file_row tree full) full (name_of users user))
+    modes_answered number r user given got same =
+        for_file (λ row full. given ≡ modes_of row full (name_of users user)) number r got (same ∙ modes_by_number r user (numbered_there number r got).0)
+
+    -- a user of a number owns what a user of a name owns
+    pub owner_answered : (number : ℕ) (r : FileRec) (user : ℕ) → get (by_number files) number ≡ Some r
+        → IfSome (name_of_file users files number) (λ full. (user == r.owner) ≡ same_text (name_of users user) full.user)
+    owner_answered number r user got =
+        for_file (λ row full. (user == r.owner) ≡ same_text (name_of users user) full.user) number r got
+        (sym (same_user users user r.owner is.each_user is.among_users.names (inr (owner_used r (numbered_there number r got).0))))
