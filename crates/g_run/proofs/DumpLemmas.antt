@@ -12,6 +12,8 @@ use Rattle.g_plain.specs.declared.faults.StoreFault.TheVariants.{DiscReadFault, 
 use Rattle.g_store_meaning.specs.Reading.{StandsForState, open_of}
 use Rattle.g_store_meaning.specs.StoreInvariant.{DumpFacts, StoreFacts}
 use Rattle.g_store_model.specs.CallStep.{Outcome}
+use Rattle.g_dumper.specs.declared.dump.DumpStep.{DumpStep as Step}
+use Rattle.g_dumper.specs.Steps.{stepped}
 use Rattle.g_store_model.specs.DumpSteps.{Completed, DumpStep, Going, Stepped}
 use Rattle.g_store_model.specs.State.{Holding, OpenDump, State}
 use Rattle.g_store.specs.Dumping.{KeepsDumps, LeavesOpen, StepsAs}
@@ -36,11 +38,12 @@ use Rattle.g_operator.specs.System.{Down, IsNow, SameDevices, StandsAs, SystemFa
 use Rattle.g_operator.specs.Telling.{TellsFault, system_after, without_jobs}
 use Rattle.g_operator.proofs.UpLemmas.{not_spent}
 use Rattle.g_run.specs.Tick.{DidDump, DumpGoes, Falls, KeepsRun, StepsTo, has_dump, phase_behind, share_in}
-use Rattle.g_run.proofs.RackLemmas.{SameMounted, ending_mounts, failing_mounts, shares_still}
+use Rattle.g_run.proofs.KeptLemmas.{none_keeps_run}
+use Rattle.g_run.proofs.RackLemmas.{SameMounted, ending_mounts, failing_mounts, left_named, shares_still}
 use Rattle.g_run.proofs.SteppingLemmas.{stepping_counted}
-use Rattle.g_operator.proofs.GrowLemmas.{grow_itself, grow_stepped}
+use Rattle.g_operator.proofs.GrowLemmas.{grow_stepped}
 use Rattle.g_base.proofs.CountLemmas.{Rose-later}
-use Rattle.g_operator.proofs.LabelLemmas.{labels_with, same_counts, same_itself, same_still, stands_still}
+use Rattle.g_operator.proofs.LabelLemmas.{labels_with, same_counts, same_still, stands_still}
 use Rattle.g_operator.proofs.PutLemmas.{puts_grown, same_grown, with_more-nil}
 
 -- a step never wants memory
@@ -59,6 +62,12 @@ stop_is s k d o u (cut, inl (inr (at, inl is))) = ap (λ (t : State). t.up) is
 stop_is s k d o u (cut, inl (inr (at, inr is))) = ap (λ (t : State). t.up) is
 stop_is s k d o u (cut, inr (last, inl is)) = ap (λ (t : State). t.up) is
 stop_is s k d o u (cut, inr (last, inr is)) = ap (λ (t : State). t.up) is
+
+-- what is said of the step of a dump, by how it came out
+pub as_stepped : (old new : StoreFacts) (x y : Step) → x ≡ y → StepsDump old (Ok (stepped x)) new → StepsAs old (Ok (stepped x)) new → KeepsDumps old (Ok (stepped x)) new
+    → StepsDump old (Ok (stepped y)) new × StepsAs old (Ok (stepped y)) new × KeepsDumps old (Ok (stepped y)) new
+as_stepped old new x y is event steps stay =
+    subst (λ (z : Step). StepsDump old (Ok (stepped z)) new × StepsAs old (Ok (stepped z)) new × KeepsDumps old (Ok (stepped z)) new) is (event, steps, stay)
 
 -- WHAT IS TOLD of a step
 told_store : (n : ℕ) (r : Result Stepped StoreFault) (s : State) (w : World) → (dump_told n r s w).store ≡ s
@@ -102,11 +111,6 @@ module _ (d e : DumpFacts) (o p : OnlineFacts) (r t : Rack) where
   step_mounts (Err Stopped) (plan, inl (failed, is)) = failing_mounts d.plan.serial (d.plan.place + d.done) failed.how r t (ap (λ (x : Rack). x.reels) failed.rack)
   step_mounts (Err Stopped) (plan, inr (last, wrote, closing)) = ending_mounts d.plan.serial (d.plan.place + d.done) wrote.block r t (ap (λ (x : Rack). x.reels) wrote.rack)
   step_mounts (Err fault) step = absurd step
-
-left_named : (how : Remains) (k : ℕ) (r : Reel) → (left_by how k r).serial ≡ r.serial
-left_named Unchanged k r = refl
-left_named Shortened k r = refl
-left_named (Torn block) k r = refl
 
 left_holds : (how : Remains) (k : ℕ) (r : Reel) → (left_by how k r).capacity ≡ r.capacity
 left_holds Unchanged k r = refl
@@ -377,16 +381,7 @@ pub did_nothing : (old : StoreFacts) (c : CrewState) (count : ℕ) → IsReady (
     → DidDump (seen (Up old) c count) None (seen (Up old) c count) before before faults faults
 did_nothing old c count ready taking none before faults = record {
   goes = λ w m. (w, [], inl (record { none = none_open w m.stands; next_is = refl; same = refl; text = refl }), m, sym (with_more-nil before));
-  keeps = record {
-    ready = λ e. (ready, taking);
-    disc_arms = refl;
-    tape_arms = refl;
-    same = same_itself (devices_in (Up old));
-    belongs = λ was. was;
-    dumps = λ was. grow_itself old.rack;
-    cause = refl;
-    numbers = λ e. refl;
-  };
+  keeps = none_keeps_run old c count ready taking faults;
   falls = λ e. let no : has_dump (Up old) ≡ false = ap (λ (d : Option DumpFacts). is_there d) none in
       let zero : one_if (has_dump (Up old)) ≡ one_if false = ap one_if no in omega (arith, zero);
   grows = same_grown before before refl;

@@ -31,7 +31,7 @@ left_mounts Unchanged k r = refl
 left_mounts Shortened k r = refl
 left_mounts (Torn block) k r = refl
 
-left_named : (how : Remains) (k : ℕ) (r : Reel) → (left_by how k r).serial ≡ r.serial
+pub left_named : (how : Remains) (k : ℕ) (r : Reel) → (left_by how k r).serial ≡ r.serial
 left_named Unchanged k r = refl
 left_named Shortened k r = refl
 left_named (Torn block) k r = refl

@@ -9,8 +9,8 @@ use Rattle.g_budget.specs.declared.tariff.Usage.{Usage}
 use Rattle.g_sched.specs.declared.rule.Standing.{Standing}
 use Rattle.g_script.specs.declared.operator.Timed.{Timed}
 use Rattle.g_store_meaning.specs.StoreInvariant.{StoreFacts}
-use Rattle.g_run_model.specs.Moves.{Move, Ticked}
-use Rattle.g_run_model.specs.World.{Between, World}
+use Rattle.g_run_model.specs.Moves.{Move, MovesCounted, Run, Ticked}
+use Rattle.g_run_model.specs.World.{Between, Phase, World}
 use Rattle.g_run_model.proofs.CountLemmas.{event_none, move_counted, moves_then}
 use Rattle.g_run_model.proofs.TickLemmas.{tick_move}
 use Rattle.g_run_model.proofs.TurnLemmas.{run_append}
@@ -21,7 +21,9 @@ use Rattle.g_operator.specs.System.{SystemFacts, Up, devices_in}
 use Rattle.g_run.specs.Tick as ticks
 use Rattle.g_run.specs.Tick.{Comes, DidTick, IsBetween, IsThrough, KeepsRun, MayTick, has_dump, left, some_job_steps}
 use Rattle.g_run.specs.Parts.{Anything, Keeps, Leads, PartGoes, is_past, steps_in, turn_of}
+use Rattle.g_run.specs.Turning.{left_of}
 use Rattle.g_run.proofs.KeepLemmas.{kept_grown}
+use Rattle.g_run.proofs.LeftLemmas.{left_up, seen_up}
 use Rattle.g_run.proofs.PartLemmas.{none_arm}
 use Rattle.g_run.proofs.RestLemmas.{due_is, nothing_is}
 use Rattle.g_run.proofs.SameLemmas.{DidOne}
@@ -38,12 +40,15 @@ keeps_of old new failure faults faults' keeps = record {
 }
 
 module _ {F U : Type 0} (tariffs : Shared F (Bor Usage × Unit {0}) Charge) (tariff : F) (rules : Shared U (Bor Standing × Unit {0}) ℕ) (rule : U) where
-  leads_of : (w : World) (old new : SystemFacts) (moves : List Move) (next : World) (added : List ℕ) → Comes tariffs tariff rules rule w old new moves next added → Leads tariffs tariff rules rule w old new moves next added
-  leads_of w old new moves next added comes = record {
+  -- some moves more, which arm nothing and change the count and the phase alone
+  leads_at : (w : World) (old new : SystemFacts) (moves more : List Move) (next : World) (added : List ℕ) (n : ℕ) (p : Phase) → Comes tariffs tariff rules rule w old new moves next added
+      → (let after : World = record next { count = n; phase = p } in Run tariffs tariff rules rule w more after) → MovesCounted more [] [] (devices_in old) (devices_in new)
+      → (let after : World = record next { count = n; phase = p } in Leads tariffs tariff rules rule w old new more after added)
+  leads_at w old new moves more next added n p comes run counted = record {
     disc_arms = [];
     tape_arms = [];
-    run = comes.run;
-    counted = comes.counted;
+    run = run;
+    counted = counted;
     stands = comes.stands;
     bad = comes.keeps.bad;
     over = comes.keeps.over;
@@ -51,6 +56,9 @@ module _ {F U : Type 0} (tariffs : Shared F (Bor Usage × Unit {0}) Charge) (tar
     tape_stops = comes.keeps.tape_stops ∙ sym (append-nil w.tape_stops);
     text = comes.text;
   }
+
+  leads_of : (w : World) (old new : SystemFacts) (moves : List Move) (next : World) (added : List ℕ) → Comes tariffs tariff rules rule w old new moves next added → Leads tariffs tariff rules rule w old new moves next added
+  leads_of w old new moves next added comes = leads_at w old new moves moves next added next.count next.phase comes comes.run comes.counted
 
   -- the count rises
   abbrev raised : World → World
@@ -58,19 +66,11 @@ module _ {F U : Type 0} (tariffs : Shared F (Bor Usage × Unit {0}) Charge) (tar
 
   leads_raised : (w : World) (old new : SystemFacts) (moves : List Move) (next : World) (added : List ℕ) → Comes tariffs tariff rules rule w old new moves next added → IsThrough next
       → Leads tariffs tariff rules rule w old new (moves ++ Ticked ∷ []) (raised next) added
-  leads_raised w old new moves next added comes through = record {
-    disc_arms = [];
-    tape_arms = [];
-    run = run_append tariffs tariff rules rule w moves (Ticked ∷ []) next (raised next) comes.run (tick_move tariffs tariff rules rule next through.0 through.1);
-    counted = moves_then moves (Ticked ∷ []) [] [] [] [] (devices_in old) (devices_in new) (devices_in new) comes.counted
-        (move_counted Ticked [] [] (devices_in new) (devices_in new) (event_none (devices_in new)));
-    stands = comes.stands;
-    bad = comes.keeps.bad;
-    over = comes.keeps.over;
-    disc_stops = comes.keeps.disc_stops ∙ sym (append-nil w.disc_stops);
-    tape_stops = comes.keeps.tape_stops ∙ sym (append-nil w.tape_stops);
-    text = comes.text;
-  }
+  leads_raised w old new moves next added comes through =
+      leads_at w old new moves (moves ++ Ticked ∷ []) next added (next.count + 1) Between comes
+      (run_append tariffs tariff rules rule w moves (Ticked ∷ []) next (raised next) comes.run (tick_move tariffs tariff rules rule next through.0 through.1))
+      (moves_then moves (Ticked ∷ []) [] [] [] [] (devices_in old) (devices_in new) (devices_in new) comes.counted
+      (move_counted Ticked [] [] (devices_in new) (devices_in new) (event_none (devices_in new))))
 
   module _ (limit : Option ℕ) (old : StoreFacts) (c : CrewState) (count : ℕ) (ready : IsReady (Up old) c) (undue : is_past limit count ≡ false) (steps : steps_in (seen (Up old) c count) ≡ true)
       (new : SystemFacts) (c' : CrewState) (before after : Option (List ℕ)) (faults faults' : ℕ) where
@@ -155,3 +155,12 @@ module _ {F U : Type 0} (tariffs : Shared F (Bor Usage × Unit {0}) Charge) (tar
         by None tick more =
             subst (λ (m : ℕ). DidOne tariffs tariff rules rule limit (seen (Up old) c count) None (seen new c' m) before after faults faults') (sym (more refl)) (ticked tick)
         by (Some fault) tick more = failed n fault tick
+
+  -- the same where the system was seen by the store that it has left
+  pub one_here : (limit : Option ℕ) (old : StoreFacts) (c : CrewState) (count : ℕ) → old.spent ≡ false → IsReady (left_of old) c → is_past limit count ≡ false → steps_in (seen (Up old) c count) ≡ true
+      → (new : SystemFacts) (c' : CrewState) (before after : Option (List ℕ)) (faults faults' : ℕ) (failure : Option Failure)
+      → DidTick tariffs tariff rules rule (seen (Up old) c count) failure (seen new c' count) before after faults faults' → (n : ℕ) → (failure ≡ None → n ≡ count + 1)
+      → DidOne tariffs tariff rules rule limit (seen (left_of old) c count) failure (seen new c' n) before after faults faults'
+  one_here limit old c count running ready undue steps new c' before after faults faults' failure did n counts =
+      subst (λ (s : Seen). DidOne tariffs tariff rules rule limit s failure (seen new c' n) before after faults faults') (sym (seen_up old c count running))
+      (one_did limit old c count (subst (λ (f : SystemFacts). IsReady f c) (left_up old running) ready) undue steps new c' before after faults faults' failure did failure n refl counts)

@@ -1,17 +1,13 @@
-use Rattle.std.proofs.Common.{◌++◌, Err, Ok, Result, sym, ◌∙◌, ap, subst}
+use Rattle.std.proofs.Common.{◌++◌, Err, Result, sym, ◌∙◌, ap}
 use Rattle.std.specs.Prelude.{codes}
 use Rattle.std.proofs.lemmas.Bool.{false≢true}
-use Rattle.g_dumper.specs.declared.dump.DumpStep.{DumpStep}
-use Rattle.g_dumper.specs.Steps.{stepped}
 use Rattle.g_monitor.specs.Refusals.{fault_line}
 use Rattle.g_plain.specs.declared.faults.StoreFault.{StoreFault}
 use Rattle.g_store_model.specs.DumpSteps.{Stepped}
-use Rattle.g_store.specs.Dumping.{KeepsDumps, StepsAs}
-use Rattle.g_store.specs.Events.{StepsDump}
 use Rattle.g_run_model.specs.Texts.{dump_text}
 use Rattle.g_operator.specs.Parts.{seen}
 use Rattle.g_operator.specs.System.{SystemFacts}
-use Rattle.g_run.proofs.DumpLemmas.{did_completed, did_fails, did_going, did_lost, one_fault, some_there}
+use Rattle.g_run.proofs.DumpLemmas.{as_stepped, did_completed, did_fails, did_going, did_lost, one_fault, some_there}
 use Rattle.g_run.proofs.LeftLemmas.{left_fault, seen_up, unstopped}
 use Rattle.g_run.proofs.SameLemmas.{same_dump}
 use Rattle.g_run.proofs.dumping.step.Goals as goal
@@ -21,17 +17,13 @@ dump_step-requires-clause-open g c = some_there c.args.up.now.store.running.dump
 
 pub returns-in-Ok-Going-clause-did : goal.returns-in-Ok-Going-clause-did
 returns-in-Ok-Going-clause-did g c =
-    let event = subst (λ (x : DumpStep). StepsDump c.args.up.now.store.running (Ok (stepped x)) c.dump_step.new.self.running) c.in-Ok-Going.field-0-is c.in-Ok-Going.ensures.event in
-    let steps = subst (λ (x : DumpStep). StepsAs c.args.up.now.store.running (Ok (stepped x)) c.dump_step.new.self.running) c.in-Ok-Going.field-0-is c.in-Ok-Going.ensures.steps in
-    let stay = subst (λ (x : DumpStep). KeepsDumps c.args.up.now.store.running (Ok (stepped x)) c.dump_step.new.self.running) c.in-Ok-Going.field-0-is c.in-Ok-Going.ensures.dumps in
+    let (event, steps, stay) = as_stepped c.args.up.now.store.running c.dump_step.new.self.running _ _ c.in-Ok-Going.field-0-is c.in-Ok-Going.ensures.event c.in-Ok-Going.ensures.steps c.in-Ok-Going.ensures.dumps in
     same_dump (seen_up c.dump_step.new.self.running c.args.up.now.crew c.args.up.now.count (unstopped c.dump_step.new.self.running.spent _ event.spent (λ e. let no : ⊥ = cc in no)))
     (did_going c.args.up.now.store.running c.dump_step.new.self.running c.requires.ready.0 c.args.up.now.crew c.args.up.now.count event steps stay c.requires.open (g.K.Sink.written c.args.out.now) (g.K.Sink.faults c.args.out.now))
 
 pub returns-in-Ok-Completed-clause-did : goal.returns-in-Ok-Completed-clause-did
 returns-in-Ok-Completed-clause-did g c =
-    let event = subst (λ (x : DumpStep). StepsDump c.args.up.now.store.running (Ok (stepped x)) c.dump_step.new.self.running) c.in-Ok-Completed.field-0-is c.in-Ok-Completed.ensures.event in
-    let steps = subst (λ (x : DumpStep). StepsAs c.args.up.now.store.running (Ok (stepped x)) c.dump_step.new.self.running) c.in-Ok-Completed.field-0-is c.in-Ok-Completed.ensures.steps in
-    let stay = subst (λ (x : DumpStep). KeepsDumps c.args.up.now.store.running (Ok (stepped x)) c.dump_step.new.self.running) c.in-Ok-Completed.field-0-is c.in-Ok-Completed.ensures.dumps in
+    let (event, steps, stay) = as_stepped c.args.up.now.store.running c.dump_step.new.self.running _ _ c.in-Ok-Completed.field-0-is c.in-Ok-Completed.ensures.event c.in-Ok-Completed.ensures.steps c.in-Ok-Completed.ensures.dumps in
     same_dump (seen_up c.dump_step.new.self.running c.args.up.now.crew c.args.up.now.count (unstopped c.dump_step.new.self.running.spent _ event.spent (λ e. let no : ⊥ = cc in no)))
     (did_completed c.args.up.now.store.running c.dump_step.new.self.running c.requires.ready.0 c.args.up.now.crew c.args.up.now.count c.in-Ok-Completed.done event steps stay c.requires.open c.say_made.result (g.K.Sink.written c.args.out.now) (g.K.Sink.written c.say_made.new.out) (g.K.Sink.faults c.args.out.now) (g.K.Sink.faults c.say_made.new.out)
     (c.say_made.ensures (dump_text c.in-Ok-Completed.done (codes "COMPLETED")) c.dump_text-made.ensures))

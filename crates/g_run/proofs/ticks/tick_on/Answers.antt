@@ -1,12 +1,11 @@
-use Rattle.std.proofs.Common.{None, Option, ℕ, ◌<◌, ◌+◌, ◌∙◌, refl, sym, ap, subst, true≢false}
+use Rattle.std.proofs.Common.{None, Option, ℕ, ◌<◌, ◌+◌, ◌∙◌, sym, ap, subst, true≢false}
 use Rattle.g_operator.specs.declared.progress.Failure.{Failure}
 use Rattle.g_operator.specs.Parts.{IsReady, Seen, seen}
 use Rattle.g_operator.specs.System.{SystemFacts, Up}
 use Rattle.g_run.specs.Parts.{Anything, DidTicks, HasRoom, IsAtRest}
 use Rattle.g_run.specs.Turning.{left_of}
 use Rattle.g_run.proofs.LeftLemmas.{left_up, seen_up}
-use Rattle.g_run.proofs.SameLemmas.{DidOne}
-use Rattle.g_run.proofs.TickedLemmas.{one_did}
+use Rattle.g_run.proofs.TickedLemmas.{one_here}
 use Rattle.g_run.proofs.UntilLemmas.{room_one, room_then, ticks_end, ticks_fall, ticks_more, ticks_start}
 use Rattle.g_run.proofs.ticks.tick_on.Goals as goal
 
@@ -52,13 +51,9 @@ ticks-preserved g c =
     let up = c.ticks.up in
     let new = c.tick-failure.new.up in
     let so_far = rw yes.0 at c.ticks.invariant.did in
-    let ready = subst (λ (f : SystemFacts). IsReady f up.crew) (left_up up.store.running yes.2) (c.ticks.invariant.did.keeps.ready yes.0).0 in
-    let done = one_did g.F.Fn c.args.rules.now.tariff.now g.U.Fn c.args.rules.now.weigh.now c.args.limit up.store.running up.crew up.count ready yes.1 yes.3 (left_of new.store.running) new.crew
+    let one = one_here g.F.Fn c.args.rules.now.tariff.now g.U.Fn c.args.rules.now.weigh.now c.args.limit up.store.running up.crew up.count yes.2 (c.ticks.invariant.did.keeps.ready yes.0).0 yes.1 yes.3 (left_of new.store.running) new.crew
     (g.K.Sink.written c.ticks.out) (g.K.Sink.written c.tick-failure.new.out) (g.K.Sink.faults c.ticks.out) (g.K.Sink.faults c.tick-failure.new.out)
-    c.tick-failure.result c.tick-failure.ensures.did c.tick-failure.result c.counted.result refl (λ none. c.counted.ensures none ∙ ap (λ (n : ℕ). n + 1) c.tick-failure.ensures.count) in
-    let one = subst (λ (s : Seen). DidOne g.F.Fn c.args.rules.now.tariff.now g.U.Fn c.args.rules.now.weigh.now c.args.limit s c.tick-failure.result (seen (left_of new.store.running) new.crew c.counted.result)
-    (g.K.Sink.written c.ticks.out) (g.K.Sink.written c.tick-failure.new.out) (g.K.Sink.faults c.ticks.out) (g.K.Sink.faults c.tick-failure.new.out))
-    (sym (seen_up up.store.running up.crew up.count yes.2)) done in record {
+    c.tick-failure.result c.tick-failure.ensures.did c.counted.result (λ none. c.counted.ensures none ∙ ap (λ (n : ℕ). n + 1) c.tick-failure.ensures.count) in record {
       did = ticks_more g.F.Fn c.args.rules.now.tariff.now g.U.Fn c.args.rules.now.weigh.now c.args.limit _ _ _ _ _ _ _ _ _ _ so_far one;
       room = λ none. room_then c.args.limit _ _ (c.ticks.invariant.room yes.0) (one.counts none) (one.falls none);
       weighed = c.tick-failure.ensures.weighed;
@@ -70,13 +65,9 @@ ticks-smaller g c =
     let yes = c.goes_on.ensures.yes c.ticks-test.true in
     let up = c.ticks.up in
     let new = c.tick-failure.new.up in
-    let ready = subst (λ (f : SystemFacts). IsReady f up.crew) (left_up up.store.running yes.2) (c.ticks.invariant.did.keeps.ready yes.0).0 in
-    let done = one_did g.F.Fn c.args.rules.now.tariff.now g.U.Fn c.args.rules.now.weigh.now c.args.limit up.store.running up.crew up.count ready yes.1 yes.3 (left_of new.store.running) new.crew
+    let one = one_here g.F.Fn c.args.rules.now.tariff.now g.U.Fn c.args.rules.now.weigh.now c.args.limit up.store.running up.crew up.count yes.2 (c.ticks.invariant.did.keeps.ready yes.0).0 yes.1 yes.3 (left_of new.store.running) new.crew
     (g.K.Sink.written c.ticks.out) (g.K.Sink.written c.tick-failure.new.out) (g.K.Sink.faults c.ticks.out) (g.K.Sink.faults c.tick-failure.new.out)
-    c.tick-failure.result c.tick-failure.ensures.did c.tick-failure.result c.counted.result refl (λ none. c.counted.ensures none ∙ ap (λ (n : ℕ). n + 1) c.tick-failure.ensures.count) in
-    let one = subst (λ (s : Seen). DidOne g.F.Fn c.args.rules.now.tariff.now g.U.Fn c.args.rules.now.weigh.now c.args.limit s c.tick-failure.result (seen (left_of new.store.running) new.crew c.counted.result)
-    (g.K.Sink.written c.ticks.out) (g.K.Sink.written c.tick-failure.new.out) (g.K.Sink.faults c.ticks.out) (g.K.Sink.faults c.tick-failure.new.out))
-    (sym (seen_up up.store.running up.crew up.count yes.2)) done in
+    c.tick-failure.result c.tick-failure.ensures.did c.counted.result (λ none. c.counted.ensures none ∙ ap (λ (n : ℕ). n + 1) c.tick-failure.ensures.count) in
     ticks_fall c.ticks.failure c.tick-failure.result _ _ yes.0 one.falls
 
 pub returns : goal.returns
