@@ -9,9 +9,8 @@ mod words;
 
 use crate::answer::answer;
 pub use answer::look;
-use g_devices::{texts_of, words_of};
+use g_devices::{placeholders, texts_of, words_of};
 pub use status::Status;
-use std::fs::File;
 use std::process::ExitCode;
 pub use words::{Asked, asked_by};
 
@@ -28,11 +27,6 @@ pub fn run_program(rt: &HostRuntime) -> ExitCode {
     let Ok(words) = texts_of(rt.alloc(), &words) else {
         return ExitCode::from(Status::NoMemory.code());
     };
-    let _placeholders = (placeholder(rt), placeholder(rt), placeholder(rt));
+    let _placeholders = placeholders(rt);
     ExitCode::from(answer(rt, &words))
-}
-
-/// A file that takes the place of a standard stream that was closed, so that no image or reel does.
-fn placeholder(rt: &HostRuntime) -> Option<File> {
-    File::open(rt, "/dev/null").ok()
 }

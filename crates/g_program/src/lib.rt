@@ -7,10 +7,9 @@ mod rules;
 mod telling;
 
 use crate::answer::answer;
-use g_devices::{texts_of, words_of};
+use g_devices::{placeholders, texts_of, words_of};
 use g_run::Status;
 pub use rules::run_by_rules;
-use std::fs::File;
 use std::process::ExitCode;
 
 /// Does what the words of the command line ask for. The word `run` runs the script of standard input on the image
@@ -28,12 +27,6 @@ pub fn run_program(rt: &HostRuntime) -> ExitCode {
     let Ok(words) = texts_of(rt.alloc(), &words) else {
         return ExitCode::from(Status::NoMemory.code());
     };
-    let _placeholders = (placeholder(rt), placeholder(rt), placeholder(rt));
+    let _placeholders = placeholders(rt);
     ExitCode::from(answer(rt, &words))
-}
-
-/// A file that takes the place of a standard stream that was closed: nothing can be read from it, and nothing written
-/// to it. Where there is none the image would take that place, and is refused (`claim`).
-fn placeholder(rt: &HostRuntime) -> Option<File> {
-    File::open(rt, "/dev/null").ok()
 }
