@@ -56,7 +56,7 @@ impl<D: Disc, T: Tapes> DayUp<D, T> {
     }
 
     /// The same where there may be such users.
-    fn open_each(&mut self) -> Result<(), NoMemory>
+    pub(crate) fn open_each(&mut self) -> Result<(), NoMemory>
         requires running { self.old.store.running.spent ≡ false }
         ensures opens { OnOk result (Opens self.old.store.running.online.contents.users self.old.crew self.new.crew) }
         ensures accounts { OnOk result (HaveAll self.new.store self.new.crew) }

@@ -64,6 +64,30 @@ fn end_untold<K: Sink, D: Disc, T: Tapes>(
     ensures accounts { result ≡ None → up.new.store.running.spent ≡ false → HaveAll up.new.store up.new.crew }
 {
     match turn {
+        Turn::Ran { .. } => goes_on(up),
+        other => end_any(alloc, up, number, other, out),
+    }
+}
+
+/// The same, however the turn ended.
+// Nearly each turn ends as Ran, which is asked for first: a function of its own keeps the others out of it.
+#[inline(never)]
+fn end_any<K: Sink, D: Disc, T: Tapes>(
+    alloc: Global,
+    up: &mut DayUp<D, T>,
+    number: u64,
+    turn: Turn,
+    out: &mut K,
+) -> Option<Failure>
+    requires stopped { (up.old.store.running.spent ≡ true) ↔ (turn ≡ Turn.Broken) }
+    requires there { (job : JobState) × (job_in number up.old.crew.jobs ≡ Some job) × (job.terminal ≡ None) }
+    requires accounts { HaveAll up.old.store up.old.crew }
+    ensures ends { EndsTurn up.old.count number up.old.store.running up.old.crew [] turn result (left_of up.new.store.running) up.new.crew
+        (K.written out.old) (K.written out.new) (K.faults out.old) (K.faults out.new) }
+    ensures count { up.new.count ≡ up.old.count }
+    ensures accounts { result ≡ None → up.new.store.running.spent ≡ false → HaveAll up.new.store up.new.crew }
+{
+    match turn {
         Turn::Broken => stops(alloc, up, out),
         Turn::Wants { serial } => waits(alloc, up, number, serial, out),
         Turn::Ran { .. } => goes_on(up),
@@ -96,9 +120,13 @@ fn goes_on<D: Disc, T: Tapes>(up: &mut DayUp<D, T>) -> Option<Failure>
     ensures count { up.new.count ≡ up.old.count }
     ensures accounts { result ≡ None → up.new.store.running.spent ≡ false → HaveAll up.new.store up.new.crew }
 {
-    match up.open_accounts() {
-        Ok(()) => None,
-        Err(NoMemory) => Some(Failure::Memory),
+    if up.store.asked() {
+        match up.open_each() {
+            Ok(()) => None,
+            Err(NoMemory) => Some(Failure::Memory),
+        }
+    } else {
+        None
     }
 }
 
