@@ -4,10 +4,11 @@ ghost use Rattle.g_name.specs.Grammar.{is_lang};
 
 use crate::grammar;
 use arrayvec::ArrayVec;
+use std::hash::{Hash, Hasher};
 use std::marker::Model;
 
 /// The language of a file without the spaces behind it: up to 4 of `A` to `Z`, `0` to `9` and `-`. The empty one is the language of four spaces.
-#[derive(Debug, Drop, PartialEq, Eq, PartialOrd, Ord, Hash)]
+#[derive(Debug, Drop, PartialEq, Eq, PartialOrd, Ord)]
 pub struct Lang {
     characters: ArrayVec<u8, 4>,
 }
@@ -23,6 +24,21 @@ impl Model for Lang {
     ghost invariant = { λ l. is_lang l.characters.items ≡ true };
 
     ghost inverse = { λ xs. record { characters = record { items = xs } } };
+}
+
+/// All bytes at once: that of an `ArrayVec` goes byte by byte.
+impl Hash for Lang {
+    ghost use Rattle.std.specs.Prelude.{[], ◌∷◌};
+    ghost use Rattle.std.specs.Cmp.Rules.{hashing};
+    ghost use Rattle.std.proofs.Common.{rules};
+
+    ghost hash_input = { λ l. l ∷ [] };
+
+    ghost respects_eq = { Prim.search (hashing, rules) };
+
+    fn hash<H: Hasher>(&self, state: &mut H) {
+        state.write(self.characters.as_slice());
+    }
 }
 
 impl Lang {

@@ -6,10 +6,11 @@ ghost use Rattle.g_name.specs.Names.{IsUserText};
 
 use crate::{BadName, grammar};
 use arrayvec::ArrayVec;
+use std::hash::{Hash, Hasher};
 use std::marker::Model;
 
 /// The name of a user without its colon: 1 to 12 of `A` to `Z`, `0` to `9` and `-`, the first a letter. Names are in the order of their bytes.
-#[derive(Debug, Drop, PartialEq, Eq, PartialOrd, Ord, Hash)]
+#[derive(Debug, Drop, PartialEq, Eq, PartialOrd, Ord)]
 pub struct User {
     word: ArrayVec<u8, 12>,
 }
@@ -25,6 +26,21 @@ impl Model for User {
     ghost invariant = { λ u. is_word u.word.items ≡ true };
 
     ghost inverse = { λ xs. record { word = record { items = xs } } };
+}
+
+/// All bytes at once: that of an `ArrayVec` goes byte by byte.
+impl Hash for User {
+    ghost use Rattle.std.specs.Prelude.{[], ◌∷◌};
+    ghost use Rattle.std.specs.Cmp.Rules.{hashing};
+    ghost use Rattle.std.proofs.Common.{rules};
+
+    ghost hash_input = { λ u. u ∷ [] };
+
+    ghost respects_eq = { Prim.search (hashing, rules) };
+
+    fn hash<H: Hasher>(&self, state: &mut H) {
+        state.write(self.word.as_slice());
+    }
 }
 
 impl User {

@@ -28,10 +28,10 @@ module _ (users : List UserRec) (files : List FileRec) (bytes : FileRec → List
   abbrev tree : Tree
   tree = tree_of users files bytes next
 
-  pub input_given : (full : Full) (g : ℕ) → full ≡ named who path 0 → path.generation ≡ Some g → with_generation full g ≡ input_name tree who path
+  pub input_given : (full : Full) (g : ℕ) → full ≡ named who path 1 → path.generation ≡ Some g → with_generation full g ≡ input_name tree who path
   input_given full g is given = (λ i. with_generation (is i) g) ∙ ap (λ o. named who path (unwrap_or o (newest tree who path))) (sym given)
 
-  pub input_newest : (full : Full) (g : ℕ) → IsRecords users files → full ≡ named who path 0 → path.generation ≡ None → g ≡ newest_of users full files → with_generation full g ≡ input_name tree who path
+  pub input_newest : (full : Full) (g : ℕ) → IsRecords users files → full ≡ named who path 1 → path.generation ≡ None → g ≡ newest_of users full files → with_generation full g ≡ input_name tree who path
   input_newest full g rules is none newest_there =
       (λ i. with_generation (is i) g)
       ∙ ap (named who path) (newest_there ∙ ap (λ f. newest_of users f files) is ∙ sym (newest_is users files bytes next who path rules))
@@ -66,21 +66,21 @@ module _ (users : List UserRec) (files : List FileRec) (bytes : FileRec → List
       (inside, sym (file_there users files bytes next (output_name tree who path)) ∙ ap (λ f. is_some (number_of users files f)) (sym is) ∙ ap is_some found.0, found.1 ∙ ap (λ f. f.generation) is)
   output_found full NoGeneration found is inside = absurd found
 
-  pub output_given : (full : Full) (g : ℕ) (output : Output) → full ≡ named who path 0 → path.generation ≡ Some g → IsFileOrNew users files (with_generation full g) output → IsOutput users files who path tree output
+  pub output_given : (full : Full) (g : ℕ) (output : Output) → full ≡ named who path 1 → path.generation ≡ Some g → IsFileOrNew users files (with_generation full g) output → IsOutput users files who path tree output
   output_given full g output is given found =
       output_found (with_generation full g) output found
       ((λ i. with_generation (is i) g) ∙ ap (λ o. named who path (unwrap_or o (newest tree who path + 1))) (sym given))
       (ap (λ o. is_none o && (newest tree who path == 4095)) given)
 
-  pub newest_there : (full : Full) → IsRecords users files → full ≡ named who path 0 → newest_of users full files ≡ newest tree who path
+  pub newest_there : (full : Full) → IsRecords users files → full ≡ named who path 1 → newest_of users full files ≡ newest tree who path
   newest_there full rules is = ap (λ f. newest_of users f files) is ∙ sym (newest_is users files bytes next who path rules)
 
-  pub output_newest : (full : Full) (n : ℕ) → IsRecords users files → full ≡ named who path 0 → path.generation ≡ None → n ≡ newest_of users full files → with_generation full (n + 1) ≡ output_name tree who path
+  pub output_newest : (full : Full) (n : ℕ) → IsRecords users files → full ≡ named who path 1 → path.generation ≡ None → n ≡ newest_of users full files → with_generation full (n + 1) ≡ output_name tree who path
   output_newest full n rules is none top =
       (λ i. with_generation (is i) (n + 1)) ∙ ap (λ m. named who path (m + 1)) (top ∙ newest_there full rules is)
       ∙ ap (λ o. named who path (unwrap_or o (newest tree who path + 1))) (sym none)
 
-  pub output_next : (full : Full) (n : ℕ) (output : Output) → IsRecords users files → full ≡ named who path 0 → path.generation ≡ None → n ≡ newest_of users full files → n ≢ 4095
+  pub output_next : (full : Full) (n : ℕ) (output : Output) → IsRecords users files → full ≡ named who path 1 → path.generation ≡ None → n ≡ newest_of users full files → n ≢ 4095
       → IsFileOrNew users files (with_generation full (n + 1)) output → IsOutput users files who path tree output
   output_next full n output rules is none top below found =
       let same : n ≡ newest tree who path = top ∙ newest_there full rules is in

@@ -1,5 +1,5 @@
 -- How records and the tree change together.
-use Rattle.std.proofs.Common.{◌≡◌, ◌≢◌, ℕ, suc, ◌+◌, ◌<◌, ◌≤◌, ◌==◌, true, false, cond, not, List, [], ◌∷◌, ◌++◌, length, map, filter, take, drop, get_or, Some, None, sym, ap, subst, ◌∙◌, arith}
+use Rattle.std.proofs.Common.{◌≡◌, ◌≢◌, ℕ, suc, ◌+◌, ◌<◌, ◌≤◌, ◌==◌, true, false, cond, not, List, [], ◌∷◌, ◌++◌, length, map, filter, take, drop, get_or, Some, None, sym, ap, ◌∙◌, arith}
 use Rattle.std.specs.List.{All, remove as remove_at}
 use Rattle.std.proofs.lemmas.Bool.Decides.{nat_tests}
 use Rattle.std.proofs.lemmas.List.Edits.{length-remove}
@@ -23,7 +23,7 @@ use Rattle.g_tree.specs.Places.{StandsAt}
 use Rattle.g_tree.proofs.PlaceLemmas.{numbered_apart, stands_found}
 use Rattle.g_tree.proofs.MapLemmas.{keyed, AreApart, none_found, find_valued, with_value, made_without}
 use Rattle.g_tree.proofs.ListLemmas.{map_of_map, filter_whole, around}
-use Rattle.g_tree.proofs.RecordLemmas.{IsIndexed, names_apart}
+use Rattle.g_tree.proofs.RecordLemmas.{names_apart}
 
 -- an element is none of those before it
 pub before_apart : {A K : Type 0} (key : A → K) (xs : List A) (i : ℕ) (d : A) → AreApart key xs → i < length xs → All (λ y. key (get_or xs i d) ≢ key y) (take i xs)
@@ -130,12 +130,3 @@ module _ (users : List UserRec) (files : List FileRec) (is : IsRecords users fil
         → tree_of users (remove_at files place) bytes next ≡ record (tree_of users files bytes next) { files = without_number users files number (tree_of users files bytes next).files }
     removed_tree bytes next d =
         ap (λ m. record (tree_of users files bytes next) { files = m }) (removed_map (file_row_of users bytes) d ∙ sym (without_is d (tree_of users files bytes next).files))
-
-    -- the index without the name
-    pub erased : (kept : List FileRec) (r : FileRec) (full : Full) (old new : FinMap full_cmp ℕ) → old ≡ from_entries (map (λ s. (full_of users s, s.number)) files) → kept ≡ remove_at files place → r ≡ get_or files place r
-        → full ≡ full_of users r → new ≡ remove old full → IsIndexed users kept new
-    erased kept r full old new index is_kept here named less = record {
-      records = subst (IsRecords users) (sym is_kept) (removed_rules place at.within);
-      index = less ∙ (λ i. remove (index i) (named i)) ∙ ap (λ s. remove (from_entries (map (λ s. (full_of users s, s.number)) files)) (full_of users s)) here
-          ∙ sym (removed_map (λ s. s.number) r) ∙ ap (λ fs. from_entries {R = full_cmp} (map (λ s. (full_of users s, s.number)) fs)) (sym is_kept);
-    }

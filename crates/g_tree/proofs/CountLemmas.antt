@@ -1,129 +1,29 @@
 -- What is remembered of files: the greatest generations by name, and the blocks by owner.
-use Rattle.std.proofs.Common.{◌≡◌, ◌≢◌, ℕ, zero, suc, ◌+◌, ◌-◌, ◌<◌, ◌≤◌, ◌==◌, Bool, true, false, cond, ◌&&◌, List, [], ◌∷◌, ◌++◌, length, max, min, nat_lt, take, drop, get_or, replicate, Option, Some, None, is_some, unwrap_or, inl, inr, refl, sym, ap, subst, ◌∙◌, arith, true≢false}
+use Rattle.std.proofs.Common.{◌≡◌, ◌≢◌, ℕ, zero, suc, ◌+◌, ◌-◌, ◌<◌, ◌≤◌, ◌==◌, Bool, true, false, cond, List, [], ◌∷◌, ◌++◌, length, max, take, drop, get_or, replicate, Option, Some, None, is_some, inl, inr, refl, sym, ap, subst, ◌∙◌, arith, true≢false}
 use Rattle.std.proofs.Math.ListN.{set}
 use Rattle.std.specs.List.{All, Contains}
 use Rattle.std.specs.List as list
-use Rattle.std.specs.Option.{option_map}
-use Rattle.std.specs.Ordering.{eq_by_cmp}
-use Rattle.std.specs.Cmp.{eq_by_cmp_equiv}
-use Rattle.std.specs.FinMap.{FinMap, get, insert, remove, empty, get-empty, get-insert, get-remove}
+use Rattle.std.specs.FinMap.{FinMap, empty, get-empty}
+use Rattle.std.proofs.lemmas.Bool.{cases_lt}
 use Rattle.std.proofs.lemmas.Bool.Decides.{nat_tests}
-use Rattle.std.proofs.lemmas.List.{length-set, get_or-set_same, get_or-set_other, set_split, take-append-drop, take_more, append-nil, length-take-le, length-drop, take_all, get_or_default}
+use Rattle.std.proofs.lemmas.List.{length-set, get_or-set_same, get_or-set_other, set_split, take-append-drop, take_more, append-nil, length-take-le, length-drop, take_all}
 use Rattle.std.proofs.lemmas.List.Elements.{All-head, All-tail, All-append, All-take, Contains-append_left, Contains-append_right, Contains-append_cases}
 use Rattle.std.proofs.lemmas.List.Sums.{sum_by-cons, sum_by-append, sum_by-remove, sum_by-insert, sum_by-set, sum_by-le}
 use Rattle.g_base.specs.Block.{blocks_for}
 use Rattle.g_name.specs.declared.full.Full.{Full}
-use Rattle.g_name.specs.Order.{full_cmp, same_text}
-use Rattle.g_name.proofs.Order.{full_total, full_ties}
+use Rattle.g_name.specs.Order.{full_cmp}
 use Rattle.g_entry.specs.declared.user_rec.UserRec.{UserRec}
 use Rattle.g_entry.specs.declared.file_rec.FileRec.{FileRec}
 use Rattle.g_plain.specs.PlainTree.{is_version_of}
-use Rattle.g_plain.proofs.Found.{tied_are}
-use Rattle.g_plain.proofs.TextMaps.{full_exact}
 use Rattle.g_tree.specs.Records.{IsRecords, full_of, number_of}
-use Rattle.g_tree.specs.State.{versions_of, later, newest_in, HasNewest, used_of, AreNewest, AreUsed}
+use Rattle.g_tree.specs.State.{versions_of, later, newest_at, newest_in, number_in, HasNewest, used_of, AreIndexed, AreNewest, AreUsed}
+use Rattle.g_tree.specs.declared.index.NameEntry.{NameEntry}
 use Rattle.g_tree.specs.Answers.{newest_of}
+use Rattle.g_tree.proofs.EntryLemmas.{at_generation, indexed_number, later_none, later_some, one_version, version_itself}
 use Rattle.g_tree.proofs.ListLemmas.{greatest, fold_greatest, around, contains_cases}
 use Rattle.g_tree.proofs.RecordLemmas.{names_apart}
 use Rattle.g_tree.proofs.ChangeLemmas.{before_apart, behind_apart, removed_rules}
 use Rattle.g_tree.proofs.PutLemmas.{named_found}
-use Rattle.g_tree.proofs.RightLemmas.{found_named}
-
--- the map of generations
-
-three : (a b c : Bool) → (a && (b && c)) ≡ (a && b && c)
-three true b c = refl
-three false b c = refl
-
-pub same_versions : (q f : Full) → eq_by_cmp full_cmp (versions_of q) (versions_of f) ≡ is_version_of q f
-same_versions q f = sym (full_ties (versions_of q) (versions_of f)) ∙ three (same_text q.user f.user) (same_text q.local f.local) (same_text q.lang f.lang)
-
-pub one_version : (q f : Full) → is_version_of q f ≡ true → versions_of q ≡ versions_of f
-one_version q f e = tied_are full_total full_exact (versions_of q) (versions_of f) (same_versions q f ∙ e)
-
-pub version_itself : (f : Full) → is_version_of f f ≡ true
-version_itself f = sym (same_versions f f) ∙ (eq_by_cmp_equiv full_total).refl (versions_of f)
-
-or_none : (b : Bool) (x y : Option ℕ) → unwrap_or (cond b x y) 0 ≡ cond b (unwrap_or x 0) (unwrap_or y 0)
-or_none true x y = refl
-or_none false x y = refl
-
-pub newest_inserted : (m : FinMap full_cmp ℕ) (full : Full) (n : ℕ) → HasNewest m (insert m (versions_of full) n) full n
-newest_inserted m full n = λ q.
-    ap (λ o. unwrap_or o 0) (get-insert full_total m (versions_of full) n (versions_of q) ∙ ap (λ b. cond b (Some n) (get m (versions_of q))) (same_versions q full))
-    ∙ or_none (is_version_of q full) (Some n) (get m (versions_of q))
-
-pub newest_removed : (m : FinMap full_cmp ℕ) (full : Full) → HasNewest m (remove m (versions_of full)) full 0
-newest_removed m full = λ q.
-    ap (λ o. unwrap_or o 0) (get-remove full_total m (versions_of full) (versions_of q) ∙ ap (λ b. cond b None (get m (versions_of q))) (same_versions q full))
-    ∙ or_none (is_version_of q full) None (get m (versions_of q))
-
--- what is there already
-pub newest_stays : (m : FinMap full_cmp ℕ) (full : Full) → HasNewest m m full (newest_in m full)
-newest_stays m full = λ q.
-    elim (is_version_of q full) as (λ t. is_version_of q full ≡ t → newest_in m q ≡ cond t (newest_in m full) (newest_in m q)) [
-      | true ↦ λ e. ap (λ f. unwrap_or (get m f) 0) (one_version q full e)
-      | false ↦ λ _. refl
-    ] refl
-
--- generations behind the first
-
-lt_is : (m n : ℕ) → nat_lt m n ≡ true → m < n
-lt_is m n e = grind (arith, nat_tests)
-
-lt_not : (m n : ℕ) → nat_lt m n ≡ false → n ≤ m
-lt_not m n e = grind (arith, nat_tests)
-
-pub later_is : (n : ℕ) → later n ≡ min n ((n - 1) + (n - 1))
-later_is n =
-    elim (nat_lt 1 n) as (λ t. nat_lt 1 n ≡ t → cond t n 0 ≡ min n ((n - 1) + (n - 1))) [
-      | true ↦ λ e. let behind = lt_is 1 n e in omega (arith, behind)
-      | false ↦ λ e. let first = lt_not 1 n e in omega (arith, first)
-    ] refl
-
-pub later_max : (a b : ℕ) → max (later a) (later b) ≡ later (max a b)
-later_max a b =
-    let x = later_is a in
-    let y = later_is b in
-    let z = later_is (max a b) in
-    omega (arith, x, y, z)
-
--- the greatest of those that are left
-pub newest_dropped : (old new : FinMap full_cmp ℕ) (full : Full) (n : ℕ) → n < 2 → new ≡ remove old (versions_of full) → HasNewest old new full (later n)
-newest_dropped old new full n first is = λ q.
-    let known = later_is n in
-    let none : 0 ≡ later n = omega (arith, first, known) in
-    ap (λ m. newest_in m q) is ∙ newest_removed old full q ∙ ap (λ k. cond (is_version_of q full) k (newest_in old q)) none
-
-pub newest_changed : (old new : FinMap full_cmp ℕ) (full : Full) (n : ℕ) → 2 ≤ n → new ≡ insert old (versions_of full) n → HasNewest old new full (later n)
-newest_changed old new full n behind is = λ q.
-    let known = later_is n in
-    let some : n ≡ later n = omega (arith, behind, known) in
-    ap (λ m. newest_in m q) is ∙ newest_inserted old full n q ∙ ap (λ k. cond (is_version_of q full) k (newest_in old q)) some
-
--- a greater generation
-pub newest_rises : (old new : FinMap full_cmp ℕ) (full : Full) → 2 ≤ full.generation → newest_in old full < full.generation → new ≡ insert old (versions_of full) full.generation
-    → HasNewest old new full (max (newest_in old full) (later full.generation))
-newest_rises old new full behind less is = λ q.
-    let known = later_is full.generation in
-    let most : full.generation ≡ max (newest_in old full) (later full.generation) = omega (arith, behind, less, known) in
-    ap (λ m. newest_in m q) is ∙ newest_inserted old full full.generation q ∙ ap (λ n. cond (is_version_of q full) n (newest_in old q)) most
-
--- and one that isn't greater, or is the first
-pub newest_enough : (m : FinMap full_cmp ℕ) (full : Full) → (later full.generation ≤ newest_in m full) → HasNewest m m full (max (newest_in m full) (later full.generation))
-newest_enough m full enough = λ q.
-    let most : newest_in m full ≡ max (newest_in m full) (later full.generation) = omega (arith, enough) in
-    newest_stays m full q ∙ ap (λ n. cond (is_version_of q full) n (newest_in m q)) most
-
-pub first_enough : (m : FinMap full_cmp ℕ) (full : Full) → full.generation < 2 → HasNewest m m full (max (newest_in m full) (later full.generation))
-first_enough m full first = newest_enough m full (let known = later_is full.generation in omega (arith, known, first))
-
-pub least_enough : (m : FinMap full_cmp ℕ) (full : Full) (n : ℕ) → n ≡ newest_in m full → full.generation ≤ n → HasNewest m m full (max (newest_in m full) (later full.generation))
-least_enough m full n is least = newest_enough m full (let known = later_is full.generation in omega (arith, known, is, least))
-
-pub some_there : (o : Option ℕ) → 1 ≤ unwrap_or o 0 → is_some o ≡ true
-some_there None h = absurd (omega arith)
-some_there (Some n) h = refl
 
 -- the greatest of lists
 
@@ -196,38 +96,29 @@ module _ (users : List UserRec) where
   newest_one q f files e = ap (λ name. newest_of users name files) (one_version q f e)
 
   -- a file between others
-  pub newest_risen : (xs ys : List FileRec) (r : FileRec) (old new : FinMap full_cmp ℕ) → AreNewest users (xs ++ ys) old → HasNewest old new (full_of users r) (max (newest_in old (full_of users r)) (later r.generation))
+  pub newest_risen : (xs ys : List FileRec) (r : FileRec) (old new : FinMap full_cmp NameEntry) → AreNewest users (xs ++ ys) old → HasNewest old new (full_of users r) (max (newest_in old (full_of users r)) r.generation)
       → AreNewest users (xs ++ r ∷ ys) new
   newest_risen xs ys r old new are changed = λ q.
       let full = full_of users r in
       let rest = newest_of users q (xs ++ ys) in
       changed q
-      ∙ elim (is_version_of q full) as (λ t. is_version_of q full ≡ t → cond t (max (newest_in old full) (later r.generation)) (newest_in old q) ≡ later (cond t (max rest r.generation) rest)) [
-        | true ↦ λ e. ap (λ n. max n (later r.generation)) (are full ∙ ap (λ n. later n) (sym (newest_one q full (xs ++ ys) e))) ∙ later_max rest r.generation
+      ∙ elim (is_version_of q full) as (λ t. is_version_of q full ≡ t → cond t (max (newest_in old full) r.generation) (newest_in old q) ≡ cond t (max rest r.generation) rest) [
+        | true ↦ λ e. ap (λ n. max n r.generation) (are full ∙ sym (newest_one q full (xs ++ ys) e))
         | false ↦ λ _. are q
       ] refl
-      ∙ ap (λ n. later n) (sym (newest_middle q xs ys r))
+      ∙ sym (newest_middle q xs ys r)
 
   -- a file that is taken out
-  pub newest_fallen : (xs ys : List FileRec) (r : FileRec) (n : ℕ) (old new : FinMap full_cmp ℕ) → AreNewest users (xs ++ r ∷ ys) old → n ≡ newest_of users (full_of users r) (xs ++ ys)
-      → HasNewest old new (full_of users r) (later n) → AreNewest users (xs ++ ys) new
+  pub newest_fallen : (xs ys : List FileRec) (r : FileRec) (n : ℕ) (old new : FinMap full_cmp NameEntry) → AreNewest users (xs ++ r ∷ ys) old → n ≡ newest_of users (full_of users r) (xs ++ ys)
+      → HasNewest old new (full_of users r) n → AreNewest users (xs ++ ys) new
   newest_fallen xs ys r n old new are left changed = λ q.
       let full = full_of users r in
       let rest = newest_of users q (xs ++ ys) in
       changed q
-      ∙ elim (is_version_of q full) as (λ t. is_version_of q full ≡ t → cond t (later n) (newest_in old q) ≡ later rest) [
-        | true ↦ λ e. ap (λ m. later m) (left ∙ sym (newest_one q full (xs ++ ys) e))
-        | false ↦ λ e. are q ∙ ap (λ m. later m) (newest_middle q xs ys r ∙ ap (λ t. cond t (max rest r.generation) rest) e)
+      ∙ elim (is_version_of q full) as (λ t. is_version_of q full ≡ t → cond t n (newest_in old q) ≡ rest) [
+        | true ↦ λ e. left ∙ sym (newest_one q full (xs ++ ys) e)
+        | false ↦ λ e. are q ∙ newest_middle q xs ys r ∙ ap (λ t. cond t (max rest r.generation) rest) e
       ] refl
-
-  -- of a first generation nothing is remembered
-  newest_unfallen : (xs ys : List FileRec) (r : FileRec) (old : FinMap full_cmp ℕ) → AreNewest users (xs ++ r ∷ ys) old → r.generation < 2 → AreNewest users (xs ++ ys) old
-  newest_unfallen xs ys r old are first = λ q.
-      let rest = newest_of users q (xs ++ ys) in
-      let known = later_is r.generation in
-      let both = later_max rest r.generation in
-      are q ∙ ap (λ m. later m) (newest_middle q xs ys r)
-      ∙ elim (is_version_of q (full_of users r)) as (λ t. later (cond t (max rest r.generation) rest) ≡ later rest) [ true ↦ omega (arith, first, known, both) | false ↦ refl ]
 
   -- the greatest generation with a file among the others, and without it
   module _ (files : List FileRec) (place : ℕ) (r : FileRec) (within : place < length files) (here : r ≡ get_or files place r) where
@@ -240,44 +131,35 @@ module _ (users : List UserRec) where
         ap (newest_of users full) parts ∙ newest_middle full (take place files) (drop (suc place) files) r
         ∙ ap (λ t. cond t (max rest r.generation) rest) (ap (λ f. is_version_of full f) (sym named) ∙ version_itself full)
 
-    pub erased_newest : (n : ℕ) (full : Full) (old new : FinMap full_cmp ℕ) → AreNewest users files old → full ≡ full_of users r → n ≡ newest_of users full (list.remove files place) → HasNewest old new full (later n)
+    pub erased_newest : (n : ℕ) (full : Full) (old new : FinMap full_cmp NameEntry) → AreNewest users files old → full ≡ full_of users r → n ≡ newest_of users full (list.remove files place) → HasNewest old new full n
         → AreNewest users (list.remove files place) new
     erased_newest n full old new are named left changed =
         newest_fallen (take place files) (drop (suc place) files) r n old new (subst (λ fs. AreNewest users fs old) parts are) (left ∙ ap (λ f. newest_of users f (list.remove files place)) named)
-        (subst (λ f. HasNewest old new f (later n)) named changed)
+        (subst (λ f. HasNewest old new f n) named changed)
 
-    pub first_erased : (full : Full) (old : FinMap full_cmp ℕ) → AreNewest users files old → full ≡ full_of users r → full.generation < 2 → AreNewest users (list.remove files place) old
-    first_erased full old are named first =
-        newest_unfallen (take place files) (drop (suc place) files) r old (subst (λ fs. AreNewest users fs old) parts are) (subst (λ f. f.generation < 2) named first)
-
-    pub replaced_newest : (to : Full) (file : FileRec) (middle new : FinMap full_cmp ℕ) → AreNewest users (list.remove files place) middle → to ≡ full_of users file
-        → HasNewest middle new to (max (newest_in middle to) (later to.generation)) → AreNewest users (set files place file) new
-    replaced_newest to file middle new are named_to risen =
+    pub replaced_newest : (file : FileRec) (middle new : FinMap full_cmp NameEntry) → AreNewest users (list.remove files place) middle
+        → HasNewest middle new (full_of users file) (max (newest_in middle (full_of users file)) file.generation) → AreNewest users (set files place file) new
+    replaced_newest file middle new are risen =
         subst (λ fs. AreNewest users fs new) (sym (set_split files place file within))
-        (newest_risen (take place files) (drop (suc place) files) file middle new are
-        (subst (λ f. HasNewest middle new f (max (newest_in middle f) (later f.generation))) named_to risen))
+        (newest_risen (take place files) (drop (suc place) files) file middle new are risen)
 
     -- the same name in the place of another of that name
-    pub kept_newest : (file : FileRec) (old : FinMap full_cmp ℕ) → AreNewest users files old → full_of users r ≡ full_of users file → AreNewest users (set files place file) old
+    pub kept_newest : (file : FileRec) (old : FinMap full_cmp NameEntry) → AreNewest users files old → full_of users r ≡ full_of users file → AreNewest users (set files place file) old
     kept_newest file old are named = λ q.
         let xs = take place files in
         let ys = drop (suc place) files in
         are q
-        ∙ ap (λ n. later n) (ap (newest_of users q) parts ∙ newest_middle q xs ys r
+        ∙ (ap (newest_of users q) parts ∙ newest_middle q xs ys r
         ∙ ap (λ f. cond (is_version_of q f) (max (newest_of users q (xs ++ ys)) f.generation) (newest_of users q (xs ++ ys))) named
         ∙ sym (newest_middle q xs ys file) ∙ ap (newest_of users q) (sym (set_split files place file within)))
 
-  pub new_newest : (files : List FileRec) (place : ℕ) (full : Full) (file : FileRec) (old new : FinMap full_cmp ℕ) → AreNewest users files old → full ≡ full_of users file
-      → HasNewest old new full (max (newest_in old full) (later full.generation)) → AreNewest users (list.insert files place file) new
-  new_newest files place full file old new are named risen =
-      newest_risen (take place files) (drop place files) file old new (subst (λ fs. AreNewest users fs old) (sym (take-append-drop place files)) are)
-      (subst (λ f. HasNewest old new f (max (newest_in old f) (later f.generation))) named risen)
+  pub new_newest : (files : List FileRec) (place : ℕ) (file : FileRec) (old new : FinMap full_cmp NameEntry) → AreNewest users files old
+      → HasNewest old new (full_of users file) (max (newest_in old (full_of users file)) file.generation) → AreNewest users (list.insert files place file) new
+  new_newest files place file old new are risen =
+      newest_risen (take place files) (drop place files) file old new (subst (λ fs. AreNewest users fs old) (sym (take-append-drop place files)) are) risen
 
-pub none_newest : (m : FinMap full_cmp ℕ) (full : Full) → m ≡ empty → 0 ≡ newest_in m full
-none_newest m full e = sym (ap (λ n. newest_in n full) e ∙ ap (λ o. unwrap_or o 0) (get-empty full_cmp (versions_of full)))
-
-pub no_newest : (users : List UserRec) (m : FinMap full_cmp ℕ) → m ≡ empty → AreNewest users [] m
-no_newest users m e = λ q. ap (λ n. newest_in n q) e ∙ ap (λ o. unwrap_or o 0) (get-empty full_cmp (versions_of q))
+pub no_newest : (users : List UserRec) (m : FinMap full_cmp NameEntry) → m ≡ empty → AreNewest users [] m
+no_newest users m e = λ q. ap (λ n. newest_in n q) e ∙ ap (λ o. newest_at o) (get-empty full_cmp (versions_of q))
 
 -- the blocks of owners
 
@@ -380,9 +262,6 @@ module _ (users : List UserRec) (files : List FileRec) (is : IsRecords users fil
 
 -- the newest version but one
 
-abbrev pub at_generation : Full → ℕ → Full
-at_generation full n = record full { generation = n }
-
 same_full : (a b : Full) → is_version_of a b ≡ true → b.generation ≡ a.generation → a ≡ b
 same_full a b e g = ap (λ f. at_generation f a.generation) (one_version a b e) ∙ ap (λ n. at_generation b n) (sym g)
 
@@ -394,21 +273,16 @@ module _ (users : List UserRec) (files : List FileRec) (is : IsRecords users fil
     least : 1 ≤ r.generation
     least = subst (λ s. 1 ≤ s.generation) (sym here) (is.each_file place r within).least_generation
 
-    -- one behind the first is remembered
-    pub newest_known : (generations : FinMap full_cmp ℕ) → AreNewest users files generations → 1 < full.generation → newest_in generations full ≡ newest_of users full files
-    newest_known generations are behind =
-        let with_it = newest_with users files place r within here full named in
-        let same = generation_is in
-        let known = later_is (newest_of users full files) in
-        let is_known = are full in
-        omega (arith, with_it, same, known, is_known, behind)
+    pub least_here : 1 ≤ full.generation
+    least_here = let one = least in let same = generation_is in omega (arith, one, same)
 
-    pub newest_some : (generations : FinMap full_cmp ℕ) → AreNewest users files generations → 1 < full.generation → 1 ≤ newest_in generations full
-    newest_some generations are behind =
+    -- something is known of the versions
+    pub newest_some : (entries : FinMap full_cmp NameEntry) → AreNewest users files entries → 1 ≤ newest_in entries full
+    newest_some entries are =
         let with_it = newest_with users files place r within here full named in
-        let same = generation_is in
-        let there = newest_known generations are behind in
-        omega (arith, with_it, same, there, behind)
+        let one = least in
+        let known = are full in
+        omega (arith, with_it, one, known)
 
     -- where it isn't the newest
     pub newest_kept : (n : ℕ) → n ≡ newest_of users full files → n ≢ full.generation → n ≡ newest_of users full (list.remove files place)
@@ -471,52 +345,34 @@ module _ (users : List UserRec) (files : List FileRec) (is : IsRecords users fil
     newest_before n (Some number) newest next is some =
         newest_next n newest next (newest_holds (at_generation full n) number (version_itself full) (λ same. omega (arith, same, next)) (sym is))
 
--- files that have a first generation alone, or none
+    -- where none is left the first isn't there
+    pub none_first : (entries : FinMap full_cmp NameEntry) → AreIndexed users files entries → full.generation ≢ 1 → 0 ≡ newest_of users full (list.remove files place) → number_in entries (versions_of full) ≡ None
+    none_first entries are behind none =
+        elim (number_of users files (versions_of full)) as (λ o. number_of users files (versions_of full) ≡ o → number_in entries (versions_of full) ≡ None) [
+          | None ↦ λ absent. indexed_number users files entries (versions_of full) are ∙ absent
+          | Some number ↦ λ found.
+              let holds : 1 ≤ newest_of users full (list.remove files place) = newest_holds (versions_of full) number (version_itself full) (λ same. behind (sym same)) found in
+              absurd (omega (arith, holds, none))
+        ] refl
 
-pub none_remembered : (n known : ℕ) → n ≡ known → n ≤ 0 → known ≡ 0
-none_remembered n known is none = omega (arith, is, none)
-
-module _ (users : List UserRec) (files : List FileRec) (is : IsRecords users files) (generations : FinMap full_cmp ℕ) (are : AreNewest users files generations) (name : Full) where
-  -- what is remembered is the greatest
-  pub newest_remembered : (n : ℕ) → n ≡ newest_in generations name → 0 < n → n ≡ newest_of users name files
-  newest_remembered n remembered some =
-      let is_known = are name in
-      let known = later_is (newest_of users name files) in
-      omega (arith, remembered, some, is_known, known)
-
-  module _ (none : newest_in generations name ≡ 0) where
-    few : newest_of users name files ≤ 1
-    few = let is_known = are name in let known = later_is (newest_of users name files) in omega (arith, none, is_known, known)
-
-    -- the first is there
-    pub newest_first : (number : ℕ) → number_of users files (versions_of name) ≡ Some number → 1 ≡ newest_of users name files
-    newest_first number found =
-        let p = λ (s : FileRec). is_version_of name (full_of users s) in
-        let there = named_found users files is number (versions_of name) found in
-        let s = there.0 in
-        let k = there.1.0.0 in
-        let same : get_or files k s ≡ s = there.1.0.2 in
-        let holds = greatest_holds p (λ t. t.generation) files k s there.1.0.1 (ap p same ∙ ap (is_version_of name) there.1.1 ∙ version_itself name) in
-        let greatest_is = newest_greatest users name files in
-        let generation = ap (λ t. t.generation) same in
-        let one : s.generation ≡ 1 = ap (λ f. f.generation) there.1.1 in
-        let most = few in
-        omega (arith, holds, greatest_is, generation, one, most)
-
-    -- it isn't
-    pub newest_none : number_of users files (versions_of name) ≡ None → 0 ≡ newest_of users name files
-    newest_none absent =
-        let p = λ (s : FileRec). is_version_of name (full_of users s) in
-        let apart : All (λ s. p s ≡ true → s.generation ≢ 1) files =
-        λ k d within version first.
-        let s = get_or files k d in
-        let named : versions_of name ≡ full_of users s = same_full (versions_of name) (full_of users s) version first in
-        let found = ap (option_map (λ (t : FileRec). t.number)) (found_named users files is s (k, within, get_or_default files k s d within)) in
-        true≢false (ap is_some (sym found ∙ ap (number_of users files) (sym named) ∙ absent)) in
-        let greatest_is = newest_greatest users name files in
-        let most = few in
-        let less = greatest_less p (λ s. s.generation) 1 files (omega arith) apart (omega (arith, greatest_is, most)) in
-        omega (arith, less, greatest_is)
+    -- what is left of a file without its first generation
+    pub first_left : full.generation ≡ 1 → later (newest_of users full files) ≡ newest_of users full (list.remove files place)
+    first_left first =
+        let p = λ (s : FileRec). is_version_of full (full_of users s) in
+        let rest = newest_of users full (list.remove files place) in
+        let with_it = newest_with users files place r within here full named in
+        let same = generation_is in
+        let one : r.generation ≡ 1 = sym same ∙ first in
+        let greatest_is = newest_greatest users full (list.remove files place) in
+        elim (cases_lt rest 2) as (λ _. later (newest_of users full files) ≡ rest) [
+          | inl few ↦
+              let less = greatest_less p (λ s. s.generation) r.generation (list.remove files place) least others_apart (omega (arith, few, one, greatest_is)) in
+              let left : rest ≡ 0 = omega (arith, less, one, greatest_is) in
+              sym (later_none (newest_of users full files) (omega (arith, with_it, left, one))) ∙ sym left
+          | inr some ↦
+              let all : newest_of users full files ≡ rest = omega (arith, with_it, some, one) in
+              sym (later_some (newest_of users full files) (omega (arith, all, some))) ∙ all
+        ]
 
 -- what a file at a place gives back
 
@@ -544,12 +400,11 @@ module _ (users : List UserRec) (files : List FileRec) (i : ℕ) (r : FileRec) (
   one_more : take (i + 1) files ≡ take i files ++ r ∷ []
   one_more = take_more files i r within ∙ ap (λ s. take i files ++ s ∷ []) (sym here)
 
-  pub newest_push : (full : Full) (old new : FinMap full_cmp ℕ) → AreNewest users (take i files) old → full ≡ full_of users r → HasNewest old new full (max (newest_in old full) (later full.generation))
+  pub newest_push : (old new : FinMap full_cmp NameEntry) → AreNewest users (take i files) old → HasNewest old new (full_of users r) (max (newest_in old (full_of users r)) r.generation)
       → AreNewest users (take (i + 1) files) new
-  newest_push full old new are named risen =
+  newest_push old new are risen =
       subst (λ fs. AreNewest users fs new) (sym one_more)
-      (newest_risen users (take i files) [] r old new (subst (λ fs. AreNewest users fs old) (sym (append-nil (take i files))) are)
-      (subst (λ f. HasNewest old new f (max (newest_in old f) (later f.generation))) named risen))
+      (newest_risen users (take i files) [] r old new (subst (λ fs. AreNewest users fs old) (sym (append-nil (take i files))) are) risen)
 
   pub used_push : (blocks : List ℕ) → IsRecords users files → AreUsed (take i files) blocks → AreUsed (take (i + 1) files) (set blocks r.owner (get_or blocks r.owner 0 + blocks_for r.len))
   used_push blocks is are =

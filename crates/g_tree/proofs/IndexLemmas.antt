@@ -1,8 +1,8 @@
 -- The index of names, whose look-ups go by equality, as a map in their order.
-use Rattle.std.proofs.Common.{◌≡◌, Bool, cond, List, [], ◌∷◌, length, Option, Some, None, IsSome, refl, sym, ap, subst, ◌∙◌, arith}
+use Rattle.std.proofs.Common.{◌≡◌, Bool, cond, List, [], ◌∷◌, Option, Some, None, IsSome, refl, sym, ap, subst, ◌∙◌}
 use Rattle.std.specs.Map.{lookup}
 use Rattle.std.specs.BTreeMap.{is_at}
-use Rattle.std.specs.FinMap.{get, insert, remove, empty, from_entries}
+use Rattle.std.specs.FinMap.{get, insert, remove, from_entries}
 use Rattle.g_name.specs.declared.full.Full.{Full}
 use Rattle.g_name.specs.Order.{full_cmp}
 use Rattle.g_name.proofs.Order.{full_total, full_ties, full_eq}
@@ -33,8 +33,3 @@ module _ {X : Type 0} where
 
 pub found_there : {X : Type 0} (x : X) (o : Option X) → Some x ≡ o → IsSome o
 found_there x o e = subst IsSome e refl
-
--- no entry
-pub none_indexed : {X : Type 0} (es : List (Full × X)) → length es ≡ 0 → from_entries {R = full_cmp} es ≡ empty
-none_indexed [] none = refl
-none_indexed (e ∷ es) none = let no : ⊥ = omega (arith, none) in absurd no

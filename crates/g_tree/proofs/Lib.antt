@@ -2,6 +2,7 @@
 pub mod AnswerLemmas
 pub mod ChangeLemmas
 pub mod CountLemmas
+pub mod EntryLemmas
 pub mod FaultLemmas
 pub mod FirstLemmas
 pub mod FreeLemmas

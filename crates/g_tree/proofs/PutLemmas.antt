@@ -27,7 +27,7 @@ use Rattle.g_tree.specs.Names.{same_name}
 use Rattle.g_tree.specs.Places.{StandsAt, FitsAt}
 use Rattle.g_tree.proofs.ListLemmas.{pairs_first, pairs_rest, contains_first, filter_none, filter_whole, around}
 use Rattle.g_tree.proofs.MapLemmas.{keyed, AreApart, none_found, found_one, found_itself, find_valued, made_middle, made_without}
-use Rattle.g_tree.proofs.RecordLemmas.{IsIndexed, valued, names_apart, same_user}
+use Rattle.g_tree.proofs.RecordLemmas.{valued, names_apart, same_user}
 use Rattle.g_tree.proofs.PlaceLemmas.{numbered_apart, stands_found, fits_none}
 
 module _ {A : Type 0} where
@@ -217,32 +217,6 @@ module _ (users : List UserRec) (files : List FileRec) (place : ℕ) (r file : F
 
 pub still_room : (users : List UserRec) (files : List FileRec) (full : Full) (number spare : ℕ) → (1 ≤ spare) ⊎ (number_of users files full ≡ Some number) → (number_of users files full ≡ Some number → ⊥) → 1 ≤ spare
 still_room users files full number spare room apart = elim room as (λ _. 1 ≤ spare) [ inl some ↦ some | inr e ↦ absurd (apart e) ]
-
--- the index after a file is put
-
-module _ (users : List UserRec) (files : List FileRec) (place : ℕ) (old file : FileRec) (rules : IsRecords users (set files place file)) where
-  pub indexed_other : (numbers next : FinMap full_cmp ℕ) → IsIndexed users files numbers → old ≡ get_or files place old → StandsAt files file.number place
-      → next ≡ insert (remove numbers (full_of users old)) (full_of users file) file.number → IsIndexed users (set files place file) next
-  indexed_other numbers next is stands at changed = record {
-    records = rules;
-    index =
-        changed ∙ ap (λ m. insert (remove m (full_of users old)) (full_of users file) file.number) is.index
-        ∙ sym (rows_other users (λ r. r.number) files place old file at.within stands (names_apart users files is.records) (names_apart users (set files place file) rules));
-  }
-
-  pub indexed_same : (numbers next : FinMap full_cmp ℕ) → IsIndexed users files numbers → old ≡ get_or files place old → StandsAt files file.number place
-      → full_of users old ≡ full_of users file → next ≡ numbers → IsIndexed users (set files place file) next
-  indexed_same numbers next is stands at named kept = record {
-    records = rules;
-    index = kept ∙ is.index ∙ sym (rows_same users (λ r. r.number) files place old file at.within stands named (ap (λ r. r.number) stands ∙ at.has old));
-  }
-
-pub indexed_new : (users : List UserRec) (files : List FileRec) (place : ℕ) (file : FileRec) (numbers next : FinMap full_cmp ℕ) → IsIndexed users files numbers → IsRecords users (list.insert files place file)
-    → next ≡ insert numbers (full_of users file) file.number → IsIndexed users (list.insert files place file) next
-indexed_new users files place file numbers next is rules changed = record {
-  records = rules;
-  index = changed ∙ ap (λ m. insert m (full_of users file) file.number) is.index ∙ sym (rows_new users (λ r. r.number) files place file (names_apart users (list.insert files place file) rules));
-}
 
 abbrev without_found : List UserRec → FinMap full_cmp FileRow → Option FileRec → FinMap full_cmp FileRow
 without_found users rows found = elim found [ Some r ↦ remove rows (full_of users r) | None ↦ rows ]

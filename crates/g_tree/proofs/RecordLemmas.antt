@@ -4,7 +4,7 @@ use Rattle.std.specs.List.{All, AllPairs}
 use Rattle.std.specs.Option.{option_map}
 use Rattle.std.specs.Cmp.{eq_by_cmp_equiv}
 use Rattle.std.specs.Cmp.Lexicographic.{texts_ties}
-use Rattle.std.specs.FinMap.{FinMap, get, entries, from_entries, get-from_entries}
+use Rattle.std.specs.FinMap.{get, entries, from_entries, get-from_entries}
 use Rattle.std.proofs.lemmas.List.{get_or-map}
 use Rattle.std.proofs.lemmas.List.Elements.{Contains-get_or}
 use Rattle.std.proofs.lemmas.List.Sorted.{sum_by-IsPermutation}
@@ -232,8 +232,3 @@ user_entries g users =
 
 pub user_there : (users : List UserRec) (files : List FileRec) (bytes : FileRec → List ℕ) (next : ℕ) (name : List ℕ) → is_some (get (users_by_name users) name) ≡ has_user (tree_of users files bytes next) name
 user_there users files bytes next name = sym (ap is_some (get_user (user_row_of users) users name) ∙ some_mapped (user_row_of users) (get (users_by_name users) name))
-
--- records with the index beside them
-pub record IsIndexed (users : List UserRec) (files : List FileRec) (numbers : FinMap full_cmp ℕ) : Type 0 where
-  pub records : IsRecords users files
-  pub index : numbers ≡ from_entries (map (λ r. (full_of users r, r.number)) files)

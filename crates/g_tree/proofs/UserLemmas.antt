@@ -3,7 +3,7 @@ use Rattle.std.proofs.Common.{◌≡◌, ◌≢◌, ℕ, suc, ◌+◌, ◌<◌, 
 use Rattle.std.proofs.Math.ListN.{set}
 use Rattle.std.specs.List.{All, slice_index_or}
 use Rattle.std.specs.Option.{option_map}
-use Rattle.std.specs.FinMap.{FinMap, insert, from_entries, find}
+use Rattle.std.specs.FinMap.{FinMap, get, insert, from_entries, find}
 use Rattle.std.proofs.lemmas.Bool.{cases_lt}
 use Rattle.std.proofs.lemmas.List.{map-append, map-set, map_push, set-get_or, set_split, append-nil, length-append, length-map, get_or_append_left}
 use Rattle.std.proofs.lemmas.List.Elements.{All-head, All-tail}
@@ -17,7 +17,8 @@ use Rattle.g_entry.specs.Rules.{AreUsers}
 use Rattle.g_plain.specs.PlainTree.{UserRow, FileRow, Tree, is_version_of}
 use Rattle.g_plain.proofs.TextMaps.{text_total, text_exact}
 use Rattle.g_tree.specs.Records.{IsRecords, name_of, full_of, traps_named, user_row_of, file_row_of, tree_of}
-use Rattle.g_tree.specs.State.{IsKept, later}
+use Rattle.g_tree.specs.State.{IsKept}
+use Rattle.g_tree.specs.declared.index.NameEntry.{NameEntry}
 use Rattle.g_tree.proofs.ListLemmas.{map_of_map, around, filter_same_on}
 use Rattle.g_tree.proofs.MapLemmas.{keyed, with_value, AreApart, none_found, find_valued, made_middle, made_other}
 use Rattle.g_tree.proofs.RecordLemmas.{name_at}
@@ -108,11 +109,11 @@ module _ (users : List UserRec) (files : List FileRec) (n : ℕ) (u : UserRec) (
   names_kept : names (set users n u) ≡ names users
   names_kept = map-set (λ v. v.user) users n u ∙ ap (set (names users) n) (sym same) ∙ set-get_or (names users) n []
 
-  pub kept_set : (numbers generations : FinMap full_cmp ℕ) (blocks : List ℕ) → IsKept users files numbers generations blocks → IsRecords (set users n u) files → IsKept (set users n u) files numbers generations blocks
-  kept_set numbers generations blocks is rules = record {
+  pub kept_set : (entries : FinMap full_cmp NameEntry) (blocks : List ℕ) → IsKept users files entries blocks → IsRecords (set users n u) files → IsKept (set users n u) files entries blocks
+  kept_set entries blocks is rules = record {
     records = rules;
-    index = is.index ∙ ap (λ ns. numbers_by ns files) (sym names_kept);
-    newest = λ full. is.newest full ∙ ap (λ ns. later (newest_by ns full files)) (sym names_kept);
+    index = λ full. is.index full ∙ ap (λ ns. get (numbers_by ns files) full) (sym names_kept);
+    newest = λ full. is.newest full ∙ ap (λ ns. newest_by ns full files) (sym names_kept);
     used = is.used;
   }
 
@@ -159,16 +160,16 @@ module _ (users : List UserRec) (files : List FileRec) (u : UserRec) (is : IsRec
       (λ j e inside i. (name_kept (get_or r.traps.others j e).0 (is.among_files.trapped k d within j e inside) i, (get_or r.traps.others j e).1)) in
       λ i. from_entries {R = text_cmp} ((name_kept r.owner (is.among_files.owners k d within) i, r.traps.owner) ∷ others i)
 
-  pub kept_more : (numbers generations : FinMap full_cmp ℕ) (blocks : List ℕ) → IsKept users files numbers generations blocks → IsRecords (users ++ u ∷ []) files → IsKept (users ++ u ∷ []) files numbers generations blocks
-  kept_more numbers generations blocks kept rules = record {
+  pub kept_more : (entries : FinMap full_cmp NameEntry) (blocks : List ℕ) → IsKept users files entries blocks → IsRecords (users ++ u ∷ []) files → IsKept (users ++ u ∷ []) files entries blocks
+  kept_more entries blocks kept rules = record {
     records = rules;
-    index =
-        kept.index
-        ∙ ap (λ es. from_entries {R = full_cmp} es)
+    index = λ full.
+        kept.index full
+        ∙ ap (λ es. get (from_entries {R = full_cmp} es) full)
         (map_same_on (λ r. (full_of users r, r.number)) (λ r. (full_of (users ++ u ∷ []) r, r.number)) files (λ k d within i. (sym (full_kept k d within) i, (get_or files k d).number)));
     newest = λ full.
         kept.newest full
-        ∙ ap (λ rs. later (fold max 0 (map (λ (r : FileRec). r.generation) rs)))
+        ∙ ap (λ rs. fold max 0 (map (λ (r : FileRec). r.generation) rs))
         (filter_same_on (λ r. is_version_of full (full_of users r)) (λ r. is_version_of full (full_of (users ++ u ∷ []) r)) files (λ k d within. ap (is_version_of full) (sym (full_kept k d within))));
     used = kept.used;
   }

@@ -1,20 +1,26 @@
 -- The states of this crate as data that proofs can tell apart.
-use Rattle.std.specs.Prelude.{ℕ, List, refl}
-use Rattle.std.specs.Coded.{Coded, code_by, coded×, coded_ℕ}
+use Rattle.std.specs.Prelude.{ℕ, List, Option, refl}
+use Rattle.std.specs.Coded.{Coded, code_by, coded×, coded_ℕ, coded_option}
 use Rattle.std.specs.FinMap as map
 use Rattle.g_name.specs.Order.{full_cmp}
 use Rattle.g_plain.specs.Codes.{full_code, text_code}
 use Rattle.g_tree.specs.Names.{name_cmp}
 use Rattle.g_tree.specs.State.{IndexState}
+use Rattle.g_tree.specs.declared.index.NameEntry.{NameEntry}
 use Rattle.g_tree.specs.declared.sorted.LocalName.{LocalName}
 
-abbrev pub numbers_code : Coded (map.FinMap full_cmp ℕ)
-numbers_code = map.code full_code coded_ℕ
+abbrev pub entry_code : Coded NameEntry
+entry_code =
+    code_by (Option ℕ × ℕ) (coded× (coded_option coded_ℕ) coded_ℕ)
+    (λ e. (e.number, e.newest)) (λ p. record { number = p.0; newest = p.1 }) (λ _. refl)
+
+abbrev pub entries_code : Coded (map.FinMap full_cmp NameEntry)
+entries_code = map.code full_code entry_code
 
 abbrev pub index_code : Coded IndexState
 index_code =
-    code_by (map.FinMap full_cmp ℕ × ℕ) (coded× numbers_code coded_ℕ)
-    (λ i. (i.numbers, i.spare)) (λ p. record { numbers = p.0; spare = p.1 }) (λ _. refl)
+    code_by (map.FinMap full_cmp NameEntry × ℕ) (coded× entries_code coded_ℕ)
+    (λ i. (i.entries, i.spare)) (λ p. record { entries = p.0; spare = p.1 }) (λ _. refl)
 
 abbrev pub name_code : Coded LocalName
 name_code =

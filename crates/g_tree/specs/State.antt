@@ -1,6 +1,7 @@
 -- What contracts see of a tree in memory, and how its records change.
-use Rattle.std.specs.Prelude.{◌≡◌, ℕ, ◌==◌, not, nat_lt, List, [], ◌∷◌, ◌++◌, map, filter, length, sum_by, slice_index_or, codes, Option, Some, None, unwrap_or, if◌then◌else◌}
-use Rattle.std.specs.FinMap.{FinMap, get, remove, from_entries}
+use Rattle.std.specs.Prelude.{◌≡◌, ℕ, ◌==◌, not, nat_lt, max, List, [], ◌∷◌, ◌++◌, map, filter, length, sum_by, slice_index_or, codes, Option, Some, None, if◌then◌else◌}
+use Rattle.std.specs.Ordering.{eq_by_cmp}
+use Rattle.std.specs.FinMap.{FinMap, get, insert, remove, from_entries}
 use Rattle.g_base.specs.Block.{blocks_for}
 use Rattle.g_name.specs.declared.full.Full.{Full}
 use Rattle.g_name.specs.Order.{full_cmp}
@@ -9,6 +10,7 @@ use Rattle.g_entry.specs.declared.file_rec.FileRec.{FileRec}
 use Rattle.g_plain.specs.PlainTree.{FileRow, is_version_of}
 use Rattle.g_tree.specs.Records.{IsRecords, full_of, by_number}
 use Rattle.g_tree.specs.Answers.{newest_of}
+use Rattle.g_tree.specs.declared.index.NameEntry.{NameEntry}
 
 -- users by number, files in order of number, and how many more of either fit without taking memory
 pub record TreeState : Type 0 where
@@ -20,34 +22,70 @@ pub record TreeState : Type 0 where
 abbrev pub room_of : Option FileRec → ℕ
 room_of room = elim room [ Some file ↦ 1 | None ↦ 0 ]
 
--- numbers by full name, and how many more fit without taking memory
+-- what is known by full name, and how many more names fit without taking memory
 pub record IndexState : Type 0 where
-  pub numbers : FinMap full_cmp ℕ
+  pub entries : FinMap full_cmp NameEntry
   pub spare : ℕ
 
 -- what all versions of a file are found by: the name of the first
 abbrev pub versions_of : Full → Full
 versions_of full = record full { generation = 1 }
 
--- a generation behind the first, which is remembered; 0 for no other
+-- the number of the file of a full name
+abbrev pub number_at : Option NameEntry → Option ℕ
+number_at entry = elim entry [ Some e ↦ e.number | None ↦ None ]
+
+abbrev pub number_in : FinMap full_cmp NameEntry → Full → Option ℕ
+number_in entries full = number_at (get entries full)
+
+-- the greatest generation of a file's versions, or 0: what is known under the name of the first
+abbrev pub newest_at : Option NameEntry → ℕ
+newest_at entry = elim entry [ Some e ↦ e.newest | None ↦ 0 ]
+
+abbrev pub newest_in : FinMap full_cmp NameEntry → Full → ℕ
+newest_in entries full = newest_at (get entries (versions_of full))
+
+-- the greatest generation behind the first, or 0
 abbrev pub later : ℕ → ℕ
 later generation = if nat_lt 1 generation then generation else 0
 
--- the greatest generation of a file's versions among those that are remembered, or 0
-abbrev pub newest_in : FinMap full_cmp ℕ → Full → ℕ
-newest_in generations full = unwrap_or (get generations (versions_of full)) 0
+-- what is known when the greatest generation under a name that is there is at least this one
+abbrev pub raised_at : FinMap full_cmp NameEntry → Full → ℕ → Option NameEntry → FinMap full_cmp NameEntry
+raised_at entries full newest entry = elim entry [ Some e ↦ insert entries full (record e { newest = max e.newest newest }) | None ↦ entries ]
 
--- what is remembered when the greatest generation of a file's versions is another
-abbrev pub HasNewest : FinMap full_cmp ℕ → FinMap full_cmp ℕ → Full → ℕ → Type 0
+abbrev pub raised : FinMap full_cmp NameEntry → Full → ℕ → FinMap full_cmp NameEntry
+raised entries full newest = raised_at entries full newest (get entries full)
+
+-- what is known when it is this one
+abbrev pub settled_at : FinMap full_cmp NameEntry → Full → ℕ → Option NameEntry → FinMap full_cmp NameEntry
+settled_at entries full newest entry = elim entry [ Some e ↦ insert entries full (record e { newest = newest }) | None ↦ entries ]
+
+abbrev pub settled : FinMap full_cmp NameEntry → Full → ℕ → FinMap full_cmp NameEntry
+settled entries full newest = settled_at entries full newest (get entries full)
+
+-- every full name has the number that it had
+abbrev pub HasNumbers : FinMap full_cmp NameEntry → FinMap full_cmp NameEntry → Type 0
+HasNumbers old new = (other : Full) → number_in new other ≡ number_in old other
+
+-- one has another number, or none
+abbrev pub HasNumber : FinMap full_cmp NameEntry → FinMap full_cmp NameEntry → Full → Option ℕ → Type 0
+HasNumber old new full number = (other : Full) → number_in new other ≡ (if eq_by_cmp full_cmp other full then number else number_in old other)
+
+-- the greatest generation of a file's versions is another
+abbrev pub HasNewest : FinMap full_cmp NameEntry → FinMap full_cmp NameEntry → Full → ℕ → Type 0
 HasNewest old new full newest = (other : Full) → newest_in new other ≡ (if is_version_of other full then newest else newest_in old other)
 
 -- the blocks of the files of an owner
 abbrev pub used_of : List FileRec → ℕ → ℕ
 used_of files owner = sum_by (λ r. if r.owner == owner then blocks_for r.len else 0) files
 
--- the greatest generations that are remembered are those of the files, where they aren't the first
-abbrev pub AreNewest : List UserRec → List FileRec → FinMap full_cmp ℕ → Type 0
-AreNewest users files generations = (full : Full) → newest_in generations full ≡ later (newest_of users full files)
+-- the numbers that are known are those of the files
+abbrev pub AreIndexed : List UserRec → List FileRec → FinMap full_cmp NameEntry → Type 0
+AreIndexed users files entries = (full : Full) → number_in entries full ≡ get (from_entries {R = full_cmp} (map (λ r. (full_of users r, r.number)) files)) full
+
+-- and so are the greatest generations
+abbrev pub AreNewest : List UserRec → List FileRec → FinMap full_cmp NameEntry → Type 0
+AreNewest users files entries = (full : Full) → newest_in entries full ≡ newest_of users full files
 
 -- each owner's blocks are a number
 pub record AreUsed (files : List FileRec) (blocks : List ℕ) : Type 0 where
@@ -55,10 +93,10 @@ pub record AreUsed (files : List FileRec) (blocks : List ℕ) : Type 0 where
   pub each : (owner : ℕ) → slice_index_or blocks owner 0 ≡ used_of files owner
 
 -- what is always so of the records with all that is remembered of them
-pub record IsKept (users : List UserRec) (files : List FileRec) (numbers generations : FinMap full_cmp ℕ) (blocks : List ℕ) : Type 0 where
+pub record IsKept (users : List UserRec) (files : List FileRec) (entries : FinMap full_cmp NameEntry) (blocks : List ℕ) : Type 0 where
   pub records : IsRecords users files
-  pub index : numbers ≡ from_entries (map (λ r. (full_of users r, r.number)) files)
-  pub newest : AreNewest users files generations
+  pub index : AreIndexed users files entries
+  pub newest : AreNewest users files entries
   pub used : AreUsed files blocks
 
 -- the users of a new filestore

@@ -107,15 +107,15 @@ impl<'a> Questions for Records<'a> {
     }
 
     fn newest(&self, who: &User, path: &Path) -> u16 {
-        self.tree.newest(&named(who, path, 0))
+        self.tree.newest_by(&named(who, path, 1))
     }
 
     fn input_name(&self, who: &User, path: &Path) -> Full {
         match path.generation {
             Some(generation) => named(who, path, generation),
             None => {
-                let full = named(who, path, 0);
-                let generation = self.tree.newest(&full);
+                let full = named(who, path, 1);
+                let generation = self.tree.newest_by(&full);
                 Full { generation, ..full }
             }
         }
@@ -125,8 +125,8 @@ impl<'a> Questions for Records<'a> {
         match path.generation {
             Some(generation) => named(who, path, generation),
             None => {
-                let full = named(who, path, 0);
-                let newest = self.tree.newest(&full);
+                let full = named(who, path, 1);
+                let newest = self.tree.newest_by(&full);
                 Full {
                     generation: newest + 1,
                     ..full

@@ -1,25 +1,25 @@
 //! What is remembered of files beside their records, so that no call walks over all of them.
-ghost use Rattle.std.specs.Prelude.{◌≡◌, ℕ, ◌+◌, ◌-◌, ◌<◌, ◌≤◌, length, map, max, remove, replicate, OnOk, IfOk, slice_index_or, slice_set};
+ghost use Rattle.std.specs.Prelude.{◌≡◌, ◌≢◌, ℕ, ◌+◌, ◌-◌, ◌*◌, ◌<◌, ◌≤◌, true, length, max, remove, replicate, OnOk, IfOk, Some, None, is_some, slice_index_or, slice_set};
 ghost use Rattle.std.specs.FinMap as finmap;
 ghost use Rattle.g_base.specs.Block.{blocks_for};
 ghost use Rattle.g_entry.specs.declared.file_rec.FileRec.{FileRec};
 ghost use Rattle.g_tree.specs.Answers.{newest_of};
 ghost use Rattle.g_tree.specs.Records.{IsRecords, full_of};
-ghost use Rattle.g_tree.specs.State.{AreNewest, HasNewest, later, newest_in, versions_of};
+ghost use Rattle.g_tree.specs.State.{AreIndexed, AreNewest, HasNewest, HasNumber, HasNumbers, later, newest_in, number_in, versions_of};
 
-use crate::index::Index;
-use crate::scan::newest_besides;
+use crate::index::{Index, NameEntry};
+use crate::scan::{full_of, newest_besides};
 use g_base::{NoMemory, blocks_for};
-use g_entry::{BoxedRec, UserRec};
+use g_entry::{BoxedRec, FileRec, UserRec};
 use g_name::Full;
 use std::alloc::Global;
 
-/// The greatest generation of each file's versions where it isn't the first, by the full name of the
-/// first, and the blocks of 512 bytes of each owner's files, by the owner's number. Most files have a
-/// first generation alone: what the index says of it isn't said twice.
+/// What is known of files by full name, and the blocks of 512 bytes of each owner's files, by the
+/// owner's number. What is known of all versions of a file stands under the name of the first, so that
+/// the look-up of that name says which is the newest.
 #[derive(Drop)]
 pub(crate) struct Counts {
-    generations: Index,
+    names: Index,
     blocks: Vec<u32>,
 }
 
@@ -34,115 +34,261 @@ pub(crate) struct Standing<'a> {
 impl Counts {
     /// No file.
     pub fn new(alloc: Global) -> Result<Counts, NoMemory>
-        ensures generations { IfOk result (λ c. c.generations.numbers ≡ finmap.empty) }
+        ensures names { IfOk result (λ c. c.names.entries ≡ finmap.empty) }
         ensures blocks { IfOk result (λ c. c.blocks.items ≡ replicate 63 0) }
     {
         Ok(Counts {
-            generations: Index::new(alloc),
+            names: Index::new(alloc),
             blocks: vec![in alloc; 0; 63]?,
         })
     }
 
-    /// Makes room for so many more names; without memory the room stays at least what it was.
+    /// Makes room for the names of so many more files, two of each: its own, and that of the first of
+    /// its versions. Without memory the room stays at least what it was.
     pub fn reserve(&mut self, more: usize) -> Result<(), NoMemory>
-        ensures generations { self.new.generations.numbers ≡ self.old.generations.numbers }
+        requires { more ≤ 1024 }
+        ensures entries { self.new.names.entries ≡ self.old.names.entries }
         ensures blocks { self.new.blocks.items ≡ self.old.blocks.items }
-        ensures ok { OnOk result (more ≤ self.new.generations.spare) }
-        ensures kept { self.old.generations.spare ≤ self.new.generations.spare }
+        ensures ok { OnOk result (2 * more ≤ self.new.names.spare) }
+        ensures kept { self.old.names.spare ≤ self.new.names.spare }
     {
-        self.generations.reserve(more)
+        self.names.reserve(2 * more)
     }
 
-    /// The greatest generation of the versions of this file where it isn't the first, or 0.
-    pub fn newest(&self, full: &Full) -> u16
-        ensures { result ≡ newest_in self.now.generations.numbers full.now }
+    /// The number of the file of this full name.
+    pub fn find(&self, full: &Full) -> Option<u16>
+        ensures { result ≡ number_in self.now.names.entries full.now }
     {
-        if self.generations.is_empty() {
-            return 0;
+        match self.names.find(full) {
+            Some(entry) => entry.number,
+            None => None,
         }
-        self.generations.find(&versions_of(full)).unwrap_or(0)
     }
 
-    /// A version more, for whose name there is room.
-    pub fn rise(&mut self, full: &Full)
-        requires { 1 ≤ self.old.generations.spare }
-        ensures generations { let newest = newest_in self.old.generations.numbers full.now in
-            HasNewest self.old.generations.numbers self.new.generations.numbers full.now
-            (max newest (later full.now.generation)) }
-        ensures blocks { self.new.blocks.items ≡ self.old.blocks.items }
-        ensures spare { self.old.generations.spare ≤ self.new.generations.spare + 1 }
+    /// The greatest generation of the versions of the file whose first has this name, or 0.
+    pub fn newest(&self, first: &Full) -> u16
+        requires { first.now.generation ≡ 1 }
+        ensures { result ≡ newest_in self.now.names.entries first.now }
     {
-        if full.generation < 2 {
+        match self.names.find(first) {
+            Some(entry) => entry.newest,
+            None => 0,
+        }
+    }
+
+    /// A file more, for whose names there is room.
+    pub fn put(&mut self, users: &[UserRec], file: &FileRec)
+        requires owner { file.now.owner < length users.now }
+        requires room { 2 ≤ self.old.names.spare }
+        ensures numbers { HasNumber self.old.names.entries self.new.names.entries
+            (full_of users.now file.now) (Some file.now.number) }
+        ensures newest { let full = full_of users.now file.now in
+            HasNewest self.old.names.entries self.new.names.entries full
+            (max (newest_in self.old.names.entries full) file.now.generation) }
+        ensures blocks { self.new.blocks.items ≡ self.old.blocks.items }
+        ensures spare { self.old.names.spare ≤ self.new.names.spare + 2 }
+    {
+        if file.generation == 1 {
+            self.put_first(users, file);
+        } else {
+            self.put_later(users, file);
+        }
+    }
+
+    /// A first generation more.
+    fn put_first(&mut self, users: &[UserRec], file: &FileRec)
+        requires owner { file.now.owner < length users.now }
+        requires first { file.now.generation ≡ 1 }
+        requires room { 1 ≤ self.old.names.spare }
+        ensures numbers { HasNumber self.old.names.entries self.new.names.entries
+            (full_of users.now file.now) (Some file.now.number) }
+        ensures newest { let full = full_of users.now file.now in
+            HasNewest self.old.names.entries self.new.names.entries full
+            (max (newest_in self.old.names.entries full) 1) }
+        ensures blocks { self.new.blocks.items ≡ self.old.blocks.items }
+        ensures spare { self.old.names.spare ≤ self.new.names.spare + 1 }
+    {
+        let number = Some(file.number);
+        let entry = NameEntry { number, newest: 1 };
+        match self.names.insert(full_of(users, file), entry) {
+            // Others had outlived the one before.
+            Some(was) => {
+                let newest = was.newest.max(1);
+                let full = full_of(users, file);
+                self.names.replace(&full, NameEntry { number, newest });
+            }
+            None => {}
+        }
+    }
+
+    /// A generation behind the first more.
+    fn put_later(&mut self, users: &[UserRec], file: &FileRec)
+        requires owner { file.now.owner < length users.now }
+        requires behind { file.now.generation ≢ 1 }
+        requires room { 2 ≤ self.old.names.spare }
+        ensures numbers { HasNumber self.old.names.entries self.new.names.entries
+            (full_of users.now file.now) (Some file.now.number) }
+        ensures newest { let full = full_of users.now file.now in
+            HasNewest self.old.names.entries self.new.names.entries full
+            (max (newest_in self.old.names.entries full) file.now.generation) }
+        ensures blocks { self.new.blocks.items ≡ self.old.blocks.items }
+        ensures spare { self.old.names.spare ≤ self.new.names.spare + 2 }
+    {
+        let full = full_of(users, file);
+        self.rise(versions_of(&full), file.generation);
+        let number = Some(file.number);
+        self.names.insert(full, NameEntry { number, newest: 0 });
+    }
+
+    /// The greatest generation of the versions of the file whose first has this name is at least this.
+    fn rise(&mut self, first: Full, newest: u16)
+        requires first { first.generation ≡ 1 }
+        requires room { 1 ≤ self.old.names.spare }
+        ensures numbers { HasNumbers self.old.names.entries self.new.names.entries }
+        ensures newest { HasNewest self.old.names.entries self.new.names.entries first
+            (max (newest_in self.old.names.entries first) newest) }
+        ensures blocks { self.new.blocks.items ≡ self.old.blocks.items }
+        ensures spare { self.old.names.spare ≤ self.new.names.spare + 1 }
+    {
+        if self.names.raise(&first, newest) {
             return;
         }
-        if self.newest(full) < full.generation {
-            self.generations.insert(versions_of(full), full.generation);
-        }
+        self.names.insert(
+            first,
+            NameEntry {
+                number: None,
+                newest,
+            },
+        );
     }
 
-    /// A version fewer: that of the file at this place.
-    pub fn drop_version(&mut self, index: &Index, at: Standing, full: &Full)
+    /// A file fewer: that at this place.
+    pub fn take_out(&mut self, at: Standing, full: &Full)
         requires records { IsRecords at.users.now at.files.now }
-        requires index { index.now.numbers
-            ≡ finmap.from_entries (map (λ r. (full_of at.users.now r, r.number)) at.files.now) }
-        requires newest { AreNewest at.users.now at.files.now self.old.generations.numbers }
+        requires index { AreIndexed at.users.now at.files.now self.old.names.entries }
+        requires newest { AreNewest at.users.now at.files.now self.old.names.entries }
         requires there { at.place < length at.files.now }
         requires named { (d : FileRec) → full.now
             ≡ full_of at.users.now (slice_index_or at.files.now at.place d) }
-        ensures newest { let a = at.entry in AreNewest a.users.now (remove a.files.now a.place) self.new.generations.numbers }
+        ensures index { let a = at.entry in
+            AreIndexed a.users.now (remove a.files.now a.place) self.new.names.entries }
+        ensures newest { let a = at.entry in
+            AreNewest a.users.now (remove a.files.now a.place) self.new.names.entries }
         ensures blocks { self.new.blocks.items ≡ self.old.blocks.items }
-        ensures spare { self.old.generations.spare ≤ self.new.generations.spare }
+        ensures spare { self.old.names.spare ≤ self.new.names.spare }
     {
-        if full.generation < 2 {
-            return;
+        if full.generation == 1 {
+            self.take_first(full);
+        } else {
+            self.take_later(at, full);
         }
-        let newest = self.newest_but(index, at, full);
-        self.fall(full, newest);
     }
 
-    /// The greatest generation of the versions of the file at this place, which isn't the first of
-    /// them, but of itself.
-    fn newest_but(&self, index: &Index, at: Standing, full: &Full) -> u16
-        requires records { IsRecords at.users.now at.files.now }
-        requires index { index.now.numbers
-            ≡ finmap.from_entries (map (λ r. (full_of at.users.now r, r.number)) at.files.now) }
-        requires newest { AreNewest at.users.now at.files.now self.now.generations.numbers }
-        requires there { at.place < length at.files.now }
-        requires named { (d : FileRec) → full.now
-            ≡ full_of at.users.now (slice_index_or at.files.now at.place d) }
-        requires behind { 1 < full.now.generation }
-        ensures { let a = at.entry in result ≡ newest_of a.users.now full.now (remove a.files.now a.place) }
+    /// A first generation fewer. While others are there its name is.
+    fn take_first(&mut self, full: &Full)
+        requires { full.now.generation ≡ 1 }
+        ensures numbers { HasNumber self.old.names.entries self.new.names.entries full.now None }
+        ensures newest { HasNewest self.old.names.entries self.new.names.entries full.now
+            (later (newest_in self.old.names.entries full.now)) }
+        ensures blocks { self.new.blocks.items ≡ self.old.blocks.items }
+        ensures spare { self.old.names.spare ≤ self.new.names.spare }
     {
         let newest = self.newest(full);
-        if newest != full.generation {
-            return newest;
+        if newest < 2 {
+            self.names.remove(full);
+        } else {
+            self.names.replace(
+                full,
+                NameEntry {
+                    number: None,
+                    newest,
+                },
+            );
+        }
+    }
+
+    /// A generation behind the first fewer: that at this place.
+    fn take_later(&mut self, at: Standing, full: &Full)
+        requires records { IsRecords at.users.now at.files.now }
+        requires index { AreIndexed at.users.now at.files.now self.old.names.entries }
+        requires newest { AreNewest at.users.now at.files.now self.old.names.entries }
+        requires there { at.place < length at.files.now }
+        requires named { (d : FileRec) → full.now
+            ≡ full_of at.users.now (slice_index_or at.files.now at.place d) }
+        requires behind { full.now.generation ≢ 1 }
+        ensures numbers { HasNumber self.old.names.entries self.new.names.entries full.now None }
+        ensures newest { let a = at.entry in
+            HasNewest self.old.names.entries self.new.names.entries full.now
+            (newest_of a.users.now full.now (remove a.files.now a.place)) }
+        ensures blocks { self.new.blocks.items ≡ self.old.blocks.items }
+        ensures spare { self.old.names.spare ≤ self.new.names.spare }
+    {
+        let first = versions_of(full);
+        let newest = self.newest_but(at, &first, full);
+        self.settle(&first, newest);
+        self.names.remove(full);
+    }
+
+    /// The greatest generation of the versions of the file whose first has this name is this now;
+    /// where none is left nothing is known of the name.
+    fn settle(&mut self, first: &Full, newest: u16)
+        requires first { first.now.generation ≡ 1 }
+        requires there { is_some (finmap.get self.old.names.entries first.now) ≡ true }
+        requires none { newest ≡ 0 → number_in self.old.names.entries first.now ≡ None }
+        ensures numbers { HasNumbers self.old.names.entries self.new.names.entries }
+        ensures newest { HasNewest self.old.names.entries self.new.names.entries first.now newest }
+        ensures blocks { self.new.blocks.items ≡ self.old.blocks.items }
+        ensures spare { self.old.names.spare ≤ self.new.names.spare }
+    {
+        if newest == 0 {
+            self.names.remove(first);
+        } else {
+            self.names.settle(first, newest);
+        }
+    }
+
+    /// The greatest generation of the versions of the file at this place but of itself, where the
+    /// first of them has this name.
+    fn newest_but(&self, at: Standing, first: &Full, full: &Full) -> u16
+        requires records { IsRecords at.users.now at.files.now }
+        requires index { AreIndexed at.users.now at.files.now self.now.names.entries }
+        requires newest { AreNewest at.users.now at.files.now self.now.names.entries }
+        requires there { at.place < length at.files.now }
+        requires named { (d : FileRec) → full.now
+            ≡ full_of at.users.now (slice_index_or at.files.now at.place d) }
+        requires first { first.now ≡ versions_of full.now }
+        requires some { 1 ≤ full.now.generation }
+        ensures { let a = at.entry in result ≡ newest_of a.users.now full.now (remove a.files.now a.place) }
+    {
+        let Some(entry) = self.names.find(first) else {
+            unreachable!()
+        };
+        if entry.newest != full.generation {
+            return entry.newest;
         }
         // Most often the version before is there.
-        let generation = newest - 1;
-        let before = Full {
-            generation,
-            ..full.copy()
-        };
-        if index.find(&before).is_some() {
-            return generation;
+        if self.before(entry, full).is_some() {
+            return full.generation - 1;
         }
         newest_besides(at.users, full, at.files, at.place)
     }
 
-    /// The greatest generation of the versions of this file is this one now, or there is none: 0.
-    fn fall(&mut self, full: &Full, newest: u16)
-        requires { 1 ≤ newest_in self.old.generations.numbers full.now }
-        ensures generations { HasNewest self.old.generations.numbers self.new.generations.numbers full.now
-            (later newest) }
-        ensures blocks { self.new.blocks.items ≡ self.old.blocks.items }
-        ensures spare { self.old.generations.spare ≤ self.new.generations.spare }
+    /// The number of the version before this one, where this is known of the first.
+    fn before(&self, first: NameEntry, full: &Full) -> Option<u16>
+        requires first { finmap.get self.now.names.entries (versions_of full.now) ≡ Some first }
+        requires some { 1 ≤ full.now.generation }
+        ensures { result ≡ number_in self.now.names.entries
+            (record full.now { generation = full.now.generation - 1 }) }
     {
-        let name = versions_of(full);
-        if newest < 2 {
-            self.generations.remove(&name);
-        } else {
-            self.generations.replace(&name, newest);
+        let generation = full.generation - 1;
+        if generation == 1 {
+            return first.number;
         }
+        let before = Full {
+            generation,
+            ..full.copy()
+        };
+        self.find(&before)
     }
 
     /// The blocks of the files of the owner of this number, 0 where there is no such user.
@@ -162,7 +308,7 @@ impl Counts {
         requires len { len ≤ 65536 }
         ensures blocks { self.new.blocks.items ≡ slice_set self.old.blocks.items owner
             (slice_index_or self.old.blocks.items owner 0 + blocks_for len) }
-        ensures generations { self.new.generations ≡ self.old.generations }
+        ensures names { self.new.names ≡ self.old.names }
     {
         self.blocks[owner as usize] += blocks_for(len);
     }
@@ -173,7 +319,7 @@ impl Counts {
         requires used { blocks_for len ≤ slice_index_or self.old.blocks.items owner 0 }
         ensures blocks { self.new.blocks.items ≡ slice_set self.old.blocks.items owner
             (slice_index_or self.old.blocks.items owner 0 - blocks_for len) }
-        ensures generations { self.new.generations ≡ self.old.generations }
+        ensures names { self.new.names ≡ self.old.names }
     {
         self.blocks[owner as usize] -= blocks_for(len);
     }

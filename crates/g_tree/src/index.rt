@@ -1,6 +1,7 @@
-//! The numbers of files by full name.
+//! What is known of files by full name.
 ghost use Rattle.std.specs.Prelude.{◌≡◌, ℕ, ◌+◌, ◌≤◌, OnOk, is_some, true};
 ghost use Rattle.std.specs.FinMap as finmap;
+ghost use Rattle.g_tree.specs.State.{raised, settled};
 
 use g_base::NoMemory;
 use g_name::Full;
@@ -8,11 +9,20 @@ use indexmap::IndexMap;
 use std::alloc::Global;
 use std::marker::Model;
 
-/// A map from full names to numbers. Contracts see it beside how many more names fit without taking
-/// memory.
+/// What is known under a full name: the number of its file, and, under the name of a first generation,
+/// the greatest generation of the file's versions, which is 0 under every other name. Where the first
+/// is gone and others are there, its name has no number.
+#[derive(Clone, Copy)]
+pub(crate) struct NameEntry {
+    pub number: Option<u16>,
+    pub newest: u16,
+}
+
+/// A map from full names to what is known under them. Contracts see it beside how many more names fit
+/// without taking memory.
 #[derive(Drop)]
 pub(crate) struct Index {
-    numbers: IndexMap<Full, u16>,
+    names: IndexMap<Full, NameEntry>,
 }
 
 impl Model for Index {
@@ -26,72 +36,104 @@ impl Model for Index {
     ghost coded = { index_code };
 
     ghost view = { λ i. record {
-      numbers = from_entries i.numbers.entries;
-      spare = spare i.numbers;
+      entries = from_entries i.names.entries;
+      spare = spare i.names;
     } };
 }
 
 impl Index {
     /// No name, which takes no memory yet.
     pub fn new(alloc: Global) -> Index
-        ensures { result.numbers ≡ finmap.empty }
+        ensures { result.entries ≡ finmap.empty }
     {
         Index {
-            numbers: IndexMap::new(alloc),
+            names: IndexMap::new(alloc),
         }
     }
 
-    /// Whether there is no name.
-    pub fn is_empty(&self) -> bool
-        ensures { result ≡ true → self.now.numbers ≡ finmap.empty }
+    pub fn find(&self, full: &Full) -> Option<NameEntry>
+        ensures { result ≡ finmap.get self.now.entries full.now }
     {
-        self.numbers.is_empty()
-    }
-
-    pub fn find(&self, full: &Full) -> Option<u16>
-        ensures { result ≡ finmap.get self.now.numbers full.now }
-    {
-        self.numbers.get(full).copied()
+        self.names.get(full).copied()
     }
 
     /// Makes room for so many more names; without memory the room stays at least what it was.
     pub fn reserve(&mut self, more: usize) -> Result<(), NoMemory>
-        ensures numbers { self.new.numbers ≡ self.old.numbers }
+        ensures entries { self.new.entries ≡ self.old.entries }
         ensures ok { OnOk result (more ≤ self.new.spare) }
         ensures kept { self.old.spare ≤ self.new.spare }
     {
-        self.numbers.reserve(more)?;
+        self.names.reserve(more)?;
         Ok(())
     }
 
-    /// Sets the number of a name, for which there is room.
-    pub fn insert(&mut self, full: Full, number: u16)
+    /// Sets what is known under a name, for which there is room, and gives back what was.
+    pub fn insert(&mut self, full: Full, entry: NameEntry) -> Option<NameEntry>
         requires { 1 ≤ self.old.spare }
-        ensures numbers { self.new.numbers ≡ finmap.insert self.old.numbers full number }
+        ensures was { result ≡ finmap.get self.old.entries full }
+        ensures entries { self.new.entries ≡ finmap.insert self.old.entries full entry }
         ensures spare { self.old.spare ≤ self.new.spare + 1 }
     {
-        match self.numbers.insert(full, number) {
-            Ok(_old) => {}
+        match self.names.insert(full, entry) {
+            Ok(was) => was,
             Err(_) => unreachable!(),
         }
     }
 
-    /// Sets the number of a name that is there, which takes no room.
-    pub fn replace(&mut self, full: &Full, number: u16)
-        requires { is_some (finmap.get self.old.numbers full.now) ≡ true }
-        ensures numbers { self.new.numbers ≡ finmap.insert self.old.numbers full.now number }
+    /// Sets what is known under a name that is there, which takes no room.
+    pub fn replace(&mut self, full: &Full, entry: NameEntry)
+        requires { is_some (finmap.get self.old.entries full.now) ≡ true }
+        ensures entries { self.new.entries ≡ finmap.insert self.old.entries full.now entry }
         ensures spare { self.new.spare ≡ self.old.spare }
     {
-        match self.numbers.get_mut(full) {
-            Some(there) => *there = number,
+        match self.names.get_mut(full) {
+            Some(there) => *there = entry,
+            None => unreachable!(),
+        }
+    }
+
+    /// Raises the greatest generation under a name to this one, where the name is there, and tells
+    /// whether it is.
+    pub fn raise(&mut self, full: &Full, newest: u16) -> bool
+        ensures there { result ≡ is_some (finmap.get self.old.entries full.now) }
+        ensures entries { self.new.entries ≡ raised self.old.entries full.now newest }
+        ensures spare { self.new.spare ≡ self.old.spare }
+    {
+        match self.names.get_mut(full) {
+            Some(there) => {
+                let was = *there;
+                *there = NameEntry {
+                    number: was.number,
+                    newest: was.newest.max(newest),
+                };
+                true
+            }
+            None => false,
+        }
+    }
+
+    /// Sets the greatest generation under a name that is there.
+    pub fn settle(&mut self, full: &Full, newest: u16)
+        requires { is_some (finmap.get self.old.entries full.now) ≡ true }
+        ensures entries { self.new.entries ≡ settled self.old.entries full.now newest }
+        ensures spare { self.new.spare ≡ self.old.spare }
+    {
+        match self.names.get_mut(full) {
+            Some(there) => {
+                let was = *there;
+                *there = NameEntry {
+                    number: was.number,
+                    newest,
+                };
+            }
             None => unreachable!(),
         }
     }
 
     pub fn remove(&mut self, full: &Full)
-        ensures numbers { self.new.numbers ≡ finmap.remove self.old.numbers full.now }
+        ensures entries { self.new.entries ≡ finmap.remove self.old.entries full.now }
         ensures spare { self.old.spare ≤ self.new.spare }
     {
-        self.numbers.swap_remove(full);
+        self.names.swap_remove(full);
     }
 }

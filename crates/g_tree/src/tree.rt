@@ -11,7 +11,6 @@ mod changes;
 mod rights;
 
 use crate::counts::{Counts, versions_of};
-use crate::index::Index;
 use crate::scan::{place_of, sorted_of};
 use crate::{NumberList, Output};
 use g_base::NoMemory;
@@ -28,7 +27,6 @@ use std::marker::Model;
 pub struct Tree {
     users: Vec<UserRec>,
     files: Vec<BoxedRec>,
-    index: Index,
     counts: Counts,
 
     // A box for the next file, so that putting it in takes no memory.
@@ -48,11 +46,11 @@ impl Model for Tree {
       files = t.files.items;
       spare = min (vec_capacity t.users - vec_len t.users)
           (min (vec_capacity t.files - vec_len t.files)
-          (min t.index.spare (min t.counts.generations.spare (room_of t.room))));
+          (min (t.counts.names.spare - 1) (room_of t.room)));
     } };
 
-    ghost invariant = { λ t. IsKept t.users.items t.files.items t.index.numbers
-        t.counts.generations.numbers t.counts.blocks.items };
+    ghost invariant = { λ t. IsKept t.users.items t.files.items t.counts.names.entries
+        t.counts.blocks.items };
 }
 
 impl Tree {
@@ -160,7 +158,7 @@ impl Tree {
             (λ t. is_some result ≡ tree.has_file t full.now) }
         ensures records { IsRecords self.now.users self.now.files }
     {
-        self.index.find(full)
+        self.counts.find(full)
     }
 
     /// What a path names for output, where an absent user is the owner of this number. Where there is
@@ -177,7 +175,7 @@ impl Tree {
         match path.generation {
             Some(generation) => self.output_of(Full { generation, ..full }),
             None => {
-                let newest = self.newest(&full);
+                let newest = self.newest_by(&full);
                 if newest == 4095 {
                     return Output::NoGeneration;
                 }
@@ -226,10 +224,10 @@ impl Tree {
         }
     }
 
-    /// The full name that a path gives with generation 0.
+    /// The full name that a path gives with generation 1, by which all versions are found.
     fn named(&self, owner: u8, path: &Path) -> Option<Full>
         ensures some { IfSome result (λ full. full
-            ≡ tree.named (name_of self.now.users owner) path.now 0) }
+            ≡ tree.named (name_of self.now.users owner) path.now 1) }
         ensures none { IfNone result (tree.owner_of (name_of self.now.users owner) path.now ≡ []) }
         ensures records { IsRecords self.now.users self.now.files }
     {
@@ -243,7 +241,7 @@ impl Tree {
         Some(Full {
             user,
             local: path.local.copy(),
-            generation: 0,
+            generation: 1,
             lang,
         })
     }
@@ -261,7 +259,7 @@ impl Tree {
         match path.generation {
             Some(generation) => Some(Full { generation, ..full }),
             None => {
-                let generation = self.newest(&full);
+                let generation = self.newest_by(&full);
                 Some(Full { generation, ..full })
             }
         }
@@ -285,14 +283,17 @@ impl Tree {
         ensures few { result ≤ 4095 }
         ensures records { IsRecords self.now.users self.now.files }
     {
-        let newest = self.counts.newest(name);
-        if newest > 0 {
-            return newest;
-        }
-        match self.index.find(&versions_of(name)) {
-            Some(_) => 1,
-            None => 0,
-        }
+        self.newest_by(&versions_of(name))
+    }
+
+    /// The greatest generation of the versions of the file whose first has this name, or 0.
+    pub(crate) fn newest_by(&self, first: &Full) -> u16
+        requires { first.now.generation ≡ 1 }
+        ensures newest { result ≡ newest_of self.now.users first.now self.now.files }
+        ensures few { result ≤ 4095 }
+        ensures records { IsRecords self.now.users self.now.files }
+    {
+        self.counts.newest(first)
     }
 }
 

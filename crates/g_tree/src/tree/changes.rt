@@ -1,15 +1,14 @@
 //! Trees from records, and how records change.
-ghost use Rattle.std.specs.Prelude.{◌≡◌, ◌⊎◌, ℕ, ◌+◌, ◌<◌, ◌≤◌, true, List, [], ◌∷◌, ◌++◌, OnOk, OnErr, IfOk, IfSome, IfNone, Some, None, length, map, slice_set, slice_index_or, is_some, vec_len};
+ghost use Rattle.std.specs.Prelude.{◌≡◌, ◌⊎◌, ℕ, ◌+◌, ◌<◌, ◌≤◌, true, List, [], ◌∷◌, ◌++◌, OnOk, OnErr, IfOk, IfSome, IfNone, Some, None, length, slice_set, slice_index_or, is_some, vec_len};
 ghost use Rattle.std.specs.Vec.{vec_capacity};
 ghost use Rattle.std.specs.List.{insert};
 ghost use Rattle.std.specs.FinMap as finmap;
 ghost use Rattle.g_entry.specs.Rules.{AreNumbered};
 ghost use Rattle.g_tree.specs.Records.{IsRecords, name_of, full_of, user_row_of, file_row_of, tree_of, by_number, number_of};
 ghost use Rattle.g_tree.specs.Places.{StandsAt};
-ghost use Rattle.g_tree.specs.State.{AreNewest, AreUsed, room_of, with_file, without_file, without_number};
+ghost use Rattle.g_tree.specs.State.{AreIndexed, AreNewest, AreUsed, room_of, with_file, without_file, without_number};
 
 use crate::counts::{Counts, Standing};
-use crate::index::Index;
 use crate::scan::{full_of, has_same_name, place_of};
 use crate::tree::Tree;
 use g_base::NoMemory;
@@ -29,13 +28,11 @@ impl Tree {
         ensures users { IfOk result (λ t. t.users ≡ users.items) }
         ensures files { IfOk result (λ t. t.files ≡ files.items) }
     {
-        let index = index_of(alloc, users.as_slice(), files.as_slice())?;
         let counts = counts_of(alloc, users.as_slice(), files.as_slice())?;
         let files = boxed(alloc, files.as_slice())?;
         Ok(Tree {
             users,
             files,
-            index,
             counts,
             room: None,
             alloc,
@@ -52,7 +49,6 @@ impl Tree {
     {
         self.users.reserve(1)?;
         self.files.reserve(1)?;
-        self.index.reserve(1)?;
         self.counts.reserve(1)?;
         make_room(self.alloc, &mut self.room)
     }
@@ -120,10 +116,8 @@ impl Tree {
         match place_of(self.files.as_slice(), file.number) {
             Ok(place) => self.replace(place, file),
             Err(place) => {
-                let full = full_of(self.users.as_slice(), &file);
-                self.counts.rise(&full);
+                self.counts.put(self.users.as_slice(), &file);
                 self.counts.take(file.owner, file.len);
-                self.index.insert(full, file.number);
                 put_between(&mut self.files, &mut self.room, place, file);
             }
         }
@@ -147,8 +141,7 @@ impl Tree {
             self.renew(place, file);
         } else {
             let was = full_of(self.users.as_slice(), old);
-            let full = full_of(self.users.as_slice(), &file);
-            self.rename(place, &was, full, file);
+            self.rename(place, &was, file);
         }
     }
 
@@ -169,11 +162,10 @@ impl Tree {
     }
 
     /// Puts a file in the place of the one of its number, whose full name is another.
-    fn rename(&mut self, place: usize, old: &Full, full: Full, file: FileRec)
+    fn rename(&mut self, place: usize, old: &Full, file: FileRec)
         requires at { StandsAt self.old.files file.number place }
         requires was { (d : FileRec) → old.now
             ≡ full_of self.old.users (slice_index_or self.old.files place d) }
-        requires name { full ≡ full_of self.old.users file }
         requires room { 1 ≤ self.old.spare }
         requires rules { IsRecords self.old.users (slice_set self.old.files place file) }
         ensures users { self.new.users ≡ self.old.users }
@@ -185,13 +177,11 @@ impl Tree {
             files: self.files.as_slice(),
             place,
         };
-        self.counts.drop_version(&self.index, at, old);
+        self.counts.take_out(at, old);
         let was = self.files[place].get();
-        self.counts.rise(&full);
+        self.counts.put(self.users.as_slice(), &file);
         self.counts.give(was.owner, was.len);
         self.counts.take(file.owner, file.len);
-        self.index.remove(old);
-        self.index.insert(full, file.number);
         self.files[place].set(file);
     }
 
@@ -215,11 +205,10 @@ impl Tree {
                     files: self.files.as_slice(),
                     place,
                 };
-                self.counts.drop_version(&self.index, at, &full);
+                self.counts.take_out(at, &full);
                 let boxed = self.files.remove(place);
                 let file = boxed.get();
                 self.counts.give(file.owner, file.len);
-                self.index.remove(&full);
                 keep_room(&mut self.room, boxed);
             }
             Err(_) => unreachable!(),
@@ -303,30 +292,17 @@ fn put_between(files: &mut Vec<BoxedRec>, room: &mut Option<BoxedRec>, place: us
     }
 }
 
-/// The numbers of files by full name, for which there is room.
-fn index_of(alloc: Global, users: &[UserRec], files: &[FileRec]) -> Result<Index, NoMemory>
-    requires { IsRecords users.now files.now }
-    ensures { IfOk result (λ index. index.numbers
-        ≡ finmap.from_entries (map (λ r. (full_of users.now r, r.number)) files.now)) }
-{
-    let mut index = Index::new(alloc);
-    index.reserve(files.len())?;
-    for file in files {
-        index.insert(full_of(users, file), file.number);
-    }
-    Ok(index)
-}
-
-/// What is remembered of files, with room for as many names as there are.
+/// What is remembered of files, with room for their names.
 fn counts_of(alloc: Global, users: &[UserRec], files: &[FileRec]) -> Result<Counts, NoMemory>
     requires { IsRecords users.now files.now }
-    ensures newest { IfOk result (λ c. AreNewest users.now files.now c.generations.numbers) }
+    ensures index { IfOk result (λ c. AreIndexed users.now files.now c.names.entries) }
+    ensures newest { IfOk result (λ c. AreNewest users.now files.now c.names.entries) }
     ensures used { IfOk result (λ c. AreUsed files.now c.blocks.items) }
 {
     let mut counts = Counts::new(alloc)?;
     counts.reserve(files.len())?;
     for file in files {
-        counts.rise(&full_of(users, file));
+        counts.put(users, file);
         counts.take(file.owner, file.len);
     }
     Ok(counts)

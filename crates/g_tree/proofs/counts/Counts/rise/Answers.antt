@@ -1,10 +1,25 @@
--- A greater generation than the one that is remembered takes its place.
-use Rattle.std.proofs.Common.{◌∙◌, ◌<◌, ap, subst}
-use Rattle.std.specs.FinMap.{insert}
-use Rattle.g_tree.proofs.CountLemmas.{newest_rises}
+-- Where something is known of the first the greatest generation is raised, and else it is this one.
+use Rattle.std.proofs.Common.{sym, ap, ◌∙◌, arith}
+use Rattle.g_tree.specs.State.{newest_in, number_in}
+use Rattle.g_tree.proofs.EntryLemmas.{newest_begun, newest_raised, numbers_begun, numbers_raised}
 use Rattle.g_tree.proofs.counts.Counts.rise.Goals as goal
 
-pub returns-then-newest-full-clause-generations : goal.returns-then-newest-full-clause-generations
-returns-then-newest-full-clause-generations c =
-    newest_rises c.args.self.now.generations.numbers c.insert.new.self.numbers c.args.full.now c.if-full-lt2.false (subst (λ n. n < c.args.full.now.generation) c.newest.ensures c.if-newest-full.true)
-    (c.insert.ensures.numbers ∙ ap (λ f. insert c.args.self.now.generations.numbers f c.args.full.now.generation) c.versions_of.ensures)
+pub returns-then-raise-clause-numbers : goal.returns-then-raise-clause-numbers
+returns-then-raise-clause-numbers c = λ q. ap (λ m. number_in m q) c.raise.ensures.entries ∙ numbers_raised c.args.self.now.names.entries c.args.first c.args.newest q
+
+pub returns-then-raise-clause-newest : goal.returns-then-raise-clause-newest
+returns-then-raise-clause-newest c = λ q.
+    ap (λ m. newest_in m q) c.raise.ensures.entries
+    ∙ newest_raised c.args.self.now.names.entries c.args.first c.args.newest c.requires.first (sym c.raise.ensures.there ∙ c.if-raise.true) q
+
+pub insert-requires : goal.insert-requires
+insert-requires c = omega (arith, c.requires.room, c.raise.ensures.spare)
+
+pub returns-clause-numbers : goal.returns-clause-numbers
+returns-clause-numbers c =
+    numbers_begun c.args.self.now.names.entries c.args.first c.raise.new.self.entries c.insert.new.self.entries c.args.newest (sym c.raise.ensures.there ∙ c.if-raise.false) c.raise.ensures.entries c.insert.ensures.entries
+
+pub returns-clause-newest : goal.returns-clause-newest
+returns-clause-newest c =
+    newest_begun c.args.self.now.names.entries c.args.first c.raise.new.self.entries c.insert.new.self.entries c.args.newest (sym c.raise.ensures.there ∙ c.if-raise.false) c.raise.ensures.entries c.insert.ensures.entries
+    c.requires.first

@@ -1,40 +1,40 @@
 -- The file at the place of the number goes, and with it its name, its version and its blocks.
-use Rattle.std.proofs.Common.{◌≡◌, ◌≤◌, ◌<◌, ◌-◌, get_or, length, map, sym, ap, subst, ◌∙◌, is_some, true≢false}
+use Rattle.std.proofs.Common.{◌≡◌, ◌≤◌, ◌<◌, ◌-◌, get_or, length, sym, ap, subst, ◌∙◌, is_some, true≢false}
 use Rattle.std.proofs.Math.ListN.{set}
 use Rattle.std.specs.List.{remove as remove_at}
-use Rattle.std.specs.FinMap.{from_entries, get}
+use Rattle.std.specs.FinMap.{get}
 use Rattle.std.proofs.lemmas.List.{get_or_default}
 use Rattle.g_base.specs.Block.{blocks_for}
-use Rattle.g_name.specs.Order.{full_cmp}
 use Rattle.g_tree.specs.Records.{IsRecords, full_of, tree_of, by_number}
-use Rattle.g_tree.specs.State.{AreNewest, AreUsed, without_file}
+use Rattle.g_tree.specs.State.{AreIndexed, AreNewest, AreUsed, IsKept, without_file}
 use Rattle.g_tree.specs.Places.{StandsAt, FitsAt}
 use Rattle.g_tree.proofs.PlaceLemmas.{fits_none}
-use Rattle.g_tree.proofs.ChangeLemmas.{erased, removed_list}
+use Rattle.g_tree.proofs.ChangeLemmas.{removed_list, removed_rules}
 use Rattle.g_tree.proofs.CountLemmas.{erased_used, owner_at, give_some}
 use Rattle.g_tree.proofs.LawLemmas.{tree_erased}
 use Rattle.g_tree.proofs.tree.Tree.erase.Goals as goal
 
-pub drop_version-requires-clause-records : goal.drop_version-requires-clause-records
-drop_version-requires-clause-records c =
+pub take_out-requires-clause-records : goal.take_out-requires-clause-records
+take_out-requires-clause-records c =
     subst (IsRecords c.as_slice-in-Ok-2.result.now) (sym c.as_slice-in-Ok-3.ensures.value) (subst (λ us. IsRecords us c.self.inside.files.items) (sym c.as_slice-in-Ok-2.ensures.value) c.self.invariant.records)
 
-pub drop_version-requires-clause-index : goal.drop_version-requires-clause-index
-drop_version-requires-clause-index c =
-    c.self.invariant.index ∙ (λ i. from_entries {R = full_cmp} (map (λ r. (full_of (sym c.as_slice-in-Ok-2.ensures.value i) r, r.number)) (sym c.as_slice-in-Ok-3.ensures.value i)))
+pub take_out-requires-clause-index : goal.take_out-requires-clause-index
+take_out-requires-clause-index c =
+    let entries = c.self.inside.counts.names.entries in
+    subst (λ fs. AreIndexed c.as_slice-in-Ok-2.result.now fs entries) (sym c.as_slice-in-Ok-3.ensures.value) (subst (λ us. AreIndexed us c.self.inside.files.items entries) (sym c.as_slice-in-Ok-2.ensures.value) c.self.invariant.index)
 
-pub drop_version-requires-clause-newest : goal.drop_version-requires-clause-newest
-drop_version-requires-clause-newest c =
-    let generations = c.self.inside.counts.generations.numbers in
-    subst (λ fs. AreNewest c.as_slice-in-Ok-2.result.now fs generations) (sym c.as_slice-in-Ok-3.ensures.value) (subst (λ us. AreNewest us c.self.inside.files.items generations) (sym c.as_slice-in-Ok-2.ensures.value) c.self.invariant.newest)
+pub take_out-requires-clause-newest : goal.take_out-requires-clause-newest
+take_out-requires-clause-newest c =
+    let entries = c.self.inside.counts.names.entries in
+    subst (λ fs. AreNewest c.as_slice-in-Ok-2.result.now fs entries) (sym c.as_slice-in-Ok-3.ensures.value) (subst (λ us. AreNewest us c.self.inside.files.items entries) (sym c.as_slice-in-Ok-2.ensures.value) c.self.invariant.newest)
 
-pub drop_version-requires-clause-there : goal.drop_version-requires-clause-there
-drop_version-requires-clause-there c =
+pub take_out-requires-clause-there : goal.take_out-requires-clause-there
+take_out-requires-clause-there c =
     let at : StandsAt c.self.inside.files.items c.args.number c.in-Ok.place = subst (λ fs. StandsAt fs c.args.number c.in-Ok.place) c.as_slice.ensures.value c.in-Ok.ensures.found in
     subst (λ fs. c.in-Ok.place < length fs) (sym c.as_slice-in-Ok-3.ensures.value) at.within
 
-pub drop_version-requires-clause-named : goal.drop_version-requires-clause-named
-drop_version-requires-clause-named c = λ d.
+pub take_out-requires-clause-named : goal.take_out-requires-clause-named
+take_out-requires-clause-named c = λ d.
     let files = c.self.inside.files.items in
     let at : StandsAt files c.args.number c.in-Ok.place = subst (λ fs. StandsAt fs c.args.number c.in-Ok.place) c.as_slice.ensures.value c.in-Ok.ensures.found in
     c.full_of-full.ensures ∙ (λ i. full_of (c.as_slice-in-Ok.ensures.value i) ((c.get.ensures ∙ c.index.ensures ∙ get_or_default files c.in-Ok.place c.index.result.now d at.within) i))
@@ -48,34 +48,29 @@ give-requires-clause-used c =
     let at : StandsAt files c.args.number c.in-Ok.place = subst (λ fs. StandsAt fs c.args.number c.in-Ok.place) c.as_slice.ensures.value c.in-Ok.ensures.found in
     let r = c.get-file.result.now in
     let here : r ≡ get_or files c.in-Ok.place r = subst (λ x. x ≡ get_or files c.in-Ok.place x) (sym c.get-file.ensures) c.remove-boxed.ensures.value in
-    subst (λ bs. blocks_for r.len ≤ get_or bs r.owner 0) (sym c.drop_version.ensures.blocks) (give_some users files is c.in-Ok.place r at.within here c.self.inside.counts.blocks.items c.self.invariant.used)
+    subst (λ bs. blocks_for r.len ≤ get_or bs r.owner 0) (sym c.take_out.ensures.blocks) (give_some users files is c.in-Ok.place r at.within here c.self.inside.counts.blocks.items c.self.invariant.used)
 
 pub invariant_of-self : goal.invariant_of-self
 invariant_of-self c =
     let users = c.self.inside.users.items in
     let files = c.self.inside.files.items in
     let is = c.self.invariant.records in
-    let at : StandsAt files c.args.number c.in-Ok.place = subst (λ fs. StandsAt fs c.args.number c.in-Ok.place) c.as_slice.ensures.value c.in-Ok.ensures.found in
+    let place = c.in-Ok.place in
+    let at : StandsAt files c.args.number place = subst (λ fs. StandsAt fs c.args.number place) c.as_slice.ensures.value c.in-Ok.ensures.found in
     let r = c.get-file.result.now in
-    let here : r ≡ get_or files c.in-Ok.place r = subst (λ x. x ≡ get_or files c.in-Ok.place x) (sym c.get-file.ensures) c.remove-boxed.ensures.value in
-    let same : c.get.result.now ≡ r = c.get.ensures ∙ c.index.ensures ∙ get_or_default files c.in-Ok.place c.index.result.now r at.within ∙ sym here in
-    let named : c.full_of-full.result ≡ full_of users r = c.full_of-full.ensures ∙ ap (λ us. full_of us c.get.result.now) c.as_slice-in-Ok.ensures.value ∙ ap (full_of users) same in
-    let counts = c.self.inside.counts in
-    let left : AreNewest users (remove_at files c.in-Ok.place) c.drop_version.new.self.generations.numbers =
-    subst (λ us. AreNewest us (remove_at files c.in-Ok.place) c.drop_version.new.self.generations.numbers) c.as_slice-in-Ok-2.ensures.value
-    (subst (λ fs. AreNewest c.as_slice-in-Ok-2.result.now (remove_at fs c.in-Ok.place) c.drop_version.new.self.generations.numbers) c.as_slice-in-Ok-3.ensures.value c.drop_version.ensures.newest) in
-    let indexed =
-    erased users files is c.args.number c.in-Ok.place at c.remove-boxed.new.self.items r c.full_of-full.result _ _ c.self.invariant.index c.remove-boxed.ensures.items here named c.remove.ensures.numbers in record {
-      records = indexed.records;
-      index = indexed.index;
-      newest =
-          subst (λ fs. AreNewest users fs c.give.new.self.generations.numbers) (sym c.remove-boxed.ensures.items)
-          (subst (AreNewest users (remove_at files c.in-Ok.place)) (sym (ap (λ g. g.numbers) c.give.ensures.generations)) left);
-      used =
-          subst (λ fs. AreUsed fs c.give.new.self.blocks.items) (sym c.remove-boxed.ensures.items)
-          (subst (AreUsed (remove_at files c.in-Ok.place)) (sym (c.give.ensures.blocks ∙ ap (λ bs. set bs r.owner (get_or bs r.owner 0 - blocks_for r.len)) c.drop_version.ensures.blocks))
-          (erased_used files c.in-Ok.place r counts.blocks.items c.self.invariant.used (owner_at users files is c.in-Ok.place r at.within here) at.within here));
-    }
+    let here : r ≡ get_or files place r = subst (λ x. x ≡ get_or files place x) (sym c.get-file.ensures) c.remove-boxed.ensures.value in
+    let known = c.take_out.new.self.names.entries in
+    let rest = remove_at files place in
+    let index : AreIndexed users rest known =
+    subst (λ us. AreIndexed us rest known) c.as_slice-in-Ok-2.ensures.value (subst (λ fs. AreIndexed c.as_slice-in-Ok-2.result.now (remove_at fs place) known) c.as_slice-in-Ok-3.ensures.value c.take_out.ensures.index) in
+    let newest : AreNewest users rest known =
+    subst (λ us. AreNewest us rest known) c.as_slice-in-Ok-2.ensures.value (subst (λ fs. AreNewest c.as_slice-in-Ok-2.result.now (remove_at fs place) known) c.as_slice-in-Ok-3.ensures.value c.take_out.ensures.newest) in
+    let used : AreUsed rest c.give.new.self.blocks.items =
+    subst (AreUsed rest) (sym (c.give.ensures.blocks ∙ ap (λ bs. set bs r.owner (get_or bs r.owner 0 - blocks_for r.len)) c.take_out.ensures.blocks))
+    (erased_used files place r c.self.inside.counts.blocks.items c.self.invariant.used (owner_at users files is place r at.within here) at.within here) in
+    subst (λ fs. IsKept users fs c.give.new.self.names.entries c.give.new.self.blocks.items) (sym c.remove-boxed.ensures.items)
+    (subst (λ m. IsKept users rest m c.give.new.self.blocks.items) (sym (ap (λ g. g.entries) c.give.ensures.names))
+    (record { records = removed_rules users files is place at.within; index = index; newest = newest; used = used }))
 
 pub unreachable-requires : goal.unreachable-requires
 unreachable-requires c =
@@ -98,10 +93,5 @@ pub returns-clause-records : goal.returns-clause-records
 returns-clause-records c =
     let users = c.self.inside.users.items in
     let files = c.self.inside.files.items in
-    let is = c.self.invariant.records in
     let at : StandsAt files c.args.number c.in-Ok.place = subst (λ fs. StandsAt fs c.args.number c.in-Ok.place) c.as_slice.ensures.value c.in-Ok.ensures.found in
-    let r = c.get-file.result.now in
-    let here : r ≡ get_or files c.in-Ok.place r = subst (λ x. x ≡ get_or files c.in-Ok.place x) (sym c.get-file.ensures) c.remove-boxed.ensures.value in
-    let same : c.get.result.now ≡ r = c.get.ensures ∙ c.index.ensures ∙ get_or_default files c.in-Ok.place c.index.result.now r at.within ∙ sym here in
-    let named : c.full_of-full.result ≡ full_of users r = c.full_of-full.ensures ∙ ap (λ us. full_of us c.get.result.now) c.as_slice-in-Ok.ensures.value ∙ ap (full_of users) same in
-    (erased users files is c.args.number c.in-Ok.place at c.remove-boxed.new.self.items r c.full_of-full.result _ _ c.self.invariant.index c.remove-boxed.ensures.items here named c.remove.ensures.numbers).records
+    subst (IsRecords users) (sym c.remove-boxed.ensures.items) (removed_rules users files c.self.invariant.records c.in-Ok.place at.within)

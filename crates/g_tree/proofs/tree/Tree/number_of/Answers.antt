@@ -1,6 +1,5 @@
 -- The index has the numbers of the records.
 use Rattle.std.proofs.Common.{is_some, ap, subst, ◌∙◌}
-use Rattle.std.specs.FinMap.{get}
 use Rattle.g_tree.specs.Records.{IsRecords, number_of}
 use Rattle.g_tree.proofs.RecordLemmas.{get_file, file_there}
 use Rattle.g_tree.proofs.NamedLemmas.{name_if_found}
@@ -8,7 +7,7 @@ use Rattle.g_tree.proofs.tree.Tree.number_of.Goals as goal
 
 pub returns-clause-number : goal.returns-clause-number
 returns-clause-number c =
-    c.find.ensures ∙ ap (λ numbers. get numbers c.args.full.now) c.self.invariant.index
+    c.find.ensures ∙ c.self.invariant.index c.args.full.now
     ∙ get_file c.self.inside.users.items c.self.inside.files.items (λ r. r.number) c.args.full.now
     ∙ ap (λ s. number_of s.users s.files c.args.full.now) c.self.view_is
 

@@ -1,15 +1,15 @@
 -- A file in the place of another, or between others.
-use Rattle.std.proofs.Common.{◌≡◌, ◌≤◌, ◌<◌, ◌⊎◌, ℕ, ◌+◌, List, get_or, sym, ap, subst, ◌∙◌, arith, Some, length}
+use Rattle.std.proofs.Common.{◌≡◌, ◌≤◌, ◌<◌, ◌⊎◌, ℕ, ◌+◌, List, max, get_or, sym, ap, subst, ◌∙◌, arith, Some, length}
 use Rattle.std.proofs.Math.ListN.{set}
 use Rattle.std.specs.List as list
-use Rattle.std.specs.FinMap.{insert}
 use Rattle.g_base.specs.Block.{blocks_for}
 use Rattle.g_entry.specs.declared.user_rec.UserRec.{UserRec}
 use Rattle.g_entry.specs.declared.file_rec.FileRec.{FileRec}
 use Rattle.g_tree.specs.Records.{IsRecords, full_of, tree_of, number_of}
-use Rattle.g_tree.specs.State.{IsKept, AreNewest, AreUsed, with_file}
+use Rattle.g_tree.specs.State.{IsKept, AreIndexed, AreNewest, AreUsed, HasNumber, HasNewest, newest_in, with_file}
 use Rattle.g_tree.specs.Places.{StandsAt, FitsAt}
-use Rattle.g_tree.proofs.PutLemmas.{owner_there, file_ruled, with_new, with_other, indexed_new, named_fits, still_room}
+use Rattle.g_tree.proofs.PutLemmas.{owner_there, file_ruled, with_new, with_other, named_fits, still_room}
+use Rattle.g_tree.proofs.EntryLemmas.{indexed_in}
 use Rattle.g_tree.proofs.LawLemmas.{tree_put}
 use Rattle.g_tree.proofs.CountLemmas.{new_newest, new_used, used_few, owner_few}
 use Rattle.g_tree.proofs.tree.Tree.put.Goals as goal
@@ -19,8 +19,8 @@ room_there : (users : List UserRec) (files : List FileRec) (file : FileRec) (pla
     → (1 ≤ spare) ⊎ (number_of users files (full_of users file) ≡ Some file.number) → 1 ≤ spare
 room_there users files file place spare is fits room = still_room users files (full_of users file) file.number spare room (λ e. named_fits users files is file.number (full_of users file) place e fits)
 
-pub full_of-full-requires : goal.full_of-full-requires
-full_of-full-requires c =
+pub put-requires-clause-owner : goal.put-requires-clause-owner
+put-requires-clause-owner c =
     subst (λ us. c.args.file.owner < length us) (ap (λ s. s.users) (sym c.self.view_is) ∙ sym c.as_slice-in-Err.ensures.value) (owner_there c.args.self.now.users c.args.self.now.files c.args.file c.requires.rules)
 
 pub replace-requires-clause-rules : goal.replace-requires-clause-rules
@@ -42,13 +42,6 @@ returns-in-Ok-clause-tree c = λ bytes next.
     let is = subst (λ s. IsRecords s.users s.files) c.self.view_is c.self.invariant.records in
     (λ i. tree_of (c.replace.ensures.users i) (returns-in-Ok-clause-files c i) bytes next) ∙ tree_put c.args.self.now.users c.args.self.now.files bytes next is c.args.file c.requires.rules
 
-pub insert-requires : goal.insert-requires
-insert-requires c =
-    let fits : FitsAt c.self.inside.files.items c.args.file.number c.in-Err.place = subst (λ fs. FitsAt fs c.args.file.number c.in-Err.place) c.as_slice.ensures.value c.in-Err.ensures.absent in
-    let room = subst (λ s. (1 ≤ s.spare) ⊎ (number_of s.users s.files (full_of s.users c.args.file) ≡ Some c.args.file.number)) (sym c.self.view_is) c.requires.room in
-    let spare = room_there c.self.inside.users.items c.self.inside.files.items c.args.file c.in-Err.place _ c.self.invariant.records fits room in
-    omega (arith, spare)
-
 pub put_between-requires-clause-places : goal.put_between-requires-clause-places
 put_between-requires-clause-places c =
     let fits : FitsAt c.self.inside.files.items c.args.file.number c.in-Err.place = subst (λ fs. FitsAt fs c.args.file.number c.in-Err.place) c.as_slice.ensures.value c.in-Err.ensures.absent in
@@ -63,8 +56,8 @@ put_between-requires-clause-room c =
     let spare = room_there c.self.inside.users.items c.self.inside.files.items c.args.file c.in-Err.place _ c.self.invariant.records fits room in
     omega (arith, spare)
 
-pub rise-requires : goal.rise-requires
-rise-requires c =
+pub put-requires-clause-room : goal.put-requires-clause-room
+put-requires-clause-room c =
     let fits : FitsAt c.self.inside.files.items c.args.file.number c.in-Err.place = subst (λ fs. FitsAt fs c.args.file.number c.in-Err.place) c.as_slice.ensures.value c.in-Err.ensures.absent in
     let room = subst (λ s. (1 ≤ s.spare) ⊎ (number_of s.users s.files (full_of s.users c.args.file) ≡ Some c.args.file.number)) (sym c.self.view_is) c.requires.room in
     let spare = room_there c.self.inside.users.items c.self.inside.files.items c.args.file c.in-Err.place _ c.self.invariant.records fits room in
@@ -74,12 +67,12 @@ pub take-requires-clause-there : goal.take-requires-clause-there
 take-requires-clause-there c =
     let owner = owner_few c.self.inside.users.items c.self.inside.files.items c.self.invariant.records c.args.file.owner
     (owner_there c.self.inside.users.items c.self.inside.files.items c.args.file (subst (λ s. IsRecords s.users (with_file c.args.file s.files)) (sym c.self.view_is) c.requires.rules)) in
-    let places = ap length c.rise.ensures.blocks ∙ c.self.invariant.used.places in
+    let places = ap length c.put.ensures.blocks ∙ c.self.invariant.used.places in
     omega (arith, owner, places)
 
 pub take-requires-clause-used : goal.take-requires-clause-used
 take-requires-clause-used c =
-    subst (λ bs. get_or bs c.args.file.owner 0 ≤ 131072) (sym c.rise.ensures.blocks)
+    subst (λ bs. get_or bs c.args.file.owner 0 ≤ 131072) (sym c.put.ensures.blocks)
     (used_few c.self.inside.users.items c.self.inside.files.items c.self.invariant.records c.self.inside.counts.blocks.items c.args.file.owner c.self.invariant.used)
 
 pub take-requires-clause-len : goal.take-requires-clause-len
@@ -89,23 +82,26 @@ pub invariant_of-self : goal.invariant_of-self
 invariant_of-self c =
     let users = c.self.inside.users.items in
     let files = c.self.inside.files.items in
-    let fits : FitsAt files c.args.file.number c.in-Err.place = subst (λ fs. FitsAt fs c.args.file.number c.in-Err.place) c.as_slice.ensures.value c.in-Err.ensures.absent in
-    let rules : IsRecords users (with_file c.args.file files) = subst (λ s. IsRecords s.users (with_file c.args.file s.files)) (sym c.self.view_is) c.requires.rules in
-    let items : c.put_between.new.files.items ≡ list.insert files c.in-Err.place c.args.file = c.put_between.ensures in
-    let named : c.full_of-full.result ≡ full_of users c.args.file = c.full_of-full.ensures ∙ ap (λ us. full_of us c.args.file) c.as_slice-in-Err.ensures.value in
-    let indexed =
-    indexed_new users files c.in-Err.place c.args.file c.self.inside.index.numbers c.insert.new.self.numbers (record { records = c.self.invariant.records; index = c.self.invariant.index })
-    (subst (IsRecords users) (with_new c.args.file files c.in-Err.place fits) rules)
-    (c.insert.ensures.numbers ∙ ap (λ f. insert c.self.inside.index.numbers f c.args.file.number) named) in
-    let owner = owner_few users files c.self.invariant.records c.args.file.owner (owner_there users files c.args.file rules) in
-    let newest : AreNewest users (list.insert files c.in-Err.place c.args.file) c.take.new.self.generations.numbers =
-    subst (AreNewest users (list.insert files c.in-Err.place c.args.file)) (sym (ap (λ g. g.numbers) c.take.ensures.generations))
-    (new_newest users files c.in-Err.place c.full_of-full.result c.args.file c.self.inside.counts.generations.numbers c.rise.new.self.generations.numbers c.self.invariant.newest named c.rise.ensures.generations) in
-    let used : AreUsed (list.insert files c.in-Err.place c.args.file) c.take.new.self.blocks.items =
-    subst (AreUsed (list.insert files c.in-Err.place c.args.file)) (sym (c.take.ensures.blocks ∙ ap (λ bs. set bs c.args.file.owner (get_or bs c.args.file.owner 0 + blocks_for c.args.file.len)) c.rise.ensures.blocks))
-    (new_used files c.in-Err.place c.args.file c.self.inside.counts.blocks.items c.self.invariant.used owner) in
-    subst (λ fs. IsKept users fs c.insert.new.self.numbers c.take.new.self.generations.numbers c.take.new.self.blocks.items) (sym items)
-    (record { records = indexed.records; index = indexed.index; newest = newest; used = used })
+    let place = c.in-Err.place in
+    let file = c.args.file in
+    let old = c.self.inside.counts.names.entries in
+    let fits : FitsAt files file.number place = subst (λ fs. FitsAt fs file.number place) c.as_slice.ensures.value c.in-Err.ensures.absent in
+    let rules : IsRecords users (with_file file files) = subst (λ s. IsRecords s.users (with_file file s.files)) (sym c.self.view_is) c.requires.rules in
+    let between : IsRecords users (list.insert files place file) = subst (IsRecords users) (with_new file files place fits) rules in
+    let items : c.put_between.new.files.items ≡ list.insert files place file = c.put_between.ensures in
+    let owner = owner_few users files c.self.invariant.records file.owner (owner_there users files file rules) in
+    let index : AreIndexed users (list.insert files place file) c.put.new.self.names.entries =
+    indexed_in users files place file old c.put.new.self.names.entries between c.self.invariant.index
+    (subst (λ us. HasNumber old c.put.new.self.names.entries (full_of us file) (Some file.number)) c.as_slice-in-Err.ensures.value c.put.ensures.numbers) in
+    let newest : AreNewest users (list.insert files place file) c.put.new.self.names.entries =
+    new_newest users files place file old c.put.new.self.names.entries c.self.invariant.newest
+    (subst (λ us. HasNewest old c.put.new.self.names.entries (full_of us file) (max (newest_in old (full_of us file)) file.generation)) c.as_slice-in-Err.ensures.value c.put.ensures.newest) in
+    let used : AreUsed (list.insert files place file) c.take.new.self.blocks.items =
+    subst (AreUsed (list.insert files place file)) (sym (c.take.ensures.blocks ∙ ap (λ bs. set bs file.owner (get_or bs file.owner 0 + blocks_for file.len)) c.put.ensures.blocks))
+    (new_used files place file c.self.inside.counts.blocks.items c.self.invariant.used owner) in
+    subst (λ fs. IsKept users fs c.take.new.self.names.entries c.take.new.self.blocks.items) (sym items)
+    (subst (λ m. IsKept users (list.insert files place file) m c.take.new.self.blocks.items) (sym (ap (λ g. g.entries) c.take.ensures.names))
+    (record { records = between; index = index; newest = newest; used = used }))
 
 pub returns-in-Err-clause-files : goal.returns-in-Err-clause-files
 returns-in-Err-clause-files c =

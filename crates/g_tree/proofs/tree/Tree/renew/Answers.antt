@@ -1,12 +1,12 @@
 -- The blocks of the one file go, and those of the other come.
-use Rattle.std.proofs.Common.{◌≡◌, length, get_or, refl, sym, ap, subst, ◌∙◌, arith}
+use Rattle.std.proofs.Common.{◌≡◌, length, get_or, sym, ap, subst, ◌∙◌, arith}
 use Rattle.std.proofs.Math.ListN.{set}
 use Rattle.std.proofs.lemmas.List.{length-set}
 use Rattle.g_entry.specs.declared.file_rec.FileRec.{FileRec}
 use Rattle.g_tree.specs.Records.{IsRecords, full_of}
-use Rattle.g_tree.specs.State.{AreNewest, AreUsed, IsKept}
+use Rattle.g_tree.specs.State.{AreIndexed, AreNewest, AreUsed, IsKept}
 use Rattle.g_tree.specs.Places.{StandsAt}
-use Rattle.g_tree.proofs.PutLemmas.{indexed_same}
+use Rattle.g_tree.proofs.EntryLemmas.{indexed_kept}
 use Rattle.g_tree.proofs.CountLemmas.{owner_at, rest_used, put_owner, put_len, kept_newest, replaced_used}
 use Rattle.g_tree.proofs.tree.Tree.renew.Goals as goal
 
@@ -41,22 +41,20 @@ invariant_of-self c =
     let r = c.get-old.result.now in
     let here : r ≡ get_or files c.args.place r = subst (λ x. x ≡ get_or files c.args.place x) (sym c.get-old.ensures) c.index.ensures in
     let is = c.self.invariant.records in
-    let counts = c.self.inside.counts in
     let at : StandsAt files c.args.file.number c.args.place = subst (λ s. StandsAt s.files c.args.file.number c.args.place) (sym c.self.view_is) c.requires.at in
     let rules : IsRecords users (set files c.args.place c.args.file) = subst (λ s. IsRecords s.users (set s.files c.args.place c.args.file)) (sym c.self.view_is) c.requires.rules in
     let named : full_of users r ≡ full_of users c.args.file =
     ap (full_of users) here ∙ subst (λ s. full_of s.users (get_or s.files c.args.place r) ≡ full_of s.users c.args.file) (sym c.self.view_is) (c.requires.name r) in
-    let indexed =
-    indexed_same users files c.args.place r c.args.file rules c.self.inside.index.numbers c.self.inside.index.numbers (record { records = is; index = c.self.invariant.index }) here at named refl in
-    subst (λ (f : FileRec). IsKept users (set files c.args.place f) c.self.inside.index.numbers c.take.new.self.generations.numbers c.take.new.self.blocks.items) (sym c.set.ensures)
-    (record {
-      records = rules;
-      index = indexed.index;
-      newest =
-          subst (AreNewest users (set files c.args.place c.args.file)) (sym (ap (λ g. g.numbers) (c.take.ensures.generations ∙ c.give.ensures.generations)))
-          (kept_newest users files c.args.place r at.within here c.args.file counts.generations.numbers c.self.invariant.newest named);
-      used =
-          subst (AreUsed (set files c.args.place c.args.file)) (sym c.take.ensures.blocks)
-          (replaced_used files c.args.place r c.args.file counts.blocks.items c.give.new.self.blocks.items c.self.invariant.used (owner_at users files is c.args.place r at.within here)
-          (put_owner users files is c.args.place r at.within here c.args.file rules) at.within here c.give.ensures.blocks);
-    })
+    let counts = c.self.inside.counts in
+    let number : r.number ≡ c.args.file.number = ap (λ s. s.number) here ∙ at.has r in
+    let index : AreIndexed users (set files c.args.place c.args.file) counts.names.entries =
+    indexed_kept users files c.args.place r c.args.file counts.names.entries at.within here named number c.self.invariant.index in
+    let newest : AreNewest users (set files c.args.place c.args.file) counts.names.entries =
+    kept_newest users files c.args.place r at.within here c.args.file counts.names.entries c.self.invariant.newest named in
+    let used : AreUsed (set files c.args.place c.args.file) c.take.new.self.blocks.items =
+    subst (AreUsed (set files c.args.place c.args.file)) (sym c.take.ensures.blocks)
+    (replaced_used files c.args.place r c.args.file counts.blocks.items c.give.new.self.blocks.items c.self.invariant.used (owner_at users files is c.args.place r at.within here)
+    (put_owner users files is c.args.place r at.within here c.args.file rules) at.within here c.give.ensures.blocks) in
+    subst (λ (f : FileRec). IsKept users (set files c.args.place f) c.take.new.self.names.entries c.take.new.self.blocks.items) (sym c.set.ensures)
+    (subst (λ m. IsKept users (set files c.args.place c.args.file) m c.take.new.self.blocks.items) (sym (ap (λ g. g.entries) (c.take.ensures.names ∙ c.give.ensures.names)))
+    (record { records = rules; index = index; newest = newest; used = used }))

@@ -3,7 +3,6 @@ use Rattle.std.proofs.Common.{◌≡◌, ◌<◌, length, get_or, sym, ap, subst
 use Rattle.std.proofs.Math.ListN.{set}
 use Rattle.g_tree.specs.Records.{IsRecords, full_of, number_of}
 use Rattle.g_tree.specs.Places.{StandsAt}
-use Rattle.g_tree.proofs.CountLemmas.{put_owned}
 use Rattle.g_tree.proofs.PutLemmas.{named_apart, stands_named, still_room}
 use Rattle.g_tree.proofs.tree.Tree.replace.Goals as goal
 
@@ -16,16 +15,6 @@ renew-requires-clause-name c = λ d.
     let at : StandsAt files c.args.file.number c.args.place = subst (λ s. StandsAt s.files c.args.file.number c.args.place) (sym c.self.view_is) c.requires.at in
     subst (λ s. full_of s.users (get_or s.files c.args.place d) ≡ full_of s.users c.args.file) c.self.view_is
     (stands_named users files c.args.place r c.args.file c.has_same_name.result c.self.invariant.records at here c.has_same_name.ensures c.if-has_same_name.true d)
-
-pub full_of-full-requires : goal.full_of-full-requires
-full_of-full-requires c =
-    let users = c.self.inside.users.items in
-    let files = c.self.inside.files.items in
-    let r = c.get-old.result.now in
-    let here : r ≡ get_or files c.args.place r = subst (λ x. x ≡ get_or files c.args.place x) (sym c.get-old.ensures) c.index.ensures in
-    let at : StandsAt files c.args.file.number c.args.place = subst (λ s. StandsAt s.files c.args.file.number c.args.place) (sym c.self.view_is) c.requires.at in
-    let rules : IsRecords users (set files c.args.place c.args.file) = subst (λ s. IsRecords s.users (set s.files c.args.place c.args.file)) (sym c.self.view_is) c.requires.rules in
-    subst (λ us. c.args.file.owner < length us) (sym c.as_slice-else-has_same_name.ensures.value) (put_owned users files c.self.invariant.records c.args.place r at.within here c.args.file rules)
 
 pub rename-requires-clause-room : goal.rename-requires-clause-room
 rename-requires-clause-room c =

@@ -1,0 +1,323 @@
+-- What is known by full name, and how it changes.
+use Rattle.std.proofs.Common.{◌≡◌, ◌≢◌, ℕ, suc, ◌+◌, ◌-◌, ◌<◌, ◌≤◌, Bool, true, false, cond, ◌&&◌, List, [], length, max, take, drop, nat_lt, get_or, Option, Some, None, is_some, refl, sym, ap, subst, ◌∙◌, arith, true≢false}
+use Rattle.std.proofs.Math.ListN.{set}
+use Rattle.std.specs.List as list
+use Rattle.std.specs.Ordering.{eq_by_cmp}
+use Rattle.std.specs.Cmp.{eq_by_cmp_equiv}
+use Rattle.std.specs.FinMap.{FinMap, get, insert, remove, empty, same_map, get-empty, get-insert, get-remove}
+use Rattle.std.proofs.lemmas.Bool.Decides.{nat_tests}
+use Rattle.std.proofs.lemmas.List.{set_split, get_or_default}
+use Rattle.g_name.specs.declared.full.Full.{Full}
+use Rattle.g_name.specs.Order.{full_cmp, same_text}
+use Rattle.g_name.proofs.Order.{full_total, full_ties}
+use Rattle.g_entry.specs.declared.user_rec.UserRec.{UserRec}
+use Rattle.g_entry.specs.declared.file_rec.FileRec.{FileRec}
+use Rattle.g_plain.specs.PlainTree.{is_version_of}
+use Rattle.g_plain.proofs.Found.{apart_is, here, tied_are}
+use Rattle.g_plain.proofs.TextMaps.{full_exact}
+use Rattle.g_tree.specs.Places.{StandsAt}
+use Rattle.g_tree.specs.Records.{IsRecords, full_of, number_of}
+use Rattle.g_tree.specs.State.{versions_of, number_at, number_in, newest_at, newest_in, later, raised_at, raised, settled_at, settled, HasNumbers, HasNumber, HasNewest, AreIndexed}
+use Rattle.g_tree.specs.declared.index.NameEntry.{NameEntry}
+use Rattle.g_tree.proofs.MapLemmas.{AreApart, shadowed}
+use Rattle.g_tree.proofs.RecordLemmas.{get_file, names_apart}
+use Rattle.g_tree.proofs.ChangeLemmas.{index_more, removed_map}
+use Rattle.g_tree.proofs.PutLemmas.{rows_of, rows_new, rows_same, put_between}
+
+-- names of versions
+
+abbrev pub at_generation : Full → ℕ → Full
+at_generation full n = record full { generation = n }
+
+three : (a b c : Bool) → (a && (b && c)) ≡ (a && b && c)
+three true b c = refl
+three false b c = refl
+
+pub same_versions : (q f : Full) → eq_by_cmp full_cmp (versions_of q) (versions_of f) ≡ is_version_of q f
+same_versions q f = sym (full_ties (versions_of q) (versions_of f)) ∙ three (same_text q.user f.user) (same_text q.local f.local) (same_text q.lang f.lang)
+
+pub one_version : (q f : Full) → is_version_of q f ≡ true → versions_of q ≡ versions_of f
+one_version q f e = tied_are full_total full_exact (versions_of q) (versions_of f) (same_versions q f ∙ e)
+
+pub version_itself : (f : Full) → is_version_of f f ≡ true
+version_itself f = sym (same_versions f f) ∙ (eq_by_cmp_equiv full_total).refl (versions_of f)
+
+-- the first of a file's versions is found by its own name
+pub first_itself : (f : Full) → f.generation ≡ 1 → versions_of f ≡ f
+first_itself f first = ap (λ n. at_generation f n) (sym first)
+
+first_versions : (q f : Full) → f.generation ≡ 1 → eq_by_cmp full_cmp (versions_of q) f ≡ is_version_of q f
+first_versions q f first = ap (λ g. eq_by_cmp full_cmp (versions_of q) g) (sym (first_itself f first)) ∙ same_versions q f
+
+-- and none of them by that of another
+later_versions : (q f : Full) → f.generation ≢ 1 → eq_by_cmp full_cmp (versions_of q) f ≡ false
+later_versions q f other = apart_is full_total full_exact (versions_of q) f (λ e. other (sym (ap (λ g. g.generation) e)))
+
+-- what is found
+
+abbrev pub numbered : ℕ → ℕ → NameEntry
+numbered number n = record { number = Some number; newest = n }
+
+abbrev pub unnumbered : ℕ → NameEntry
+unnumbered n = record { number = None; newest = n }
+
+number_cond : (b : Bool) (x y : Option NameEntry) → number_at (cond b x y) ≡ cond b (number_at x) (number_at y)
+number_cond true x y = refl
+number_cond false x y = refl
+
+newest_cond : (b : Bool) (x y : Option NameEntry) → newest_at (cond b x y) ≡ cond b (newest_at x) (newest_at y)
+newest_cond true x y = refl
+newest_cond false x y = refl
+
+no_newest_at : (o : Option NameEntry) → is_some o ≡ false → newest_at o ≡ 0
+no_newest_at None none = refl
+no_newest_at (Some e) none = absurd (true≢false none)
+
+no_number_at : (o : Option NameEntry) → is_some o ≡ false → number_at o ≡ None
+no_number_at None none = refl
+no_number_at (Some e) none = absurd (true≢false none)
+
+some_newest_at : (o : Option NameEntry) → 1 ≤ newest_at o → is_some o ≡ true
+some_newest_at None some = absurd (omega arith)
+some_newest_at (Some e) some = refl
+
+-- generations behind the first
+
+lt_is : (m n : ℕ) → nat_lt m n ≡ true → m < n
+lt_is m n e = grind (arith, nat_tests)
+
+lt_not : (m n : ℕ) → nat_lt m n ≡ false → n ≤ m
+lt_not m n e = grind (arith, nat_tests)
+
+pub later_none : (n : ℕ) → n < 2 → 0 ≡ later n
+later_none n first =
+    elim (nat_lt 1 n) as (λ t. nat_lt 1 n ≡ t → 0 ≡ cond t n 0) [
+      | true ↦ λ e. let behind = lt_is 1 n e in absurd (omega (arith, behind, first))
+      | false ↦ λ _. refl
+    ] refl
+
+pub later_some : (n : ℕ) → 2 ≤ n → n ≡ later n
+later_some n some =
+    elim (nat_lt 1 n) as (λ t. nat_lt 1 n ≡ t → n ≡ cond t n 0) [
+      | true ↦ λ _. refl
+      | false ↦ λ e. let first = lt_not 1 n e in absurd (omega (arith, some, first))
+    ] refl
+
+module _ (m : FinMap full_cmp NameEntry) (full : Full) where
+  pub numbers_inserted : (e : NameEntry) → HasNumber m (insert m full e) full e.number
+  numbers_inserted e = λ q.
+      ap (λ o. number_at o) (get-insert full_total m full e q) ∙ number_cond (eq_by_cmp full_cmp q full) (Some e) (get m q)
+
+  pub numbers_removed : HasNumber m (remove m full) full None
+  numbers_removed = λ q.
+      ap (λ o. number_at o) (get-remove full_total m full q) ∙ number_cond (eq_by_cmp full_cmp q full) None (get m q)
+
+  -- where the name has that number
+  pub numbers_kept : (e : NameEntry) → number_in m full ≡ e.number → HasNumbers m (insert m full e)
+  numbers_kept e same = λ q.
+      numbers_inserted e q
+      ∙ elim (eq_by_cmp full_cmp q full) as (λ t. eq_by_cmp full_cmp q full ≡ t → cond t e.number (number_in m q) ≡ number_in m q) [
+        | true ↦ λ t. sym same ∙ ap (λ f. number_in m f) (sym (tied_are full_total full_exact q full t))
+        | false ↦ λ _. refl
+      ] refl
+
+  -- where it has none
+  pub numbers_left : number_in m full ≡ None → HasNumbers m (remove m full)
+  numbers_left none = λ q.
+      numbers_removed q
+      ∙ elim (eq_by_cmp full_cmp q full) as (λ t. eq_by_cmp full_cmp q full ≡ t → cond t None (number_in m q) ≡ number_in m q) [
+        | true ↦ λ t. sym none ∙ ap (λ f. number_in m f) (sym (tied_are full_total full_exact q full t))
+        | false ↦ λ _. refl
+      ] refl
+
+  -- under the name of a first generation
+  module _ (first : full.generation ≡ 1) where
+    pub newest_under : newest_in m full ≡ newest_at (get m full)
+    newest_under = ap (λ f. newest_at (get m f)) (first_itself full first)
+
+    pub first_inserted : (e : NameEntry) → HasNewest m (insert m full e) full e.newest
+    first_inserted e = λ q.
+        ap (λ o. newest_at o) (get-insert full_total m full e (versions_of q) ∙ ap (λ b. cond b (Some e) (get m (versions_of q))) (first_versions q full first))
+        ∙ newest_cond (is_version_of q full) (Some e) (get m (versions_of q))
+
+    pub first_removed : HasNewest m (remove m full) full 0
+    first_removed = λ q.
+        ap (λ o. newest_at o) (get-remove full_total m full (versions_of q) ∙ ap (λ b. cond b None (get m (versions_of q))) (first_versions q full first))
+        ∙ newest_cond (is_version_of q full) None (get m (versions_of q))
+
+    pub some_under : 1 ≤ newest_in m full → is_some (get m full) ≡ true
+    some_under some = some_newest_at (get m full) (subst (λ n. 1 ≤ n) newest_under some)
+
+    pub none_under : is_some (get m full) ≡ false → newest_in m full ≡ 0
+    none_under none = newest_under ∙ no_newest_at (get m full) none
+
+  -- under another
+  pub later_inserted : (e : NameEntry) → full.generation ≢ 1 → (q : Full) → newest_in (insert m full e) q ≡ newest_in m q
+  later_inserted e other q =
+      ap (λ o. newest_at o) (get-insert full_total m full e (versions_of q) ∙ ap (λ b. cond b (Some e) (get m (versions_of q))) (later_versions q full other))
+
+  pub later_removed : full.generation ≢ 1 → (q : Full) → newest_in (remove m full) q ≡ newest_in m q
+  later_removed other q =
+      ap (λ o. newest_at o) (get-remove full_total m full (versions_of q) ∙ ap (λ b. cond b None (get m (versions_of q))) (later_versions q full other))
+
+  -- what is written twice
+  pub insert_twice : (e f : NameEntry) → insert (insert m full e) full f ≡ insert m full f
+  insert_twice e f =
+      same_map full_total full_exact _ _
+      (λ q. get-insert full_total (insert m full e) full f q
+      ∙ ap (λ o. cond (eq_by_cmp full_cmp q full) (Some f) o) (get-insert full_total m full e q)
+      ∙ sym (shadowed (eq_by_cmp full_cmp q full) (Some f) (Some e) (get m q)) ∙ sym (get-insert full_total m full f q))
+
+  -- a greatest generation that is raised
+  pub numbers_raised : (n : ℕ) → HasNumbers m (raised m full n)
+  numbers_raised n = λ q.
+      elim (get m full) as (λ o. get m full ≡ o → number_in (raised_at m full n o) q ≡ number_in m q) [
+        | Some e ↦ λ is. numbers_kept (record e { newest = max e.newest n }) (ap (λ o. number_at o) is) q
+        | None ↦ λ _. refl
+      ] refl
+
+  pub newest_raised : (n : ℕ) → full.generation ≡ 1 → is_some (get m full) ≡ true → HasNewest m (raised m full n) full (max (newest_in m full) n)
+  newest_raised n first there = λ q.
+      elim (get m full) as (λ o. get m full ≡ o → is_some o ≡ true → newest_in (raised_at m full n o) q ≡ cond (is_version_of q full) (max (newest_in m full) n) (newest_in m q)) [
+        | Some e ↦ λ is _.
+            first_inserted first (record e { newest = max e.newest n }) q
+            ∙ ap (λ k. cond (is_version_of q full) (max k n) (newest_in m q)) (sym (newest_under first ∙ ap (λ o. newest_at o) is))
+        | None ↦ λ _ none. absurd (true≢false (sym none))
+      ] refl there
+
+  raised_absent : (n : ℕ) → is_some (get m full) ≡ false → raised m full n ≡ m
+  raised_absent n none =
+      elim (get m full) as (λ o. is_some o ≡ false → raised_at m full n o ≡ m) [ Some e ↦ λ s. absurd (true≢false s) | None ↦ λ _. refl ] none
+
+  -- where nothing is known under the name
+  module _ (mid new : FinMap full_cmp NameEntry) (n : ℕ) (none : is_some (get m full) ≡ false) (stays : mid ≡ raised m full n) (is : new ≡ insert mid full (unnumbered n)) where
+    new_is : new ≡ insert m full (unnumbered n)
+    new_is = is ∙ ap (λ k. insert k full (unnumbered n)) (stays ∙ raised_absent n none)
+
+    pub numbers_begun : HasNumbers m new
+    numbers_begun = λ q. ap (λ k. number_in k q) new_is ∙ numbers_kept (unnumbered n) (no_number_at (get m full) none) q
+
+    pub newest_begun : full.generation ≡ 1 → HasNewest m new full (max (newest_in m full) n)
+    newest_begun first = λ q.
+        let nothing = none_under first none in
+        let most : n ≡ max (newest_in m full) n = omega (arith, nothing) in
+        ap (λ k. newest_in k q) new_is ∙ first_inserted first (unnumbered n) q ∙ ap (λ k. cond (is_version_of q full) k (newest_in m q)) most
+
+  -- and one that is another now
+  pub numbers_settled : (n : ℕ) → HasNumbers m (settled m full n)
+  numbers_settled n = λ q.
+      elim (get m full) as (λ o. get m full ≡ o → number_in (settled_at m full n o) q ≡ number_in m q) [
+        | Some e ↦ λ is. numbers_kept (record e { newest = n }) (ap (λ o. number_at o) is) q
+        | None ↦ λ _. refl
+      ] refl
+
+  pub newest_settled : (n : ℕ) → full.generation ≡ 1 → is_some (get m full) ≡ true → HasNewest m (settled m full n) full n
+  newest_settled n first there = λ q.
+      elim (get m full) as (λ o. is_some o ≡ true → newest_in (settled_at m full n o) q ≡ cond (is_version_of q full) n (newest_in m q)) [
+        | Some e ↦ λ _. first_inserted first (record e { newest = n }) q
+        | None ↦ λ none. absurd (true≢false (sym none))
+      ] there
+
+-- a name that is put in
+
+-- what was just put in is there
+pub there_inserted : (old new : FinMap full_cmp NameEntry) (full again : Full) (e : NameEntry) → new ≡ insert old full e → again ≡ full → is_some (get new again) ≡ true
+there_inserted old new full again e is same =
+    ap (λ m. is_some (get m again)) is ∙ ap (λ f. is_some (get (insert old full e) f)) same ∙ ap is_some (here full_total full_exact old full e)
+
+pub number_put : (old new : FinMap full_cmp NameEntry) (full : Full) (e : NameEntry) → new ≡ insert old full e → HasNumber old new full e.number
+number_put old new full e is = λ q. ap (λ m. number_in m q) is ∙ numbers_inserted old full e q
+
+pub first_put : (old new : FinMap full_cmp NameEntry) (full : Full) (e : NameEntry) (n : ℕ) → full.generation ≡ 1 → new ≡ insert old full e → e.newest ≡ n → HasNewest old new full n
+first_put old new full e n first is same = λ q.
+    ap (λ m. newest_in m q) is ∙ first_inserted old full first e q ∙ ap (λ k. cond (is_version_of q full) k (newest_in old q)) same
+
+-- one that is there already
+pub put_twice : (old mid new : FinMap full_cmp NameEntry) (full again named : Full) (e f : NameEntry) → mid ≡ insert old full e → new ≡ insert mid again f → full ≡ named → again ≡ named → new ≡ insert old named f
+put_twice old mid new full again named e f before is is_named again_named =
+    is ∙ (λ i. insert (before i) (again_named i) f) ∙ ap (λ k. insert (insert old k e) named f) is_named ∙ insert_twice old named e f
+
+-- one behind the first, once the greatest generation is known
+pub number_behind : (old mid new : FinMap full_cmp NameEntry) (full : Full) (e : NameEntry) → HasNumbers old mid → new ≡ insert mid full e → HasNumber old new full e.number
+number_behind old mid new full e same is = λ q.
+    ap (λ m. number_in m q) is ∙ numbers_inserted mid full e q ∙ ap (λ o. cond (eq_by_cmp full_cmp q full) e.number o) (same q)
+
+pub newest_behind : (old mid new : FinMap full_cmp NameEntry) (full : Full) (e : NameEntry) (n : ℕ) → full.generation ≢ 1 → HasNewest old mid full n → new ≡ insert mid full e → HasNewest old new full n
+newest_behind old mid new full e n behind changed is = λ q. ap (λ m. newest_in m q) is ∙ later_inserted mid full e behind q ∙ changed q
+
+-- a name that is taken out
+
+pub first_gone : (old new : FinMap full_cmp NameEntry) (full : Full) (n : ℕ) → full.generation ≡ 1 → new ≡ remove old full → 0 ≡ n → HasNewest old new full n
+first_gone old new full n first is none = λ q.
+    ap (λ m. newest_in m q) is ∙ first_removed old full first q ∙ ap (λ k. cond (is_version_of q full) k (newest_in old q)) none
+
+pub number_out : (old mid new : FinMap full_cmp NameEntry) (full : Full) → HasNumbers old mid → new ≡ remove mid full → HasNumber old new full None
+number_out old mid new full same is = λ q.
+    ap (λ m. number_in m q) is ∙ numbers_removed mid full q ∙ ap (λ o. cond (eq_by_cmp full_cmp q full) None o) (same q)
+
+pub newest_out : (old mid new : FinMap full_cmp NameEntry) (full : Full) (n : ℕ) → full.generation ≢ 1 → HasNewest old mid full n → new ≡ remove mid full → HasNewest old new full n
+newest_out old mid new full n behind changed is = λ q. ap (λ m. newest_in m q) is ∙ later_removed mid full behind q ∙ changed q
+
+-- the numbers of files
+
+no_rows : (users : List UserRec) (q : Full) → None ≡ get (rows_of users (λ r. r.number) []) q
+no_rows users q = sym (get-empty full_cmp q)
+
+pub no_index : (users : List UserRec) (m : FinMap full_cmp NameEntry) → m ≡ empty → AreIndexed users [] m
+no_index users m e = λ q. ap (λ n. number_in n q) e ∙ ap (λ o. number_at o) (get-empty full_cmp q) ∙ no_rows users q
+
+-- a name among them is that of the file which has the number
+pub indexed_number : (users : List UserRec) (files : List FileRec) (m : FinMap full_cmp NameEntry) (full : Full) → AreIndexed users files m → number_in m full ≡ number_of users files full
+indexed_number users files m full are = are full ∙ get_file users files (λ r. r.number) full
+
+module _ (users : List UserRec) (files : List FileRec) where
+  pub indexed_more : (i : ℕ) (r : FileRec) (old new : FinMap full_cmp NameEntry) → IsRecords users files → i < length files → r ≡ get_or files i r
+      → AreIndexed users (take i files) old → HasNumber old new (full_of users r) (Some r.number) → AreIndexed users (take (i + 1) files) new
+  indexed_more i r old new is within stands are changed = λ q.
+      let full = full_of users r in
+      let rows = rows_of users (λ s. s.number) (take i files) in
+      changed q ∙ ap (λ o. cond (eq_by_cmp full_cmp q full) (Some r.number) o) (are q)
+      ∙ sym (get-insert full_total rows full r.number q)
+      ∙ ap (λ m. get m q) (index_more users files i r full rows (insert rows full r.number) is within stands refl refl refl)
+
+  module _ (place : ℕ) where
+    -- a file between others
+    pub indexed_in : (file : FileRec) (old new : FinMap full_cmp NameEntry) → IsRecords users (list.insert files place file) → AreIndexed users files old
+        → HasNumber old new (full_of users file) (Some file.number) → AreIndexed users (list.insert files place file) new
+    indexed_in file old new rules are changed = λ q.
+        let full = full_of users file in
+        let rows = rows_of users (λ s. s.number) files in
+        changed q ∙ ap (λ o. cond (eq_by_cmp full_cmp q full) (Some file.number) o) (are q)
+        ∙ sym (get-insert full_total rows full file.number q)
+        ∙ ap (λ m. get m q) (sym (rows_new users (λ s. s.number) files place file (names_apart users (list.insert files place file) rules)))
+
+    -- one that is taken out
+    pub indexed_out : (d : FileRec) (old new : FinMap full_cmp NameEntry) → IsRecords users files → place < length files → AreIndexed users files old
+        → HasNumber old new (full_of users (get_or files place d)) None → AreIndexed users (list.remove files place) new
+    indexed_out d old new is within are changed = λ q.
+        let r = get_or files place d in
+        let full = full_of users r in
+        let rows = rows_of users (λ s. s.number) files in
+        let at : StandsAt files r.number place = record { within = within; has = λ e. ap (λ s. s.number) (get_or_default files place e d within) } in
+        changed q ∙ ap (λ o. cond (eq_by_cmp full_cmp q full) None o) (are q)
+        ∙ sym (get-remove full_total rows full q)
+        ∙ ap (λ m. get m q) (sym (removed_map users files is r.number place at (λ s. s.number) d))
+
+    -- one in the place of that
+    pub indexed_set : (file : FileRec) (old new : FinMap full_cmp NameEntry) → IsRecords users (set files place file) → place < length files → AreIndexed users (list.remove files place) old
+        → HasNumber old new (full_of users file) (Some file.number) → AreIndexed users (set files place file) new
+    indexed_set file old new rules within are changed = λ q.
+        let full = full_of users file in
+        let rows = rows_of users (λ s. s.number) (list.remove files place) in
+        let split = set_split files place file within in
+        changed q ∙ ap (λ o. cond (eq_by_cmp full_cmp q full) (Some file.number) o) (are q)
+        ∙ sym (get-insert full_total rows full file.number q)
+        ∙ ap (λ m. get m q)
+        (sym (ap (λ fs. rows_of users (λ s. s.number) fs) split
+        ∙ put_between users (λ s. s.number) (take place files) file (drop (suc place) files) (subst (AreApart (full_of users)) split (names_apart users (set files place file) rules))))
+
+    -- one of the same name and number
+    pub indexed_kept : (old file : FileRec) (m : FinMap full_cmp NameEntry) → place < length files → old ≡ get_or files place old → full_of users old ≡ full_of users file → old.number ≡ file.number
+        → AreIndexed users files m → AreIndexed users (set files place file) m
+    indexed_kept old file m within is named same are = λ q.
+        are q ∙ ap (λ k. get k q) (sym (rows_same users (λ s. s.number) files place old file within is named same))
