@@ -1,10 +1,11 @@
 -- What is known by full name, and how it changes.
-use Rattle.std.proofs.Common.{◌≡◌, ◌≢◌, ℕ, suc, ◌+◌, ◌-◌, ◌<◌, ◌≤◌, Bool, true, false, cond, ◌&&◌, List, [], length, max, take, drop, nat_lt, get_or, Option, Some, None, is_some, refl, sym, ap, subst, ◌∙◌, arith, true≢false}
+use Rattle.std.proofs.Common.{◌≡◌, ◌≢◌, ℕ, suc, ◌+◌, ◌<◌, ◌≤◌, ◌==◌, Bool, true, false, cond, ◌&&◌, List, [], length, max, take, drop, nat_lt, get_or, Option, Some, None, is_some, refl, sym, ap, subst, ◌∙◌, arith, true≢false}
 use Rattle.std.proofs.Math.ListN.{set}
 use Rattle.std.specs.List as list
 use Rattle.std.specs.Ordering.{eq_by_cmp}
 use Rattle.std.specs.Cmp.{eq_by_cmp_equiv}
 use Rattle.std.specs.FinMap.{FinMap, get, insert, remove, empty, same_map, get-empty, get-insert, get-remove}
+use Rattle.std.proofs.lemmas.Bool.{lt-ltb, le-ltb}
 use Rattle.std.proofs.lemmas.Bool.Decides.{nat_tests}
 use Rattle.std.proofs.lemmas.List.{set_split, get_or_default}
 use Rattle.g_name.specs.declared.full.Full.{Full}
@@ -17,7 +18,7 @@ use Rattle.g_plain.proofs.Found.{apart_is, here, tied_are}
 use Rattle.g_plain.proofs.TextMaps.{full_exact}
 use Rattle.g_tree.specs.Places.{StandsAt}
 use Rattle.g_tree.specs.Records.{IsRecords, full_of, number_of}
-use Rattle.g_tree.specs.State.{versions_of, number_at, number_in, newest_at, newest_in, later, raised_at, raised, settled_at, settled, HasNumbers, HasNumber, HasNewest, AreIndexed}
+use Rattle.g_tree.specs.State.{versions_of, number_at, number_in, newest_at, newest_in, later, raised_at, raised, settled_at, settled, closed_at, closed, is_first_of_two, fallen_at, fallen, HasNumbers, HasNumber, HasNewest, AreIndexed}
 use Rattle.g_tree.specs.declared.index.NameEntry.{NameEntry}
 use Rattle.g_tree.proofs.MapLemmas.{AreApart, shadowed}
 use Rattle.g_tree.proofs.RecordLemmas.{get_file, names_apart}
@@ -80,6 +81,22 @@ no_number_at (Some e) none = absurd (true≢false none)
 some_newest_at : (o : Option NameEntry) → 1 ≤ newest_at o → is_some o ≡ true
 some_newest_at None some = absurd (omega arith)
 some_newest_at (Some e) some = refl
+
+-- the first of two versions
+
+both_true : (a b : Bool) → (a && b) ≡ true → (a ≡ true) × (b ≡ true)
+both_true true true e = (refl, refl)
+both_true true false e = absurd (true≢false (sym e))
+both_true false b e = absurd (true≢false (sym e))
+
+nat_two : (n : ℕ) → (n == 2) ≡ true → n ≡ 2
+nat_two n e = grind (arith, nat_tests)
+
+pub two_newest : (e : NameEntry) → is_first_of_two e ≡ true → e.newest ≡ 2
+two_newest e two = nat_two e.newest (both_true (e.newest == 2) (is_some e.number) two).0
+
+pub two_number : (e : NameEntry) → is_first_of_two e ≡ true → is_some e.number ≡ true
+two_number e two = (both_true (e.newest == 2) (is_some e.number) two).1
 
 -- generations behind the first
 
@@ -203,6 +220,37 @@ module _ (m : FinMap full_cmp NameEntry) (full : Full) where
         let most : n ≡ max (newest_in m full) n = omega (arith, nothing) in
         ap (λ k. newest_in k q) new_is ∙ first_inserted first (unnumbered n) q ∙ ap (λ k. cond (is_version_of q full) k (newest_in m q)) most
 
+  -- one that was of two versions
+  numbers_fallen_at : (o : Option NameEntry) → get m full ≡ o → HasNumbers m (fallen_at m full o)
+  numbers_fallen_at None is = λ q. refl
+  numbers_fallen_at (Some e) is = λ q.
+      elim (is_first_of_two e) as (λ t. number_in (cond t (insert m full (record e { newest = 1 })) m) q ≡ number_in m q) [
+        | true ↦ numbers_kept (record e { newest = 1 }) (ap (λ o. number_at o) is) q
+        | false ↦ refl
+      ]
+
+  pub numbers_fallen : HasNumbers m (fallen m full)
+  numbers_fallen = numbers_fallen_at (get m full) refl
+
+  pub fallen_two : (e : NameEntry) → get m full ≡ Some e → is_first_of_two e ≡ true → fallen m full ≡ insert m full (record e { newest = 1 })
+  fallen_two e is two = ap (λ o. fallen_at m full o) is ∙ ap (λ t. cond t (insert m full (record e { newest = 1 })) m) two
+
+  pub fallen_same : (e : NameEntry) → get m full ≡ Some e → is_first_of_two e ≡ false → fallen m full ≡ m
+  fallen_same e is other = ap (λ o. fallen_at m full o) is ∙ ap (λ t. cond t (insert m full (record e { newest = 1 })) m) other
+
+  pub newest_fallen_two : (e : NameEntry) → full.generation ≡ 1 → get m full ≡ Some e → is_first_of_two e ≡ true → HasNewest m (fallen m full) full 1
+  newest_fallen_two e first is two = λ q. ap (λ k. newest_in k q) (fallen_two e is two) ∙ first_inserted first (record e { newest = 1 }) q
+
+  -- what is there is put in once more
+  pub insert_same : (e : NameEntry) → get m full ≡ Some e → insert m full e ≡ m
+  insert_same e is =
+      same_map full_total full_exact _ _
+      (λ q. get-insert full_total m full e q
+      ∙ elim (eq_by_cmp full_cmp q full) as (λ t. eq_by_cmp full_cmp q full ≡ t → cond t (Some e) (get m q) ≡ get m q) [
+        | true ↦ λ t. sym is ∙ ap (get m) (sym (tied_are full_total full_exact q full t))
+        | false ↦ λ _. refl
+      ] refl)
+
   -- and one that is another now
   pub numbers_settled : (n : ℕ) → HasNumbers m (settled m full n)
   numbers_settled n = λ q.
@@ -217,6 +265,53 @@ module _ (m : FinMap full_cmp NameEntry) (full : Full) where
         | Some e ↦ λ _. first_inserted first (record e { newest = n }) q
         | None ↦ λ none. absurd (true≢false (sym none))
       ] there
+
+  -- a first generation that goes
+  pub closed_few : (e : NameEntry) → get m full ≡ Some e → e.newest < 2 → remove m full ≡ closed m full
+  closed_few e is few =
+      ap (λ t. cond t (remove m full) (insert m full (record e { number = None }))) (sym (lt-ltb e.newest 2 few)) ∙ ap (λ o. closed_at m full o) (sym is)
+
+  pub closed_some : (e : NameEntry) → get m full ≡ Some e → 2 ≤ e.newest → insert m full (record e { number = None }) ≡ closed m full
+  closed_some e is some =
+      ap (λ t. cond t (remove m full) (insert m full (record e { number = None }))) (sym (le-ltb e.newest 2 some)) ∙ ap (λ o. closed_at m full o) (sym is)
+
+  module _ (first : full.generation ≡ 1) where
+    pub numbers_closed : HasNumber m (closed m full) full None
+    numbers_closed = λ q.
+        elim (get m full) as (λ o. get m full ≡ o → number_in (closed_at m full o) q ≡ cond (eq_by_cmp full_cmp q full) None (number_in m q)) [
+          | Some e ↦ λ _.
+              elim (nat_lt e.newest 2) as (λ t. number_in (cond t (remove m full) (insert m full (record e { number = None }))) q ≡ cond (eq_by_cmp full_cmp q full) None (number_in m q)) [
+                | true ↦ numbers_removed q
+                | false ↦ numbers_inserted (record e { number = None }) q
+              ]
+          | None ↦ λ is.
+              elim (eq_by_cmp full_cmp q full) as (λ t. eq_by_cmp full_cmp q full ≡ t → number_in m q ≡ cond t None (number_in m q)) [
+                | true ↦ λ t. ap (λ f. number_in m f) (tied_are full_total full_exact q full t) ∙ ap (λ o. number_at o) is
+                | false ↦ λ _. refl
+              ] refl
+        ] refl
+
+    pub newest_closed : HasNewest m (closed m full) full (later (newest_in m full))
+    newest_closed = λ q.
+        elim (get m full) as (λ o. get m full ≡ o → newest_in (closed_at m full o) q ≡ cond (is_version_of q full) (later (newest_in m full)) (newest_in m q)) [
+          | Some e ↦ λ is.
+              let known : newest_in m full ≡ e.newest = newest_under first ∙ ap (λ o. newest_at o) is in
+              elim (nat_lt e.newest 2) as (λ t. nat_lt e.newest 2 ≡ t → newest_in (cond t (remove m full) (insert m full (record e { number = None }))) q ≡ cond (is_version_of q full) (later (newest_in m full)) (newest_in m q)) [
+                | true ↦ λ t.
+                    let few = lt_is e.newest 2 t in
+                    first_removed first q ∙ ap (λ n. cond (is_version_of q full) n (newest_in m q)) (later_none e.newest few ∙ ap (λ n. later n) (sym known))
+                | false ↦ λ t.
+                    let some = lt_not e.newest 2 t in
+                    first_inserted first (record e { number = None }) q ∙ ap (λ n. cond (is_version_of q full) n (newest_in m q)) (later_some e.newest some ∙ ap (λ n. later n) (sym known))
+              ] refl
+          | None ↦ λ is.
+              let known : newest_in m full ≡ 0 = newest_under first ∙ ap (λ o. newest_at o) is in
+              let none : newest_in m full ≡ later (newest_in m full) = known ∙ later_none 0 (omega arith) ∙ ap (λ n. later n) (sym known) in
+              elim (is_version_of q full) as (λ t. is_version_of q full ≡ t → newest_in m q ≡ cond t (later (newest_in m full)) (newest_in m q)) [
+                | true ↦ λ t. ap (λ f. newest_at (get m f)) (one_version q full t) ∙ none
+                | false ↦ λ _. refl
+              ] refl
+        ] refl
 
 -- a name that is put in
 

@@ -1,5 +1,5 @@
 -- What contracts see of a tree in memory, and how its records change.
-use Rattle.std.specs.Prelude.{◌≡◌, ℕ, ◌==◌, not, nat_lt, max, List, [], ◌∷◌, ◌++◌, map, filter, length, sum_by, slice_index_or, codes, Option, Some, None, if◌then◌else◌}
+use Rattle.std.specs.Prelude.{◌≡◌, ℕ, ◌==◌, Bool, ◌&&◌, not, nat_lt, max, is_some, List, [], ◌∷◌, ◌++◌, map, filter, length, sum_by, slice_index_or, codes, Option, Some, None, if◌then◌else◌}
 use Rattle.std.specs.Ordering.{eq_by_cmp}
 use Rattle.std.specs.FinMap.{FinMap, get, insert, remove, from_entries}
 use Rattle.g_base.specs.Block.{blocks_for}
@@ -62,6 +62,23 @@ settled_at entries full newest entry = elim entry [ Some e ↦ insert entries fu
 
 abbrev pub settled : FinMap full_cmp NameEntry → Full → ℕ → FinMap full_cmp NameEntry
 settled entries full newest = settled_at entries full newest (get entries full)
+
+-- what is known when a first generation goes: its name, without a number, while there are others
+abbrev pub closed_at : FinMap full_cmp NameEntry → Full → Option NameEntry → FinMap full_cmp NameEntry
+closed_at entries full entry = elim entry [ Some e ↦ if nat_lt e.newest 2 then remove entries full else insert entries full (record e { number = None }) | None ↦ entries ]
+
+abbrev pub closed : FinMap full_cmp NameEntry → Full → FinMap full_cmp NameEntry
+closed entries full = closed_at entries full (get entries full)
+
+-- what is known when the second of two versions goes: the first is the newest
+abbrev pub is_first_of_two : NameEntry → Bool
+is_first_of_two entry = (entry.newest == 2) && is_some entry.number
+
+abbrev pub fallen_at : FinMap full_cmp NameEntry → Full → Option NameEntry → FinMap full_cmp NameEntry
+fallen_at entries full entry = elim entry [ Some e ↦ if is_first_of_two e then insert entries full (record e { newest = 1 }) else entries | None ↦ entries ]
+
+abbrev pub fallen : FinMap full_cmp NameEntry → Full → FinMap full_cmp NameEntry
+fallen entries full = fallen_at entries full (get entries full)
 
 -- every full name has the number that it had
 abbrev pub HasNumbers : FinMap full_cmp NameEntry → FinMap full_cmp NameEntry → Type 0

@@ -1,7 +1,7 @@
 //! What is known of files by full name.
 ghost use Rattle.std.specs.Prelude.{◌≡◌, ℕ, ◌+◌, ◌≤◌, OnOk, is_some, true};
 ghost use Rattle.std.specs.FinMap as finmap;
-ghost use Rattle.g_tree.specs.State.{raised, settled};
+ghost use Rattle.g_tree.specs.State.{closed, fallen, is_first_of_two, raised, settled};
 
 use g_base::NoMemory;
 use g_name::Full;
@@ -16,6 +16,13 @@ use std::marker::Model;
 pub(crate) struct NameEntry {
     pub number: Option<u16>,
     pub newest: u16,
+}
+
+/// Whether there are two versions, the first and the second.
+pub(crate) fn is_first_of_two(entry: NameEntry) -> bool
+    ensures { result ≡ is_first_of_two entry }
+{
+    entry.newest == 2 && entry.number.is_some()
 }
 
 /// A map from full names to what is known under them. Contracts see it beside how many more names fit
@@ -99,17 +106,36 @@ impl Index {
         ensures entries { self.new.entries ≡ raised self.old.entries full.now newest }
         ensures spare { self.new.spare ≡ self.old.spare }
     {
-        match self.names.get_mut(full) {
-            Some(there) => {
-                let was = *there;
-                *there = NameEntry {
-                    number: was.number,
-                    newest: was.newest.max(newest),
-                };
-                true
-            }
-            None => false,
+        let Some(there) = self.names.get_mut(full) else {
+            return false;
+        };
+        let was = *there;
+        *there = NameEntry {
+            number: was.number,
+            newest: was.newest.max(newest),
+        };
+        true
+    }
+
+    /// Where the greatest generation under the name of a first that is there is 2, it is 1 now. What was
+    /// known under the name.
+    pub fn fall(&mut self, full: &Full) -> Option<NameEntry>
+        ensures was { result ≡ finmap.get self.old.entries full.now }
+        ensures entries { self.new.entries ≡ fallen self.old.entries full.now }
+        ensures spare { self.new.spare ≡ self.old.spare }
+    {
+        let Some(there) = self.names.get_mut(full) else {
+            return None;
+        };
+        let was = *there;
+        if is_first_of_two(was) {
+            *there = NameEntry {
+                number: was.number,
+                newest: 1,
+            };
+            return Some(was);
         }
+        Some(was)
     }
 
     /// Sets the greatest generation under a name that is there.
@@ -128,6 +154,29 @@ impl Index {
             }
             None => unreachable!(),
         }
+    }
+
+    /// Takes the name of a first generation out by one look-up; where the greatest generation under it
+    /// is behind the first it stays without a number.
+    pub fn close(&mut self, full: &Full)
+        ensures entries { self.new.entries ≡ closed self.old.entries full.now }
+        ensures spare { self.old.spare ≤ self.new.spare }
+    {
+        let Some((place, _name, entry)) = self.names.get_full(full) else {
+            return;
+        };
+        let newest = entry.newest;
+        if newest < 2 {
+            self.names.swap_remove_index(place);
+            return;
+        }
+        self.replace(
+            full,
+            NameEntry {
+                number: None,
+                newest,
+            },
+        );
     }
 
     pub fn remove(&mut self, full: &Full)

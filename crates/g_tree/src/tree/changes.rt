@@ -141,7 +141,7 @@ impl Tree {
             self.renew(place, file);
         } else {
             let was = full_of(self.users.as_slice(), old);
-            self.rename(place, &was, file);
+            self.rename(place, was, file);
         }
     }
 
@@ -162,9 +162,9 @@ impl Tree {
     }
 
     /// Puts a file in the place of the one of its number, whose full name is another.
-    fn rename(&mut self, place: usize, old: &Full, file: FileRec)
+    fn rename(&mut self, place: usize, old: Full, file: FileRec)
         requires at { StandsAt self.old.files file.number place }
-        requires was { (d : FileRec) → old.now
+        requires was { (d : FileRec) → old
             ≡ full_of self.old.users (slice_index_or self.old.files place d) }
         requires room { 1 ≤ self.old.spare }
         requires rules { IsRecords self.old.users (slice_set self.old.files place file) }
@@ -205,7 +205,7 @@ impl Tree {
                     files: self.files.as_slice(),
                     place,
                 };
-                self.counts.take_out(at, &full);
+                self.counts.take_out(at, full);
                 let boxed = self.files.remove(place);
                 let file = boxed.get();
                 self.counts.give(file.owner, file.len);

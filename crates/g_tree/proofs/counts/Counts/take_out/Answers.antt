@@ -21,7 +21,7 @@ returns-then-full-eq1-clause-newest c =
     let users = c.args.at.users.now in
     let files = c.args.at.files.now in
     let place = c.args.at.place in
-    let full = c.args.full.now in
+    let full = c.args.full in
     let old = c.args.self.now.names.entries in
     let r = get_or files place no_file in
     let here = get_or_default files place no_file r c.requires.there in
@@ -40,7 +40,7 @@ returns-else-full-eq1-clause-newest c =
     let users = c.args.at.users.now in
     let files = c.args.at.files.now in
     let place = c.args.at.place in
-    let full = c.args.full.now in
+    let full = c.args.full in
     let r = get_or files place no_file in
     erased_newest users files place r c.requires.there (get_or_default files place no_file r c.requires.there) (newest_of users full (remove_at files place)) full c.args.self.now.names.entries c.take_later.new.self.names.entries
     c.requires.newest (c.requires.named no_file) refl c.take_later.ensures.newest

@@ -2,6 +2,7 @@
 use Rattle.std.proofs.Common.{◌≡◌, ◌≤◌, ◌<◌, ◌-◌, Some, max, get_or, length, sym, ap, subst, ◌∙◌, arith}
 use Rattle.std.proofs.Math.ListN.{set}
 use Rattle.std.specs.List.{remove as remove_at}
+use Rattle.std.proofs.lemmas.List.{length-set}
 use Rattle.g_base.specs.Block.{blocks_for}
 use Rattle.g_entry.specs.declared.file_rec.FileRec.{FileRec}
 use Rattle.g_tree.specs.Records.{IsRecords, full_of}
@@ -57,6 +58,18 @@ give-requires-clause-used c =
     let here : r ≡ get_or files c.args.place r = subst (λ x. x ≡ get_or files c.args.place x) (sym c.get-was.ensures) c.index.ensures in
     let at : StandsAt files c.args.file.number c.args.place = subst (λ s. StandsAt s.files c.args.file.number c.args.place) (sym c.self.view_is) c.requires.at in
     subst (λ bs. blocks_for r.len ≤ get_or bs r.owner 0) (sym (c.put.ensures.blocks ∙ c.take_out.ensures.blocks)) (give_some users files c.self.invariant.records c.args.place r at.within here c.self.inside.counts.blocks.items c.self.invariant.used)
+
+pub take-requires-clause-there : goal.take-requires-clause-there
+take-requires-clause-there c =
+    let users = c.self.inside.users.items in
+    let files = c.self.inside.files.items in
+    let r = c.get-was.result.now in
+    let here : r ≡ get_or files c.args.place r = subst (λ x. x ≡ get_or files c.args.place x) (sym c.get-was.ensures) c.index.ensures in
+    let at : StandsAt files c.args.file.number c.args.place = subst (λ s. StandsAt s.files c.args.file.number c.args.place) (sym c.self.view_is) c.requires.at in
+    let rules : IsRecords users (set files c.args.place c.args.file) = subst (λ s. IsRecords s.users (set s.files c.args.place c.args.file)) (sym c.self.view_is) c.requires.rules in
+    let owner = put_owner users files c.self.invariant.records c.args.place r at.within here c.args.file rules in
+    let len = ap length c.give.ensures.blocks ∙ length-set c.put.new.self.blocks.items r.owner _ ∙ ap length (c.put.ensures.blocks ∙ c.take_out.ensures.blocks) ∙ c.self.invariant.used.places in
+    omega (arith, owner, len)
 
 pub take-requires-clause-used : goal.take-requires-clause-used
 take-requires-clause-used c =
