@@ -9,6 +9,7 @@ mod local;
 mod parse;
 mod path;
 mod path_reader;
+mod short;
 mod text;
 mod user;
 

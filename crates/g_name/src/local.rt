@@ -4,15 +4,14 @@ ghost use Rattle.g_name.specs.BadPlace.{IsBadPlace};
 ghost use Rattle.g_name.specs.Grammar.{is_word};
 ghost use Rattle.g_name.specs.Names.{IsLocalText};
 
+use crate::short::Short;
 use crate::{BadName, grammar};
-use arrayvec::ArrayVec;
-use std::hash::{Hash, Hasher};
 use std::marker::Model;
 
 /// The name of a file within its user: 1 to 12 of `A` to `Z`, `0` to `9` and `-`, the first a letter. Names are in the order of their bytes.
-#[derive(Debug, Drop, PartialEq, Eq, PartialOrd, Ord)]
+#[derive(Debug, Drop, PartialEq, Eq, PartialOrd, Ord, Hash)]
 pub struct Local {
-    word: ArrayVec<u8, 12>,
+    word: Short<12>,
 }
 
 impl Model for Local {
@@ -21,26 +20,11 @@ impl Model for Local {
 
     ghost Value = { List ℕ };
 
-    ghost view = { λ l. l.word.items };
+    ghost view = { λ l. l.word };
 
-    ghost invariant = { λ l. is_word l.word.items ≡ true };
+    ghost invariant = { λ l. is_word l.word ≡ true };
 
-    ghost inverse = { λ xs. record { word = record { items = xs } } };
-}
-
-/// All bytes at once: that of an `ArrayVec` goes byte by byte.
-impl Hash for Local {
-    ghost use Rattle.std.specs.Prelude.{[], ◌∷◌};
-    ghost use Rattle.std.specs.Cmp.Rules.{hashing};
-    ghost use Rattle.std.proofs.Common.{rules};
-
-    ghost hash_input = { λ l. l ∷ [] };
-
-    ghost respects_eq = { Prim.search (hashing, rules) };
-
-    fn hash<H: Hasher>(&self, state: &mut H) {
-        state.write(self.word.as_slice());
-    }
+    ghost inverse = { λ xs. record { word = xs } };
 }
 
 impl Local {
@@ -51,7 +35,7 @@ impl Local {
     {
         if grammar::is_word(word) {
             Some(Local {
-                word: grammar::copied(word),
+                word: Short::of(word),
             })
         } else {
             None
@@ -72,9 +56,9 @@ impl Local {
     }
 
     /// The name of characters that were looked at already.
-    pub(crate) fn from_word(word: ArrayVec<u8, 12>) -> Local
-        requires { is_word word.items ≡ true }
-        ensures { result ≡ word.items }
+    pub(crate) fn from_word(word: Short<12>) -> Local
+        requires { is_word word ≡ true }
+        ensures { result ≡ word }
     {
         Local { word }
     }
@@ -92,7 +76,7 @@ impl Local {
         ensures { result ≡ self.now }
     {
         Local {
-            word: grammar::copied(self.word.as_slice()),
+            word: self.word.copy(),
         }
     }
 }
