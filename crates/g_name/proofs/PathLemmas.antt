@@ -506,3 +506,18 @@ module _ (text : List ℕ) (r : PathReader) (here : run step (Some start) text �
   -- where the text ends too early, its length is the bad place
   pub path-err : (e : BadName) → e.place ≡ length text → IfErr (ok_or path e) (λ bad. IsBadPlace IsNameText text bad.place)
   path-err e place = ended e place path
+
+-- a word alone is the local name of a path without other parts
+abbrev pub word_name : List ℕ → Name
+word_name w = record { user = None; local = w; generation = None; lang = None }
+
+pub word_is_name : (w : List ℕ) → is_word w ≡ true → IsName (word_name w) × (w ≡ name_text (word_name w))
+word_is_name w is = (record { user = tt; local = is; generation = tt; lang = tt }, sym (append-nil w))
+
+-- and no other name has its text
+pub one_word_name : (w : List ℕ) (n : Name) → is_word w ≡ true → IsName n → w ≡ name_text n → word_name w ≡ n
+one_word_name w n is named same =
+    let word = word_is_name w is in
+    let both : Some (reader_of (word_name w)) ≡ Some (reader_of n) = sym (reads_text w (word_name w) word.0 word.1) ∙ reads_text w n named same in
+    let one : reader_of (word_name w) ≡ reader_of n = cc in
+    sym (name_read_of (word_name w) word.0) ∙ ap name_read one ∙ name_read_of n named

@@ -8,7 +8,7 @@ use Rattle.std.specs.Bool.{one_answer}
 use Rattle.std.specs.Cmp.Lexicographic.{pointwise, bytes_decides}
 use Rattle.std.specs.Prelude.{◌&&◌, nat_eq}
 use Rattle.g_base.specs.Fields.{padded}
-use Rattle.g_name.specs.Short.{IsShort}
+use Rattle.g_name.specs.Short.{IsShort, short_bytes, short_length}
 
 -- a new text has no byte
 pub none_short : (room : ℕ) → IsShort room 0 (replicate room 0)
@@ -37,21 +37,6 @@ longer_short room len bytes x below was = record {
   size = length-set bytes len x ∙ was.size;
   zeros = drop-set-lt (len + 1) bytes len x (omega arith) ∙ sym (drop-drop 1 len bytes) ∙ ap (drop 1) was.zeros ∙ drop-replicate 1 (room - len) 0 ∙ ap (λ (n : ℕ). replicate {A = ℕ} n 0) (let e : room - len - 1 ≡ room - (len + 1) = omega arith in e);
 }
-
--- the bytes are the text with zeros behind it
-pub short_bytes : (room len : ℕ) (bytes : List ℕ) → IsShort room len bytes → bytes ≡ padded room (take len bytes)
-unfolding padded
-short_bytes room len bytes is =
-    let size = is.size in
-    let within = is.within in
-    let long : length (take len bytes) ≡ len = length-take-le len bytes (omega arith) in
-    sym (take-append-drop len bytes) ∙ ap (λ (z : List ℕ). take len bytes ++ z) is.zeros
-    ∙ ap (λ (n : ℕ). take len bytes ++ replicate {A = ℕ} (room - n) 0) (sym long)
-
-pub short_length : (room len : ℕ) (bytes : List ℕ) → IsShort room len bytes → length (take len bytes) ≡ len
-short_length room len bytes is =
-    let size = is.size in
-    let within = is.within in length-take-le len bytes (omega arith)
 
 -- texts are the same where their bytes are, the zeros with them, and their lengths
 pub same_short : (room m n : ℕ) (a b : List ℕ) → IsShort room m a → IsShort room n b → (pointwise nat_eq a b && nat_eq m n) ≡ pointwise nat_eq (take m a) (take n b)

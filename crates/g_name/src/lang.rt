@@ -70,7 +70,7 @@ impl Lang {
         ensures { result ≡ self.now }
     {
         Lang {
-            characters: self.characters.copy(),
+            characters: self.characters,
         }
     }
 }

@@ -11,7 +11,7 @@ use std::marker::Model;
 /// The name of a file within its user: 1 to 12 of `A` to `Z`, `0` to `9` and `-`, the first a letter. Names are in the order of their bytes.
 #[derive(Debug, Drop, PartialEq, Eq, PartialOrd, Ord, Hash)]
 pub struct Local {
-    word: Short<12>,
+    word: Short<16>,
 }
 
 impl Model for Local {
@@ -56,7 +56,7 @@ impl Local {
     }
 
     /// The name of characters that were looked at already.
-    pub(crate) fn from_word(word: Short<12>) -> Local
+    pub(crate) fn from_word(word: Short<16>) -> Local
         requires { is_word word ≡ true }
         ensures { result ≡ word }
     {
@@ -75,8 +75,6 @@ impl Local {
     pub fn copy(&self) -> Local
         ensures { result ≡ self.now }
     {
-        Local {
-            word: self.word.copy(),
-        }
+        Local { word: self.word }
     }
 }

@@ -32,8 +32,8 @@ enum Part {
 #[derive(Debug, Drop)]
 pub struct PathReader {
     part: Part,
-    user: Short<12>,
-    local: Short<12>,
+    user: Short<16>,
+    local: Short<16>,
     generation: u16,
     lang: Short<4>,
 }
@@ -166,7 +166,7 @@ impl PathReader {
 }
 
 /// The user of what was read behind the colon, if there was one.
-fn user_of(word: Short<12>) -> Option<User>
+fn user_of(word: Short<16>) -> Option<User>
     requires { may_be_word word ≡ true }
     ensures { result ≡ reading.user_read word }
 {

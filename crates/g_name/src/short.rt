@@ -6,23 +6,32 @@ use std::fmt;
 use std::hash::{Hash, Hasher};
 use std::marker::Model;
 
-/// A text of at most `N` bytes, which are at most 255. Contracts see its bytes. Behind them stand zeros, so that a copy
-/// and a comparison take all `N` bytes at once.
-#[derive(Drop)]
+/// A text of at most `N` bytes, which are at most 255. Contracts see its bytes. Behind them stand zeros, so that a copy,
+/// a comparison and a hash take all `N` bytes at once, which costs least where they are 4, 8 or 16.
+#[derive(Clone, Copy)]
 pub(crate) struct Short<const N: usize> {
     bytes: [u8; N],
     len: u8,
 }
 
 impl<const N: usize> Model for Short<N> {
-    ghost use Rattle.std.specs.Prelude.{ℕ, List, take};
-    ghost use Rattle.g_name.specs.Short.{IsShort};
+    ghost use Rattle.std.specs.Prelude.{ℕ, List, length, take};
+    ghost use Rattle.std.proofs.Common.{sym};
+    ghost use Rattle.g_base.specs.Fields.{padded};
+    ghost use Rattle.g_name.specs.Short.{IsShort, short_bytes, short_length};
 
     ghost Value = { List ℕ };
 
     ghost view = { λ s. take s.len s.bytes };
 
     ghost invariant = { λ s. IsShort N s.len s.bytes };
+
+    ghost inverse = { λ xs. record { bytes = padded N xs; len = length xs } };
+
+    ghost inverse_ok = { λ s h i. record {
+      bytes = sym (short_bytes N s.len s.bytes h) i;
+      len = short_length N s.len s.bytes h i;
+    } };
 }
 
 impl<const N: usize> Short<N> {
@@ -47,16 +56,6 @@ impl<const N: usize> Short<N> {
         Short {
             bytes,
             len: text.len() as u8,
-        }
-    }
-
-    /// The same text once more.
-    pub(crate) fn copy(&self) -> Short<N>
-        ensures { result ≡ self.now }
-    {
-        Short {
-            bytes: self.bytes,
-            len: self.len,
         }
     }
 

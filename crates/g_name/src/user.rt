@@ -11,7 +11,7 @@ use std::marker::Model;
 /// The name of a user without its colon: 1 to 12 of `A` to `Z`, `0` to `9` and `-`, the first a letter. Names are in the order of their bytes.
 #[derive(Debug, Drop, PartialEq, Eq, PartialOrd, Ord, Hash)]
 pub struct User {
-    word: Short<12>,
+    word: Short<16>,
 }
 
 impl Model for User {
@@ -80,7 +80,7 @@ impl User {
     }
 
     /// The name of characters that were looked at already.
-    pub(crate) fn from_word(word: Short<12>) -> User
+    pub(crate) fn from_word(word: Short<16>) -> User
         requires { is_word word ≡ true }
         ensures { result ≡ word }
     {
@@ -99,8 +99,6 @@ impl User {
     pub fn copy(&self) -> User
         ensures { result ≡ self.now }
     {
-        User {
-            word: self.word.copy(),
-        }
+        User { word: self.word }
     }
 }

@@ -1,5 +1,6 @@
 use Rattle.std.proofs.Common.{ap, arith, length}
-use Rattle.g_name.proofs.ShortLemmas.{longer_short, short_length}
+use Rattle.g_name.specs.Short.{short_length}
+use Rattle.g_name.proofs.ShortLemmas.{longer_short}
 use Rattle.g_name.proofs.short.Short.push.Goals as goal
 
 pub invariant_of-self : goal.invariant_of-self

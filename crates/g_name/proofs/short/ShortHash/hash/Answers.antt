@@ -1,6 +1,6 @@
 use Rattle.std.proofs.Common.{◌∙◌, ap}
 use Rattle.g_base.specs.Fields.{padded}
-use Rattle.g_name.proofs.ShortLemmas.{short_bytes}
+use Rattle.g_name.specs.Short.{short_bytes}
 use Rattle.g_name.proofs.short.ShortHash.hash.Goals as goal
 
 pub returns : goal.returns
