@@ -169,7 +169,7 @@ fn put<Q: Questions>(
         result ≡ granted_by (checks t who.now (StoreCall.Put path.now bytes.now))
         (file_named (Q.numbers questions.now) (plain.output_name t who.now path.now)) }
 {
-    let file = questions.find(questions.output_name(who, path));
+    let file = questions.output(who, path);
     match put_fault(questions, who, path, bytes, &file) {
         Some(fault) => Err(fault),
         None => Ok(file),
@@ -354,7 +354,7 @@ fn present<Q: Questions>(questions: &Q, who: &User, path: &Path) -> Result<Named
         result ≡ granted_by (input_checks t who.now path.now)
         (file_named (Q.numbers questions.now) (plain.input_name t who.now path.now)) }
 {
-    let file = questions.find(questions.input_name(who, path));
+    let file = questions.input(who, path);
     if !has_owner(questions, who, &file.full) {
         Err(StoreFault::NoUser)
     } else if file.number.is_none() {

@@ -1,7 +1,7 @@
 //! What is known of files by full name.
 ghost use Rattle.std.specs.Prelude.{◌≡◌, ℕ, ◌+◌, ◌≤◌, OnOk, is_some, true};
 ghost use Rattle.std.specs.FinMap as finmap;
-ghost use Rattle.g_tree.specs.State.{closed, fallen, is_first_of_two, raised, settled};
+ghost use Rattle.g_tree.specs.State.{closed, fallen, is_first_of_two, lifted, raised, settled};
 
 use g_base::NoMemory;
 use g_name::Full;
@@ -16,6 +16,29 @@ use std::marker::Model;
 pub(crate) struct NameEntry {
     pub number: Option<u16>,
     pub newest: u16,
+    /// The number of the newest version.
+    pub top: Option<u16>,
+}
+
+/// The newest of a file's versions: its generation and number, or 0 and None where there is none.
+#[derive(Clone, Copy)]
+pub(crate) struct Newest {
+    pub generation: u16,
+    pub number: Option<u16>,
+}
+
+/// The newest of what is known is at least this generation, which has this number.
+pub(crate) fn lifted(entry: NameEntry, newest: u16, number: u16) -> NameEntry
+    ensures { result ≡ lifted entry newest number }
+{
+    if newest < entry.newest {
+        return entry;
+    }
+    NameEntry {
+        number: entry.number,
+        newest,
+        top: Some(number),
+    }
 }
 
 /// Whether there are two versions, the first and the second.
@@ -99,21 +122,17 @@ impl Index {
         }
     }
 
-    /// Raises the greatest generation under a name to this one, where the name is there, and tells
-    /// whether it is.
-    pub fn raise(&mut self, full: &Full, newest: u16) -> bool
+    /// Raises the greatest generation under a name to this one, which has this number, where the name is
+    /// there, and tells whether it is.
+    pub fn raise(&mut self, full: &Full, newest: u16, number: u16) -> bool
         ensures there { result ≡ is_some (finmap.get self.old.entries full.now) }
-        ensures entries { self.new.entries ≡ raised self.old.entries full.now newest }
+        ensures entries { self.new.entries ≡ raised self.old.entries full.now newest number }
         ensures spare { self.new.spare ≡ self.old.spare }
     {
         let Some(there) = self.names.get_mut(full) else {
             return false;
         };
-        let was = *there;
-        *there = NameEntry {
-            number: was.number,
-            newest: was.newest.max(newest),
-        };
+        *there = lifted(*there, newest, number);
         true
     }
 
@@ -132,16 +151,18 @@ impl Index {
             *there = NameEntry {
                 number: was.number,
                 newest: 1,
+                top: was.number,
             };
             return Some(was);
         }
         Some(was)
     }
 
-    /// Sets the greatest generation under a name that is there.
-    pub fn settle(&mut self, full: &Full, newest: u16)
+    /// Sets the newest under a name that is there.
+    pub fn settle(&mut self, full: &Full, newest: Newest)
         requires { is_some (finmap.get self.old.entries full.now) ≡ true }
-        ensures entries { self.new.entries ≡ settled self.old.entries full.now newest }
+        ensures entries { self.new.entries
+            ≡ settled self.old.entries full.now newest.generation newest.number }
         ensures spare { self.new.spare ≡ self.old.spare }
     {
         match self.names.get_mut(full) {
@@ -149,7 +170,8 @@ impl Index {
                 let was = *there;
                 *there = NameEntry {
                     number: was.number,
-                    newest,
+                    newest: newest.generation,
+                    top: newest.number,
                 };
             }
             None => unreachable!(),
@@ -166,6 +188,7 @@ impl Index {
             return;
         };
         let newest = entry.newest;
+        let top = entry.top;
         if newest < 2 {
             self.names.swap_remove_index(place);
             return;
@@ -175,6 +198,7 @@ impl Index {
             NameEntry {
                 number: None,
                 newest,
+                top,
             },
         );
     }

@@ -6,7 +6,7 @@ ghost use Rattle.std.specs.FinMap as finmap;
 ghost use Rattle.g_entry.specs.Rules.{AreNumbered};
 ghost use Rattle.g_tree.specs.Records.{IsRecords, name_of, full_of, user_row_of, file_row_of, tree_of, by_number, number_of};
 ghost use Rattle.g_tree.specs.Places.{StandsAt};
-ghost use Rattle.g_tree.specs.State.{AreIndexed, AreNewest, AreUsed, room_of, with_file, without_file, without_number};
+ghost use Rattle.g_tree.specs.State.{AreIndexed, AreNewest, AreUsed, IsTopped, room_of, with_file, without_file, without_number};
 
 use crate::counts::{Counts, Standing};
 use crate::scan::{full_of, has_same_name, place_of};
@@ -297,6 +297,7 @@ fn counts_of(alloc: Global, users: &[UserRec], files: &[FileRec]) -> Result<Coun
     requires { IsRecords users.now files.now }
     ensures index { IfOk result (λ c. AreIndexed users.now files.now c.names.entries) }
     ensures newest { IfOk result (λ c. AreNewest users.now files.now c.names.entries) }
+    ensures topped { IfOk result (λ c. IsTopped c.names.entries) }
     ensures used { IfOk result (λ c. AreUsed files.now c.blocks.items) }
 {
     let mut counts = Counts::new(alloc)?;

@@ -5,10 +5,10 @@ use Rattle.std.specs.FinMap.{get}
 use Rattle.std.proofs.lemmas.List.{get_or_default}
 use Rattle.g_tree.specs.Answers.{newest_of}
 use Rattle.g_tree.specs.Records.{number_of}
-use Rattle.g_tree.specs.State.{AreIndexed, AreNewest, HasNewest, fallen, newest_at, newest_in, number_at, number_in}
+use Rattle.g_tree.specs.State.{AreIndexed, AreNewest, HasNewest, IsTopped, fallen, newest_at, newest_in, number_at, number_in, top_in}
 use Rattle.g_tree.proofs.FreeLemmas.{no_file}
-use Rattle.g_tree.proofs.CountLemmas.{newest_before, newest_some, newest_with, none_first}
-use Rattle.g_tree.proofs.EntryLemmas.{at_generation, fallen_same, first_itself, indexed_number, newest_fallen_two, newest_under, numbers_fallen, some_under, two_newest, two_number}
+use Rattle.g_tree.proofs.CountLemmas.{newest_before, newest_some, newest_with, none_first, zeroth_none}
+use Rattle.g_tree.proofs.EntryLemmas.{at_generation, fallen_same, first_itself, indexed_number, newest_fallen_two, newest_under, numbers_fallen, some_under, top_fallen_two, topped_by, two_newest, two_number}
 use Rattle.g_tree.proofs.counts.Counts.lower.Goals as goal
 
 pub unreachable-requires : goal.unreachable-requires
@@ -91,7 +91,7 @@ settle-requires-clause-none c = λ none.
     let same = c.fall.ensures.entries ∙ fallen_same entries first c.in-Some.entry found (sym c.is_first_of_two.ensures ∙ c.if-is_first_of_two.false) in
     let absent =
     none_first c.args.at.users.now files c.requires.records place r c.requires.there (get_or_default files place no_file r c.requires.there) (at_generation first c.args.generation) (c.requires.named no_file) entries
-    c.requires.index c.requires.behind (sym none ∙ c.newest_but-newest.ensures) in
+    c.requires.index c.requires.behind (sym none ∙ c.newest_but-newest.ensures.generation) in
     subst (λ m. number_in m first ≡ None) (sym same) (ap (λ f. number_in entries f) (sym (first_itself first c.requires.first)) ∙ absent)
 
 pub returns-clause-numbers : goal.returns-clause-numbers
@@ -110,4 +110,44 @@ returns-clause-newest c =
     let left = newest_of c.args.at.users.now first (remove_at c.args.at.files.now c.args.at.place) in
     let found = sym c.fall.ensures.was ∙ c.in-Some.is in
     let same = c.fall.ensures.entries ∙ fallen_same entries first c.in-Some.entry found (sym c.is_first_of_two.ensures ∙ c.if-is_first_of_two.false) in
-    subst (λ m. HasNewest m new first left) same (subst (λ n. HasNewest mid new first n) c.newest_but-newest.ensures c.settle.ensures.newest)
+    subst (λ m. HasNewest m new first left) same (subst (λ n. HasNewest mid new first n) c.newest_but-newest.ensures.generation c.settle.ensures.newest)
+
+pub returns-then-is_first_of_two-clause-topped : goal.returns-then-is_first_of_two-clause-topped
+returns-then-is_first_of_two-clause-topped c =
+    let first = c.args.first.now in
+    let entries = c.args.self.now.names.entries in
+    let new = c.fall.new.self.entries in
+    let entry = c.in-Some.entry in
+    let two = sym c.is_first_of_two.ensures ∙ c.if-is_first_of_two.true in
+    let found : get entries first ≡ Some entry = sym c.fall.ensures.was ∙ c.in-Some.is in
+    let number : entry.number ≡ number_in entries (at_generation first 1) = sym (ap (λ o. number_at o) found) ∙ ap (λ f. number_in entries f) (sym (first_itself first c.requires.first)) in
+    topped_by entries new first c.requires.topped 1 entry.number
+    (λ q. ap (λ m. number_in m q) c.fall.ensures.entries ∙ numbers_fallen entries first q)
+    (λ q. ap (λ m. newest_in m q) c.fall.ensures.entries ∙ newest_fallen_two entries first entry c.requires.first found two q)
+    (λ q. ap (λ m. top_in m q) c.fall.ensures.entries ∙ top_fallen_two entries first entry c.requires.first found two q) number
+
+pub newest_but-newest-requires-clause-topped : goal.newest_but-newest-requires-clause-topped
+newest_but-newest-requires-clause-topped c =
+    let entries = c.args.self.now.names.entries in
+    let found = sym c.fall.ensures.was ∙ c.in-Some.is in
+    let same = c.fall.ensures.entries ∙ fallen_same entries c.args.first.now c.in-Some.entry found (sym c.is_first_of_two.ensures ∙ c.if-is_first_of_two.false) in
+    subst (λ m. IsTopped m) (sym same) c.requires.topped
+
+pub settle-requires-clause-numbered : goal.settle-requires-clause-numbered
+settle-requires-clause-numbered c = λ none.
+    let first = c.args.first.now in
+    let entries = c.args.self.now.names.entries in
+    let found = sym c.fall.ensures.was ∙ c.in-Some.is in
+    let same = c.fall.ensures.entries ∙ fallen_same entries first c.in-Some.entry found (sym c.is_first_of_two.ensures ∙ c.if-is_first_of_two.false) in
+    c.newest_but-newest.ensures.number ∙ (λ i. number_in (same i) (at_generation first (none i))) ∙ zeroth_none c.args.at.users.now c.args.at.files.now entries first c.requires.records c.requires.index
+
+pub returns-clause-topped : goal.returns-clause-topped
+returns-clause-topped c =
+    let first = c.args.first.now in
+    let entries = c.args.self.now.names.entries in
+    let mid = c.fall.new.self.entries in
+    let newest = c.newest_but-newest.result in
+    let found = sym c.fall.ensures.was ∙ c.in-Some.is in
+    let same = c.fall.ensures.entries ∙ fallen_same entries first c.in-Some.entry found (sym c.is_first_of_two.ensures ∙ c.if-is_first_of_two.false) in
+    topped_by mid c.settle.new.self.names.entries first (subst (λ m. IsTopped m) (sym same) c.requires.topped) newest.generation newest.number c.settle.ensures.numbers c.settle.ensures.newest c.settle.ensures.top
+    c.newest_but-newest.ensures.number

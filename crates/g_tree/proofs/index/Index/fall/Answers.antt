@@ -23,7 +23,7 @@ returns-then-is_first_of_two-clause-was c = c.in-Some.ensures.value ∙ get_inde
 pub returns-then-is_first_of_two-clause-entries : goal.returns-then-is_first_of_two-clause-entries
 returns-then-is_first_of_two-clause-entries c =
     let was : NameEntry = c.in-Some.there.now in
-    let written : NameEntry = record { number = was.number; newest = 1 } in
+    let written : NameEntry = record { number = was.number; newest = 1; top = was.number } in
     let lent = c.get_mut.follows.holds written in
     let found : Some was ≡ map.get c.args.self.now.entries c.args.full.now =
     c.in-Some.ensures.value ∙ get_indexed _ c.args.full.now ∙ ap (λ s. map.get s.entries c.args.full.now) c.self.view_is in
@@ -34,7 +34,7 @@ returns-then-is_first_of_two-clause-entries c =
 pub returns-then-is_first_of_two-clause-spare : goal.returns-then-is_first_of_two-clause-spare
 returns-then-is_first_of_two-clause-spare c =
     let was : NameEntry = c.in-Some.there.now in
-    let lent = c.get_mut.follows.holds (record { number = was.number; newest = 1 }) in
+    let lent = c.get_mut.follows.holds (record { number = was.number; newest = 1; top = was.number }) in
     lent.6 ∙ ap (λ s. s.spare) c.self.view_is
 
 pub returns-clause-was : goal.returns-clause-was

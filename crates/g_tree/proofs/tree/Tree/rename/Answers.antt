@@ -1,14 +1,14 @@
 -- The one file goes with its name, its version and its blocks, and the other comes with its own.
-use Rattle.std.proofs.Common.{◌≡◌, ◌≤◌, ◌<◌, ◌-◌, Some, max, get_or, length, sym, ap, subst, ◌∙◌, arith}
+use Rattle.std.proofs.Common.{◌≡◌, ◌≤◌, ◌<◌, ◌-◌, Some, max, get_or, length, refl, sym, ap, subst, ◌∙◌, arith}
 use Rattle.std.proofs.Math.ListN.{set}
 use Rattle.std.specs.List.{remove as remove_at}
 use Rattle.std.proofs.lemmas.List.{length-set}
 use Rattle.g_base.specs.Block.{blocks_for}
 use Rattle.g_entry.specs.declared.file_rec.FileRec.{FileRec}
 use Rattle.g_tree.specs.Records.{IsRecords, full_of}
-use Rattle.g_tree.specs.State.{AreIndexed, AreNewest, AreUsed, HasNewest, HasNumber, IsKept, newest_in}
+use Rattle.g_tree.specs.State.{AreIndexed, AreNewest, AreUsed, HasNewest, HasNumber, HasTop, IsKept, IsTopped, newest_in, risen, top_in}
 use Rattle.g_tree.specs.Places.{StandsAt}
-use Rattle.g_tree.proofs.EntryLemmas.{indexed_set}
+use Rattle.g_tree.proofs.EntryLemmas.{indexed_set, topped_more}
 use Rattle.g_tree.proofs.CountLemmas.{owner_at, rest_used, put_owned, put_owner, put_len, give_some, replaced_newest, replaced_used}
 use Rattle.g_tree.proofs.tree.Tree.rename.Goals as goal
 
@@ -111,6 +111,11 @@ invariant_of-self c =
     let newest : AreNewest users (set files place file) known =
     replaced_newest users files place r at.within here file middle known newest_left
     (subst (λ us. HasNewest middle known (full_of us file) (max (newest_in middle (full_of us file)) file.generation)) c.as_slice-3.ensures.value c.put.ensures.newest) in
+    let topped : IsTopped known =
+    topped_more middle known (full_of users file) c.take_out.ensures.topped file.generation file.number refl
+    (subst (λ us. HasNumber middle known (full_of us file) (Some file.number)) c.as_slice-3.ensures.value c.put.ensures.numbers)
+    (subst (λ us. HasNewest middle known (full_of us file) (max (newest_in middle (full_of us file)) file.generation)) c.as_slice-3.ensures.value c.put.ensures.newest)
+    (subst (λ us. HasTop middle known (full_of us file) (risen (newest_in middle (full_of us file)) (top_in middle (full_of us file)) file.generation file.number)) c.as_slice-3.ensures.value c.put.ensures.top) in
     let used : AreUsed (set files place file) c.take.new.self.blocks.items =
     subst (AreUsed (set files place file)) (sym c.take.ensures.blocks)
     (replaced_used files place r file counts.blocks.items c.give.new.self.blocks.items c.self.invariant.used (owner_at users files is place r at.within here)
@@ -118,4 +123,4 @@ invariant_of-self c =
     (c.give.ensures.blocks ∙ ap (λ bs. set bs r.owner (get_or bs r.owner 0 - blocks_for r.len)) (c.put.ensures.blocks ∙ c.take_out.ensures.blocks))) in
     subst (λ (f : FileRec). IsKept users (set files place f) c.take.new.self.names.entries c.take.new.self.blocks.items) (sym c.set.ensures)
     (subst (λ m. IsKept users (set files place file) m c.take.new.self.blocks.items) (sym (ap (λ g. g.entries) (c.take.ensures.names ∙ c.give.ensures.names)))
-    (record { records = rules; index = index; newest = newest; used = used }))
+    (record { records = rules; index = index; newest = newest; topped = topped; used = used }))
