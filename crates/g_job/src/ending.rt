@@ -24,6 +24,8 @@ use std::alloc::Global;
 
 impl Parts {
     /// Ends a turn by what its work has made, which lies where it was made.
+    // Each turn comes to it, and to the three below: what they answer is looked at where it is made.
+    #[inline(always)]
     pub(crate) fn end<F: Fn(&Usage) -> Charge>(
         &mut self,
         alloc: Global,
@@ -46,6 +48,7 @@ impl Parts {
     }
 
     /// Ends a turn whose work is over for this, or isn't.
+    #[inline(always)]
     fn end_by<F: Fn(&Usage) -> Charge>(
         &mut self,
         alloc: Global,
@@ -82,6 +85,7 @@ impl Parts {
     }
 
     /// Charges a turn by the tariff.
+    #[inline(always)]
     fn charge<F: Fn(&Usage) -> Charge>(
         &mut self,
         tariff: &Tariff<F>,
@@ -112,6 +116,8 @@ impl Parts {
     }
 
     /// The job waits for the reel of this serial, and goes on with what its work kept for that.
+    // A turn seldom comes to it: a function of its own keeps its room out of each.
+    #[inline(never)]
     fn wait_for(&mut self, alloc: Global, serial: u32)
         requires { IsWaiting (job_of self.old) self.old.work.again }
         ensures job { job_of self.new ≡ record (job_of self.old) {
@@ -126,6 +132,8 @@ impl Parts {
     }
 
     /// The job was stopped: it takes no turn any more.
+    // It comes once in a job at most: a function of its own keeps its room out of each turn.
+    #[inline(never)]
     fn break_off(&mut self) -> Result<(), NoMemory>
         ensures ok { OnOk result (self.new ≡ record self.old {
           monitor = self.old.monitor ++ self.old.work.text;
@@ -140,6 +148,7 @@ impl Parts {
 
     /// Charges a turn, of each kind no more than is left, and says the job's last line where it ends, behind what the turn
     /// adds.
+    #[inline(always)]
     fn settle(&mut self, charge: Charge, stop: Option<Stop>) -> Result<Turn, NoMemory>
         requires open { self.old.over ≡ false }
         requires clear { IsClear (job_of self.old) }

@@ -96,6 +96,8 @@ pub(crate) fn first_of<U: Fn(&Standing) -> u64, M: Fn(u32) -> bool>(
 }
 
 /// Weighs each of the jobs by the rule. The weights lie where they are: a turn doesn't pay for the room of others.
+// It is done where ticks begin and where a job has gone: a function of its own leaves one job's weight to each turn.
+#[inline(never)]
 pub(crate) fn weigh_each<U: Fn(&Standing) -> u64>(
     jobs: &[Job],
     weigh: &WeighRule<U>,

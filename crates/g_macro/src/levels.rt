@@ -242,6 +242,8 @@ fn live_levels(all: &[Level], held: bool) -> usize
 }
 
 /// Whether a level above the document has a line left, or the document has one that may be taken.
+// It is asked at a terminal alone: a function of its own keeps its room out of each turn.
+#[inline(never)]
 fn is_some_ready(all: &[Level]) -> bool
     ensures { result ≡ holding.some_ready (reverse all.now) }
 {

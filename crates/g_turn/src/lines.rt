@@ -1,5 +1,5 @@
 //! One line, and the WHENEVER behind it.
-ghost use Rattle.std.specs.Prelude.{◌≡◌, ◌≤◌, ◌+◌, ◌<◌, ℕ, false, length, IfOk, IfSome, OnErr, OnOk};
+ghost use Rattle.std.specs.Prelude.{◌≡◌, ◌≤◌, ◌+◌, ◌<◌, ℕ, false, length, true, IfOk, IfSome, OnErr, OnOk};
 ghost use Rattle.g_turn.specs.LineWork.{FiredAs, IsReady};
 ghost use Rattle.g_turn.specs.Lines as lines;
 ghost use Rattle.g_turn.specs.Commands.{gone};
@@ -84,6 +84,8 @@ impl Work {
     }
 
     /// Says the echo of a line; where its command waits, the turn is gone on with at this line.
+    // Each turn of a document comes to it.
+    #[inline(always)]
     fn say_line(&mut self, alloc: Global, room: usize, text: Text) -> Result<(), NoMemory>
         requires level { 0 < length self.old.desk.levels.levels }
         ensures ok { OnOk result (self.new ≡ lines.says_line room text self.old) }
@@ -226,6 +228,24 @@ impl Work {
         if !self.sets {
             return Ok(());
         }
+        self.fire_first(store, asker)
+    }
+
+    /// Does the WHENEVER that fires by the outcome, if one does.
+    // A GOTO sets no outcome, and none fires behind most other lines: a function of its own keeps its room out of each.
+    #[inline(never)]
+    fn fire_first<S: Filestore>(&mut self, store: &mut S, asker: &Asker<'_>) -> Result<(), NoMemory>
+        requires running { S.is_spent store.old ≡ false }
+        requires sets { self.old.sets ≡ true }
+        requires few { self.old.blocks ≤ 2048 }
+        requires ready { IsReady self.old }
+        ensures ok { OnOk result (RanWell S.answers S.is_spent S.can_wait asker.now.who.now store.old
+            (lines.may_fire asker.now.room asker.now.who.now self.old) self.new store.new) }
+        ensures err { OnErr result (RanInPart S.answers asker.now.who.now store.old
+            (lines.may_fire asker.now.room asker.now.who.now self.old) store.new) }
+        ensures same_waits { (s : ℕ) → S.can_wait store.new s ≡ S.can_wait store.old s }
+        ensures ready { OnOk result (IsReady self.new) }
+    {
         if !self.levels.have_entries() {
             return Ok(());
         }

@@ -58,6 +58,8 @@ impl Work {
 
     /// Puts a job's last line with its byte 10 behind what the turn adds to the monitoring file, whatever room that has. Where
     /// memory is wanting, nothing is known of what it adds.
+    // It comes once in a job: a function of its own keeps its room out of each turn.
+    #[inline(never)]
     pub fn push_last(&mut self, line: JobLine) -> Result<(), NoMemory>
         ensures ok { OnOk result (self.new ≡ record self.old { text = self.old.text ++ ended (job_line line) }) }
         ensures desk { self.new.desk ≡ self.old.desk }

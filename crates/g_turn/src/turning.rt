@@ -121,6 +121,8 @@ impl Work {
 
     /// Does the same where nothing waits: goes on with a run of the program that isn't over, else takes the next line. What
     /// waits is large, so a turn without it doesn't pay for its moves.
+    // Each turn comes to it.
+    #[inline(always)]
     pub fn run_or_take<S: Filestore>(
         &mut self,
         store: &mut S,
@@ -171,6 +173,8 @@ impl Work {
     }
 
     /// Takes a line and does it; with no line left the job ends.
+    // Each turn of a document comes to it.
+    #[inline(always)]
     fn take<S: Filestore>(&mut self, store: &mut S, asker: &Asker<'_>) -> Result<(), NoMemory>
         requires running { S.is_spent store.old ≡ false }
         requires open { said.is_over self.old ≡ false }

@@ -4,7 +4,7 @@ use Rattle.g_turn.specs.Lines.{may_fire}
 use Rattle.g_turn.specs.State.{Work}
 use Rattle.g_macro.specs.Levels.{fired}
 use Rattle.g_turn.proofs.ReadyLemmas.{err_none, fired_level, fired_ready, none_fires}
-use Rattle.g_turn.proofs.work.Work.may_fire.Goals as goal
+use Rattle.g_turn.proofs.work.Work.fire_first.Goals as goal
 
 pub returns-in_err-text-clause-err : goal.returns-in_err-text-clause-err
 returns-in_err-text-clause-err g c =
