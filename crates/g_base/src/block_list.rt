@@ -39,6 +39,13 @@ impl BlockList {
         Some(BlockList { blocks })
     }
 
+    /// Takes all numbers out, where the list stands.
+    pub fn clear(&mut self)
+        ensures { self.new ≡ [] }
+    {
+        self.blocks.clear();
+    }
+
     /// Puts a number behind the others.
     pub fn push(&mut self, block: u32)
         requires { length self.old < 128 }

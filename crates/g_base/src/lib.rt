@@ -1,6 +1,6 @@
 //! What all layers share: the limits of the filestore, blocks and lists of their numbers, counts that
 //! stand still at the end of their type, the fuse of a device, what is told of a device's content,
-//! want of memory, and the fields of blocks.
+//! want of memory, the fields of blocks, and items in order.
 #![tactic(auto)]
 
 mod block;
@@ -9,6 +9,7 @@ mod counter;
 mod distinct;
 mod fault;
 mod fuse;
+mod items;
 mod limits;
 mod memory;
 mod reader;
@@ -20,6 +21,7 @@ pub use counter::raised;
 pub use distinct::are_distinct;
 pub use fault::{ReadFailed, WriteFailed};
 pub use fuse::{Armings, Fuse};
+pub use items::Items;
 pub use limits::{
     FIRST_COPY_BLOCK, FIRST_FILE_BLOCK, MAX_ALLOWANCE, MAX_BALANCE, MAX_DISC_BLOCKS,
     MAX_FILE_BLOCKS, MAX_FILE_BYTES, MAX_FILES, MAX_GENERATION, MAX_REELS, MAX_SCRIPT_BYTES,

@@ -119,6 +119,14 @@ impl BlockWriter {
         self.put_bytes(&bytes);
     }
 
+    /// What was put so far.
+    pub fn as_slice(&self) -> &[u8]
+        ensures value { result.now ≡ self.now }
+        ensures fits { length self.now ≤ 512 }
+    {
+        &self.block[..self.at]
+    }
+
     /// The block: what was put, and zeros behind it.
     pub fn finish(self) -> Block
         ensures { result ≡ padded 512 self }

@@ -4,7 +4,7 @@ use Rattle.g_cache.specs.CachedDisc.{kept_block}
 
 -- block k stands at the place of its remainder
 abbrev pub is_noted : List (Option ℕ) → ℕ → Bool
-is_noted numbers k = elim (slice_index_or numbers (k % 64) None) [ Some j ↦ j == k | None ↦ false ]
+is_noted numbers k = elim (slice_index_or numbers (k % 67) None) [ Some j ↦ j == k | None ↦ false ]
 
 -- none of the blocks that are noted is kept
 abbrev pub AreAbsent : List (Option ℕ) → List (ℕ × List ℕ) → Type 0

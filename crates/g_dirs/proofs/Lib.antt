@@ -1,4 +1,5 @@
 pub mod CopyLemmas
+pub mod KeptLemmas
 pub mod KnownLemmas
 pub mod ListingLemmas
 pub mod EntryLemmas

@@ -83,7 +83,7 @@ impl BoxedCopy {
     pub(crate) fn clear(&mut self)
         ensures { self.new ≡ record { blocks = []; len = 0 } }
     {
-        self.it.1.blocks = BlockList::new();
+        self.it.1.blocks.clear();
         self.it.1.len = 0;
     }
 

@@ -1,9 +1,11 @@
 //! What is known of the blocks of a slot.
 ghost use Rattle.std.specs.Prelude.{◌≡◌, ◌≢◌, ◌+◌, ◌-◌, ◌<◌, ◌≤◌, ◌++◌, ℕ, IfOk, None, Some, length, replicate, slice_get, slice_index_or, vec_capacity};
 ghost use Rattle.std.specs.Str.{bytes_eq};
+ghost use Rattle.g_base.specs.Fields.{padded};
 ghost use Rattle.g_dirs.specs.Pages.{is_remembered};
 
-use g_base::{Block, NoMemory};
+use crate::kept_block::KeptBlock;
+use g_base::{BlockWriter, NoMemory};
 use g_slots::SLOT_BLOCKS;
 use std::alloc::Global;
 use std::marker::Model;
@@ -14,7 +16,7 @@ use std::marker::Model;
 #[derive(Debug, Drop)]
 pub(crate) struct RememberedBlocks {
     known: Vec<bool>,
-    blocks: Vec<Block>,
+    blocks: Vec<KeptBlock>,
 }
 
 impl Model for RememberedBlocks {
@@ -38,73 +40,74 @@ impl RememberedBlocks {
         Ok(RememberedBlocks { known, blocks })
     }
 
-    /// Whether block `k` is known to be this one.
-    pub(crate) fn holds(&self, k: u32, block: &Block) -> bool
+    /// Whether block `k` is known to be the one of this writer.
+    pub(crate) fn holds(&self, k: u32, writer: &BlockWriter) -> bool
         requires { k < 1088 }
-        ensures { result ≡ is_remembered self.now k block.now }
+        ensures { result ≡ is_remembered self.now k (padded 512 writer.now) }
     {
         let k = k as usize;
         if self.known[k] {
-            is_at(&self.blocks, k, block)
+            is_at(&self.blocks, k, writer)
         } else {
             false
         }
     }
 
-    /// Block `k` is now known to be this one. It takes no memory.
-    pub(crate) fn set(&mut self, k: u32, block: &Block)
+    /// Block `k` is now known to be the one of this writer. It takes no memory.
+    pub(crate) fn set(&mut self, k: u32, writer: &BlockWriter)
         requires { k < 1088 }
-        ensures here { slice_get self.new k ≡ Some (Some block.now) }
+        ensures here { slice_get self.new k ≡ Some (Some (padded 512 writer.now)) }
         ensures rest { (j : ℕ) → j ≢ k → slice_get self.new j ≡ slice_get self.old j }
     {
         let k = k as usize;
         self.known[k] = true;
-        put(&mut self.blocks, k, block);
+        put(&mut self.blocks, k, writer);
     }
 }
 
-/// Whether this block is kept at place `k`, where those behind the end are zeros.
-fn is_at(blocks: &[Block], k: usize, block: &Block) -> bool
-    ensures { result ≡ bytes_eq (slice_index_or blocks.now k (replicate 512 0)) block.now }
+/// Whether the block of this writer is kept at place `k`, where those behind the end are zeros.
+fn is_at(blocks: &[KeptBlock], k: usize, writer: &BlockWriter) -> bool
+    ensures { result ≡ bytes_eq (slice_index_or blocks.now k (replicate 512 0)) (padded 512 writer.now) }
 {
     match blocks.get(k) {
-        Some(kept) => *kept == *block,
-        None => is_zeros(block),
+        Some(kept) => kept.equals(writer),
+        None => is_zeros(writer),
     }
 }
 
-fn is_zeros(block: &Block) -> bool
-    ensures { result ≡ bytes_eq (replicate 512 0) block.now }
+/// Whether the block of this writer is zeros. Where nothing was put it is, without a look.
+fn is_zeros(writer: &BlockWriter) -> bool
+    ensures { result ≡ bytes_eq (replicate 512 0) (padded 512 writer.now) }
 {
-    [0; 512] == *block
+    if writer.as_slice().is_empty() {
+        return true;
+    }
+    KeptBlock::zeros().equals(writer)
 }
 
-/// Keeps a block at place `k`. There is room for it, and zeros behind the end aren't written.
-fn put(blocks: &mut Vec<Block>, k: usize, block: &Block)
+/// Keeps the block of a writer at place `k`. There is room for it, and zeros behind the end aren't written.
+fn put(blocks: &mut Vec<KeptBlock>, k: usize, writer: &BlockWriter)
     requires { k < vec_capacity blocks.old }
-    ensures here { slice_index_or blocks.new.items k (replicate 512 0) ≡ block.now }
+    ensures here { slice_index_or blocks.new.items k (replicate 512 0) ≡ padded 512 writer.now }
     ensures rest { (j : ℕ) → j ≢ k
         → slice_index_or blocks.new.items j (replicate 512 0) ≡ slice_index_or blocks.old.items j (replicate 512 0) }
     ensures capacity { vec_capacity blocks.old ≤ vec_capacity blocks.new }
 {
-    if blocks.len() <= k && is_zeros(block) {
+    if blocks.len() <= k && is_zeros(writer) {
         return;
     }
     reach(blocks, k);
-    blocks[k] = *block;
+    blocks[k].keep(writer);
 }
 
 /// Fills up with zeros, so that there is a block `k`. There is room for it.
-fn reach(blocks: &mut Vec<Block>, k: usize)
+fn reach(blocks: &mut Vec<KeptBlock>, k: usize)
     requires { k < vec_capacity blocks.old }
     ensures items { blocks.new.items ≡ blocks.old.items ++ replicate (k + 1 - length blocks.old.items) (replicate 512 0) }
     ensures capacity { vec_capacity blocks.old ≤ vec_capacity blocks.new }
 {
-    if k < blocks.len() {
-        return;
-    }
-    match blocks.resize(k + 1, [0; 512]) {
-        Ok(()) => {}
-        Err(_) => unreachable!(),
+    let missing = (k + 1).saturating_sub(blocks.len());
+    for _ in 0..missing {
+        blocks.push_reserved(KeptBlock::zeros());
     }
 }

@@ -5,6 +5,7 @@ mod boxed_copy;
 mod copy_table;
 mod dirs;
 mod fault;
+mod kept_block;
 mod known;
 mod laws;
 mod listing;

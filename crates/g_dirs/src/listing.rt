@@ -9,7 +9,7 @@ ghost use Rattle.g_dirs.specs.Image.{block_of, entry_at, file_or_empty, user_or_
 ghost use Rattle.g_dirs.specs.Writing.{AreEncodable, IsEncodable, number_of_file};
 
 use crate::CopyTable;
-use g_base::{Block, BlockList, BlockWriter};
+use g_base::{BlockList, BlockWriter};
 use g_entry::{BoxedRec, FileRec, Format, Head, UserRec, place_of, put_file, put_head, put_user};
 use std::marker::Model;
 
@@ -52,15 +52,15 @@ impl<'a> Listing<'a> {
         }
     }
 
-    /// Block `k` of the slot.
-    pub(crate) fn block(&self, k: u32) -> Block
+    /// A writer that holds block `k` of the slot.
+    pub(crate) fn written(&self, k: u32) -> BlockWriter
         requires place { k < 1088 }
         requires directory { IsEncodable self.now }
-        ensures { result ≡ block_of Format.Two self.now k }
+        ensures { padded 512 result ≡ block_of Format.Two self.now k }
     {
         let mut writer = BlockWriter::new();
         self.put_block(&mut writer, k);
-        writer.finish()
+        writer
     }
 
     /// Makes a writer hold block `k` of the slot, in the place of what it held.

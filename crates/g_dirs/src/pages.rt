@@ -1,5 +1,6 @@
 //! The slot blocks that are remembered from commit to commit, so that no block is written once more as it stands.
 ghost use Rattle.std.specs.Prelude.{◌≡◌, ◌≢◌, ◌<◌, ◌≤◌, ◌↔◌, IfOk, IsTrue, List, None, replicate, true, ℕ};
+ghost use Rattle.g_base.specs.Fields.{padded};
 ghost use Rattle.g_entry.specs.declared.format.Format.TheVariants.{Two};
 ghost use Rattle.g_slots.specs.declared.side.Side.{Side};
 ghost use Rattle.g_dirs.specs.Directory.{Directory};
@@ -11,7 +12,7 @@ ghost use Rattle.g_dirs.specs.Writing.{IsEncodable};
 use crate::Listing;
 use crate::known::RememberedBlocks;
 use crate::marks::Marks;
-use g_base::{Block, NoMemory};
+use g_base::{BlockWriter, NoMemory};
 use g_slots::Side;
 use std::alloc::Global;
 use std::marker::Model;
@@ -80,7 +81,7 @@ impl Pages {
         ensures { IsTrue result ↔ Covers listing.now side self.now }
     {
         for k in 0..1088 {
-            if self.next_marked(side, k) != k && !self.is_remembered(side, k, &listing.block(k)) {
+            if self.next_marked(side, k) != k && !self.is_remembered(side, k, &listing.written(k)) {
                 return false;
             }
         }
@@ -108,25 +109,25 @@ impl Pages {
         }
     }
 
-    /// Whether block `k` of a slot is remembered as this one.
-    pub(crate) fn is_remembered(&self, side: Side, k: u32, block: &Block) -> bool
+    /// Whether block `k` of a slot is remembered as the one of this writer.
+    pub(crate) fn is_remembered(&self, side: Side, k: u32, writer: &BlockWriter) -> bool
         requires { k < 1088 }
-        ensures { result ≡ is_remembered (pages_of side self.now) k block.now }
+        ensures { result ≡ is_remembered (pages_of side self.now) k (padded 512 writer.now) }
     {
         match side {
-            Side::A => self.a.holds(k, block),
-            Side::B => self.b.holds(k, block),
+            Side::A => self.a.holds(k, writer),
+            Side::B => self.b.holds(k, writer),
         }
     }
 
-    /// Block `k` of a slot now holds this one.
-    pub(crate) fn remember(&mut self, side: Side, k: u32, block: &Block)
+    /// Block `k` of a slot now holds the one of this writer.
+    pub(crate) fn remember(&mut self, side: Side, k: u32, writer: &BlockWriter)
         requires { k < 1088 }
-        ensures { RemembersPage side k block.now self.old self.new }
+        ensures { RemembersPage side k (padded 512 writer.now) self.old self.new }
     {
         match side {
-            Side::A => self.a.set(k, block),
-            Side::B => self.b.set(k, block),
+            Side::A => self.a.set(k, writer),
+            Side::B => self.b.set(k, writer),
         }
     }
 }

@@ -1,6 +1,7 @@
 //! The commit of a directory.
 ghost use Rattle.std.specs.Prelude.{◌≡◌, ◌+◌, ◌<◌, OnErr, OnOk, false, replicate, true, if◌then◌else◌};
 ghost use Rattle.std.specs.Option.{ForSome};
+ghost use Rattle.g_base.specs.Fields.{padded};
 ghost use Rattle.g_base.specs.ToldContent.{Changes};
 ghost use Rattle.g_disc.specs.Disc.{WritesOnly};
 ghost use Rattle.g_slots.specs.Commit.{KeepsCurrent, Prepares};
@@ -11,7 +12,7 @@ ghost use Rattle.g_dirs.specs.Pages.{Covers, KeepsMarks, Remembers, RemembersAll
 ghost use Rattle.g_dirs.specs.Writing.{WroteFirst};
 
 use crate::{DirsFault, Listing, Pages};
-use g_base::{Block, BlockWriter};
+use g_base::BlockWriter;
 use g_disc::Disc;
 use g_entry::Format;
 use g_slots::Slots;
@@ -126,7 +127,7 @@ fn fill<D: Disc>(
     while k < 1088 {
         listing.put_block(&mut writer, k);
         // In a loop the proof reads the arms of a `match`, and not what `?` returns.
-        match write_page(disc, slots, k, writer.block(), last) {
+        match write_page(disc, slots, k, &writer, last) {
             Ok(()) => {}
             Err(fault) => return Err(fault),
         }
@@ -135,13 +136,13 @@ fn fill<D: Disc>(
     Ok(())
 }
 
-/// Makes block `k` of the slot that isn't current hold this block, and remembers it. It is written where it isn't
-/// remembered so.
+/// Makes block `k` of the slot that isn't current hold the block of this writer, and remembers it. It is written where it
+/// isn't remembered so.
 fn write_page<D: Disc>(
     disc: &mut D,
     slots: &Slots,
     k: u32,
-    block: &Block,
+    writer: &BlockWriter,
     last: &mut Pages,
 ) -> Result<(), DirsFault>
     requires place { k < 1088 }
@@ -149,21 +150,22 @@ fn write_page<D: Disc>(
     requires gate { GateNames slots.now (D.state disc.old).held }
     requires remembers { ForSome (D.state disc.old).held (Remembers last.old) }
     ensures ok { OnOk result
-        (Changes (Prepares slots.now k block.now) (D.state disc.old).held (D.state disc.new).held) }
+        (Changes (Prepares slots.now k (padded 512 writer.now)) (D.state disc.old).held (D.state disc.new).held) }
     ensures stopped { OnErr result
         (Changes (KeepsCurrent slots.now) (D.state disc.old).held (D.state disc.new).held) }
-    ensures counts { WritesOnly (if is_remembered (pages_of (other slots.now) last.old) k block.now then 0 else 1)
+    ensures counts { WritesOnly
+        (if is_remembered (pages_of (other slots.now) last.old) k (padded 512 writer.now) then 0 else 1)
         (D.state disc.old) (D.state disc.new) result }
-    ensures pages { OnOk result (RemembersPage (other slots.now) k block.now last.old last.new) }
+    ensures pages { OnOk result (RemembersPage (other slots.now) k (padded 512 writer.now) last.old last.new) }
     ensures only { OnErr result (result ≡ Err DirsFault.Stopped) }
 {
     let side = slots.side().other();
-    if last.is_remembered(side, k, block) {
+    if last.is_remembered(side, k, writer) {
         return Ok(());
     }
-    match slots.prepare(disc, k, block) {
+    match slots.prepare(disc, k, writer.block()) {
         Ok(()) => {
-            last.remember(side, k, block);
+            last.remember(side, k, writer);
             Ok(())
         }
         Err(_) => Err(DirsFault::Stopped),

@@ -16,7 +16,7 @@ fn is_asked(cond: &Cond) -> bool {
 
 /// Whether parameters are `A (B,C)` and `D`.
 fn are_two(params: &Texts) -> bool {
-    match params.rows() {
+    match params.as_slice() {
         [first, second] => {
             first.as_slice() == b"A (B,C)".as_slice() && second.as_slice() == b"D".as_slice()
         }

@@ -197,7 +197,7 @@ fn is_verb(
 }
 
 fn are_params(told: &Texts, all: &[u8], params: &[&[u8]]) -> bool {
-    let told = told.rows();
+    let told = told.as_slice();
     if told.len() != params.len()
         || count_params(all) != params.len()
         || param_at(all, params.len()).is_some()

@@ -10,5 +10,5 @@ use std::test::Fail;
 /// How many items a script has before its bad line, and which line that is.
 fn read(alloc: Global, script: &[u8]) -> Result<(usize, Option<u64>), Fail> {
     let script = parse_script(alloc, script)?;
-    Ok((script.lines.rows().len(), script.bad))
+    Ok((script.lines.as_slice().len(), script.bad))
 }

@@ -23,7 +23,7 @@ use Rattle.g_name.proofs.WordLemmas.{may_be-from_word, word-from_may_be, word-pu
 
 -- a reader of these parts
 abbrev pub reader : Part → List ℕ → List ℕ → ℕ → List ℕ → PathReader
-reader p u l g lang = record { part = p; user = record { items = u }; local = record { items = l }; generation = g; lang = record { items = lang } }
+reader p u l g lang = record { part = p; user = u; local = l; generation = g; lang = lang }
 
 -- the digits that were read
 abbrev pub digits_read : ℕ → List ℕ
@@ -31,7 +31,7 @@ digits_read n = if n == 0 then [] else decimal n
 
 -- up to the brackets
 abbrev front : PathReader → List ℕ
-front r = user_part (user_read r.user.items) ++ r.local.items
+front r = user_part (user_read r.user) ++ r.local
 
 -- up to the slash or the closing bracket
 abbrev opened : PathReader → List ℕ
@@ -39,12 +39,12 @@ opened r = front r ++ (40 ∷ digits_read r.generation)
 
 -- all that was read
 abbrev text_in : Part → PathReader → List ℕ
-text_in User r = 58 ∷ r.user.items
+text_in User r = 58 ∷ r.user
 text_in Local r = front r
 text_in Generation r = opened r
-text_in Lang r = opened r ++ (47 ∷ r.lang.items)
+text_in Lang r = opened r ++ (47 ∷ r.lang)
 text_in Closed r = opened r ++ (41 ∷ [])
-text_in LangClosed r = (opened r ++ (47 ∷ r.lang.items)) ++ (41 ∷ [])
+text_in LangClosed r = (opened r ++ (47 ∷ r.lang)) ++ (41 ∷ [])
 
 abbrev pub text_read : PathReader → List ℕ
 text_read r = text_in r.part r
@@ -197,7 +197,7 @@ run-read None text bytes has = subst (λ (o : Option PathReader). IfSome o (HasR
 run-read (Some r) text [] has = subst (λ (t : List ℕ). HasRead t r) (sym (append-nil text)) has
 run-read (Some r) text (c ∷ cs) has =
     let next : IfSome (step c r) (HasRead (text ++ c ∷ [])) =
-    subst (λ (t : List ℕ). IfSome (step c r) (HasRead (t ++ c ∷ []))) has.text (goes r.part r.user.items r.local.items r.generation r.lang.items c has.known) in
+    subst (λ (t : List ℕ). IfSome (step c r) (HasRead (t ++ c ∷ []))) has.text (goes r.part r.user r.local r.generation r.lang c has.known) in
     subst (λ (t : List ℕ). IfSome (run step (step c r) cs) (HasRead t)) (append_assoc text (c ∷ []) cs) (run-read (step c r) (text ++ c ∷ []) cs next)
 
 start_read : HasRead [] start
@@ -407,14 +407,14 @@ lang_is LangClosed lang is = is
 
 pub whole_name : (r : PathReader) → IsReading r → is_whole r ≡ true → IsName (name_read r)
 whole_name r known is = record {
-  user = user_is r.user.items known.user;
-  local = (whole_in r.part r.user.items r.local.items r.generation r.lang.items known is).0;
+  user = user_is r.user known.user;
+  local = (whole_in r.part r.user r.local r.generation r.lang known is).0;
   generation = generation_is r.generation known.generation;
-  lang = lang_is r.part r.lang.items known.lang;
+  lang = lang_is r.part r.lang known.lang;
 }
 
 pub whole_text : (r : PathReader) → IsReading r → is_whole r ≡ true → text_read r ≡ name_text (name_read r)
-whole_text r known is = (whole_in r.part r.user.items r.local.items r.generation r.lang.items known is).1
+whole_text r known is = (whole_in r.part r.user r.local r.generation r.lang known is).1
 
 -- what has been read begins the text of a name: what comes behind it
 abbrev BeginsIn : Part → List ℕ → List ℕ → ℕ → List ℕ → Type 0
@@ -450,7 +450,7 @@ begins_in Closed u l g lang known = begins_by (reader Closed u l g lang) _ [] kn
 begins_in LangClosed u l g lang known = begins_by (reader LangClosed u l g lang) _ [] known refl (append-nil ((opened (reader LangClosed u l g lang) ++ (47 ∷ lang)) ++ 41 ∷ []))
 
 pub begins_name : (bytes : List ℕ) (r : PathReader) → HasRead bytes r → Begins IsNameText bytes
-begins_name bytes r has = subst (Begins IsNameText) has.text (begins_in r.part r.user.items r.local.items r.generation r.lang.items has.known)
+begins_name bytes r has = subst (Begins IsNameText) has.text (begins_in r.part r.user r.local r.generation r.lang has.known)
 
 -- the text of a name is read to its end
 reads_text : (text : List ℕ) (n : Name) → IsName n → text ≡ name_text n → run step (Some start) text ≡ Some (reader_of n)
@@ -506,3 +506,18 @@ module _ (text : List ℕ) (r : PathReader) (here : run step (Some start) text �
   -- where the text ends too early, its length is the bad place
   pub path-err : (e : BadName) → e.place ≡ length text → IfErr (ok_or path e) (λ bad. IsBadPlace IsNameText text bad.place)
   path-err e place = ended e place path
+
+-- a word alone is the local name of a path without other parts
+abbrev pub word_name : List ℕ → Name
+word_name w = record { user = None; local = w; generation = None; lang = None }
+
+pub word_is_name : (w : List ℕ) → is_word w ≡ true → IsName (word_name w) × (w ≡ name_text (word_name w))
+word_is_name w is = (record { user = tt; local = is; generation = tt; lang = tt }, sym (append-nil w))
+
+-- and no other name has its text
+pub one_word_name : (w : List ℕ) (n : Name) → is_word w ≡ true → IsName n → w ≡ name_text n → word_name w ≡ n
+one_word_name w n is named same =
+    let word = word_is_name w is in
+    let both : Some (reader_of (word_name w)) ≡ Some (reader_of n) = sym (reads_text w (word_name w) word.0 word.1) ∙ reads_text w n named same in
+    let one : reader_of (word_name w) ≡ reader_of n = cc in
+    sym (name_read_of (word_name w) word.0) ∙ ap name_read one ∙ name_read_of n named

@@ -5,4 +5,5 @@ pub mod Names
 pub mod Order
 pub mod Reading
 pub mod ReadingText
+pub mod Short
 pub mod Words

@@ -20,15 +20,15 @@ with_part r part = record r { part = part }
 -- each part, and what of it a byte can be
 abbrev pub step_user : ℕ → PathReader → Option PathReader
 step_user byte r =
-    if extends r.user.items byte then Some (record r { user = record { items = r.user.items ++ byte ∷ [] } })
-    else if byte == 46 && not (is_empty r.user.items) then Some (with_part r Local)
+    if extends r.user byte then Some (record r { user = r.user ++ byte ∷ [] })
+    else if byte == 46 && not (is_empty r.user) then Some (with_part r Local)
     else None
 
 abbrev pub step_local : ℕ → PathReader → Option PathReader
 step_local byte r =
-    if extends r.local.items byte then Some (record r { local = record { items = r.local.items ++ byte ∷ [] } })
-    else if byte == 58 && is_empty r.user.items && is_empty r.local.items then Some (with_part r User)
-    else if byte == 40 && not (is_empty r.local.items) then Some (with_part r Generation)
+    if extends r.local byte then Some (record r { local = r.local ++ byte ∷ [] })
+    else if byte == 58 && is_empty r.user && is_empty r.local then Some (with_part r User)
+    else if byte == 40 && not (is_empty r.local) then Some (with_part r Generation)
     else None
 
 abbrev pub step_generation : ℕ → PathReader → Option PathReader
@@ -40,7 +40,7 @@ step_generation byte r =
 
 abbrev pub step_lang : ℕ → PathReader → Option PathReader
 step_lang byte r =
-    if extends_lang r.lang.items byte then Some (record r { lang = record { items = r.lang.items ++ byte ∷ [] } })
+    if extends_lang r.lang byte then Some (record r { lang = r.lang ++ byte ∷ [] })
     else if byte == 41 then Some (with_part r LangClosed)
     else None
 
@@ -56,7 +56,7 @@ abbrev pub step : ℕ → PathReader → Option PathReader
 step byte r = step_in r.part byte r
 
 abbrev pub start : PathReader
-start = record { part = Local; user = record { items = [] }; local = record { items = [] }; generation = 0; lang = record { items = [] } }
+start = record { part = Local; user = []; local = []; generation = 0; lang = [] }
 
 -- a path may end here
 abbrev pub may_end : Part → Bool → Bool
@@ -66,7 +66,7 @@ may_end LangClosed has_local = true
 may_end _ has_local = false
 
 abbrev pub is_whole : PathReader → Bool
-is_whole r = may_end r.part (not (is_empty r.local.items))
+is_whole r = may_end r.part (not (is_empty r.local))
 
 abbrev pub user_read : List ℕ → Option (List ℕ)
 user_read [] = None
@@ -82,8 +82,8 @@ lang_read _ lang = None
 -- what has been read
 abbrev pub name_read : PathReader → Name
 name_read r = record {
-  user = user_read r.user.items;
-  local = r.local.items;
+  user = user_read r.user;
+  local = r.local;
   generation = generation_read r.generation;
-  lang = lang_read r.part r.lang.items;
+  lang = lang_read r.part r.lang;
 }

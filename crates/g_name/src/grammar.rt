@@ -1,12 +1,10 @@
 //! Which characters and words names are made of.
-ghost use Rattle.std.specs.Prelude.{◌≡◌, ◌≤◌, length};
+ghost use Rattle.std.specs.Prelude.{◌≡◌};
 ghost use Rattle.std.specs.List.{list_all};
 ghost use Rattle.g_name.specs.BadPlace.{IsBadPlace};
 ghost use Rattle.g_name.specs.Grammar as grammar;
 ghost use Rattle.g_name.specs.Names.{IsLocalText};
 ghost use Rattle.g_name.specs.Words as words;
-
-use arrayvec::ArrayVec;
 
 /// Whether a byte is one of `A` to `Z`.
 pub fn is_letter(byte: u8) -> bool
@@ -66,12 +64,4 @@ pub(crate) fn word_end(text: &[u8]) -> usize
         }
     }
     text.len()
-}
-
-/// The characters of a text in a list of their own, which takes no memory.
-pub(crate) fn copied<const N: usize>(text: &[u8]) -> ArrayVec<u8, N>
-    requires { length text.now ≤ N }
-    ensures { result.items ≡ text.now }
-{
-    ArrayVec::try_from(text).unwrap()
 }

@@ -3,14 +3,13 @@ ghost use Rattle.std.specs.Prelude.{◌≡◌, true, ◌↔◌, IsSome, IfSome, 
 ghost use Rattle.g_name.specs.Grammar.{is_lang};
 
 use crate::grammar;
-use arrayvec::ArrayVec;
-use std::hash::{Hash, Hasher};
+use crate::short::Short;
 use std::marker::Model;
 
 /// The language of a file without the spaces behind it: up to 4 of `A` to `Z`, `0` to `9` and `-`. The empty one is the language of four spaces.
-#[derive(Debug, Drop, PartialEq, Eq, PartialOrd, Ord)]
+#[derive(Debug, Drop, PartialEq, Eq, PartialOrd, Ord, Hash)]
 pub struct Lang {
-    characters: ArrayVec<u8, 4>,
+    characters: Short<4>,
 }
 
 impl Model for Lang {
@@ -19,26 +18,11 @@ impl Model for Lang {
 
     ghost Value = { List ℕ };
 
-    ghost view = { λ l. l.characters.items };
+    ghost view = { λ l. l.characters };
 
-    ghost invariant = { λ l. is_lang l.characters.items ≡ true };
+    ghost invariant = { λ l. is_lang l.characters ≡ true };
 
-    ghost inverse = { λ xs. record { characters = record { items = xs } } };
-}
-
-/// All bytes at once: that of an `ArrayVec` goes byte by byte.
-impl Hash for Lang {
-    ghost use Rattle.std.specs.Prelude.{[], ◌∷◌};
-    ghost use Rattle.std.specs.Cmp.Rules.{hashing};
-    ghost use Rattle.std.proofs.Common.{rules};
-
-    ghost hash_input = { λ l. l ∷ [] };
-
-    ghost respects_eq = { Prim.search (hashing, rules) };
-
-    fn hash<H: Hasher>(&self, state: &mut H) {
-        state.write(self.characters.as_slice());
-    }
+    ghost inverse = { λ xs. record { characters = xs } };
 }
 
 impl Lang {
@@ -49,7 +33,7 @@ impl Lang {
     {
         if grammar::is_lang(characters) {
             Some(Lang {
-                characters: grammar::copied(characters),
+                characters: Short::of(characters),
             })
         } else {
             None
@@ -61,14 +45,14 @@ impl Lang {
         ensures { result ≡ [] }
     {
         Lang {
-            characters: ArrayVec::new(),
+            characters: Short::new(),
         }
     }
 
     /// The name of characters that were looked at already.
-    pub(crate) fn from_characters(characters: ArrayVec<u8, 4>) -> Lang
-        requires { is_lang characters.items ≡ true }
-        ensures { result ≡ characters.items }
+    pub(crate) fn from_characters(characters: Short<4>) -> Lang
+        requires { is_lang characters ≡ true }
+        ensures { result ≡ characters }
     {
         Lang { characters }
     }
@@ -86,7 +70,7 @@ impl Lang {
         ensures { result ≡ self.now }
     {
         Lang {
-            characters: grammar::copied(self.characters.as_slice()),
+            characters: self.characters,
         }
     }
 }

@@ -9,8 +9,10 @@ mod local;
 mod parse;
 mod path;
 mod path_reader;
+mod short;
 mod text;
 mod user;
+mod word;
 
 pub use bad_name::BadName;
 pub use full::Full;

@@ -4,43 +4,25 @@ ghost use Rattle.g_name.specs.BadPlace.{IsBadPlace};
 ghost use Rattle.g_name.specs.Grammar.{is_word};
 ghost use Rattle.g_name.specs.Names.{IsLocalText};
 
+use crate::short::Short;
+use crate::word::Word;
 use crate::{BadName, grammar};
-use arrayvec::ArrayVec;
-use std::hash::{Hash, Hasher};
 use std::marker::Model;
 
 /// The name of a file within its user: 1 to 12 of `A` to `Z`, `0` to `9` and `-`, the first a letter. Names are in the order of their bytes.
-#[derive(Debug, Drop, PartialEq, Eq, PartialOrd, Ord)]
+#[derive(Debug, Drop, PartialEq, Eq, PartialOrd, Ord, Hash)]
 pub struct Local {
-    word: ArrayVec<u8, 12>,
+    word: Word,
 }
 
 impl Model for Local {
-    ghost use Rattle.std.specs.Prelude.{◌≡◌, ℕ, List, true};
-    ghost use Rattle.g_name.specs.Grammar.{is_word};
+    ghost use Rattle.std.specs.Prelude.{ℕ, List};
 
     ghost Value = { List ℕ };
 
-    ghost view = { λ l. l.word.items };
+    ghost view = { λ l. l.word };
 
-    ghost invariant = { λ l. is_word l.word.items ≡ true };
-
-    ghost inverse = { λ xs. record { word = record { items = xs } } };
-}
-
-/// All bytes at once: that of an `ArrayVec` goes byte by byte.
-impl Hash for Local {
-    ghost use Rattle.std.specs.Prelude.{[], ◌∷◌};
-    ghost use Rattle.std.specs.Cmp.Rules.{hashing};
-    ghost use Rattle.std.proofs.Common.{rules};
-
-    ghost hash_input = { λ l. l ∷ [] };
-
-    ghost respects_eq = { Prim.search (hashing, rules) };
-
-    fn hash<H: Hasher>(&self, state: &mut H) {
-        state.write(self.word.as_slice());
-    }
+    ghost inverse = { λ xs. record { word = xs } };
 }
 
 impl Local {
@@ -49,13 +31,8 @@ impl Local {
         ensures word { IsSome result ↔ (is_word word.now ≡ true) }
         ensures value { IfSome result (λ l. l ≡ word.now) }
     {
-        if grammar::is_word(word) {
-            Some(Local {
-                word: grammar::copied(word),
-            })
-        } else {
-            None
-        }
+        let word = Word::new(word)?;
+        Some(Local { word })
     }
 
     /// The local name that a text is.
@@ -72,11 +49,13 @@ impl Local {
     }
 
     /// The name of characters that were looked at already.
-    pub(crate) fn from_word(word: ArrayVec<u8, 12>) -> Local
-        requires { is_word word.items ≡ true }
-        ensures { result ≡ word.items }
+    pub(crate) fn from_word(word: Short<16>) -> Local
+        requires { is_word word ≡ true }
+        ensures { result ≡ word }
     {
-        Local { word }
+        Local {
+            word: Word::of(word),
+        }
     }
 
     /// The characters.
@@ -91,8 +70,6 @@ impl Local {
     pub fn copy(&self) -> Local
         ensures { result ≡ self.now }
     {
-        Local {
-            word: grammar::copied(self.word.as_slice()),
-        }
+        Local { word: self.word }
     }
 }

@@ -4,12 +4,31 @@ ghost use Rattle.g_name.specs.BadPlace.{IsBadPlace};
 ghost use Rattle.g_name.specs.Names.{Name, IsName, IsNameText, name_text, path_name};
 
 use crate::path_reader::PathReader;
-use crate::{BadName, Path};
+use crate::{BadName, Local, Path};
 
 /// The path that a text is.
 ///
 /// A text that isn't in the grammar of names is refused with the place where it goes wrong.
 pub fn parse_path(text: &[u8]) -> Result<Path, BadName>
+    ensures ok { IfOk result (λ p. IsName (path_name p) × (text.now ≡ name_text (path_name p))) }
+    ensures err { IfErr result (λ e. IsBadPlace IsNameText text.now e.place) }
+
+    // The text of a name is read as that name.
+    ensures read { (n : Name) → IsName n → text.now ≡ name_text n → IsOkAnd result (λ p. path_name p ≡ n) }
+{
+    match Local::new(text) {
+        Some(local) => Ok(Path {
+            user: None,
+            local,
+            generation: None,
+            lang: None,
+        }),
+        None => read_path(text),
+    }
+}
+
+/// The same, one byte after another.
+fn read_path(text: &[u8]) -> Result<Path, BadName>
     ensures ok { IfOk result (λ p. IsName (path_name p) × (text.now ≡ name_text (path_name p))) }
     ensures err { IfErr result (λ e. IsBadPlace IsNameText text.now e.place) }
 

@@ -23,10 +23,28 @@ impl Path {
         ensures { result ≡ self.now }
     {
         Path {
-            user: self.user.as_ref().map(|user| user.copy()),
+            user: copy_of_user(&self.user),
             local: self.local.copy(),
             generation: self.generation,
-            lang: self.lang.as_ref().map(|lang| lang.copy()),
+            lang: copy_of_lang(&self.lang),
         }
+    }
+}
+
+fn copy_of_user(user: &Option<User>) -> Option<User>
+    ensures { result ≡ user.now }
+{
+    match user {
+        Some(user) => Some(user.copy()),
+        None => None,
+    }
+}
+
+fn copy_of_lang(lang: &Option<Lang>) -> Option<Lang>
+    ensures { result ≡ lang.now }
+{
+    match lang {
+        Some(lang) => Some(lang.copy()),
+        None => None,
     }
 }

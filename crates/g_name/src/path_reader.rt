@@ -8,8 +8,8 @@ ghost use Rattle.g_name.specs.ReadingText.{IsReading};
 ghost use Rattle.g_name.specs.Words.{may_be_word};
 
 use crate::grammar::{extends, is_name_char};
+use crate::short::Short;
 use crate::{Lang, Local, Path, User};
-use arrayvec::ArrayVec;
 
 /// Where in the text of a path a reader stands.
 #[derive(Clone, Copy, Debug, PartialEq, Eq)]
@@ -32,10 +32,10 @@ enum Part {
 #[derive(Debug, Drop)]
 pub struct PathReader {
     part: Part,
-    user: ArrayVec<u8, 12>,
-    local: ArrayVec<u8, 12>,
+    user: Short<16>,
+    local: Short<16>,
     generation: u16,
-    lang: ArrayVec<u8, 4>,
+    lang: Short<4>,
 }
 
 impl PathReader {
@@ -45,10 +45,10 @@ impl PathReader {
     {
         PathReader {
             part: Part::Local,
-            user: ArrayVec::new(),
-            local: ArrayVec::new(),
+            user: Short::new(),
+            local: Short::new(),
             generation: 0,
-            lang: ArrayVec::new(),
+            lang: Short::new(),
         }
     }
 
@@ -149,11 +149,11 @@ impl PathReader {
     /// The path of the parts that were read.
     fn named(self, has_lang: bool) -> Path
         requires parts { IsReading self }
-        requires local { is_word self.local.items ≡ true }
-        ensures user { result.user ≡ reading.user_read self.user.items }
-        ensures local { result.local ≡ self.local.items }
+        requires local { is_word self.local ≡ true }
+        ensures user { result.user ≡ reading.user_read self.user }
+        ensures local { result.local ≡ self.local }
         ensures generation { result.generation ≡ reading.generation_read self.generation }
-        ensures lang { result.lang ≡ (if has_lang then Some self.lang.items else None) }
+        ensures lang { result.lang ≡ (if has_lang then Some self.lang else None) }
     {
         let lang = Lang::from_characters(self.lang);
         Path {
@@ -166,9 +166,9 @@ impl PathReader {
 }
 
 /// The user of what was read behind the colon, if there was one.
-fn user_of(word: ArrayVec<u8, 12>) -> Option<User>
-    requires { may_be_word word.items ≡ true }
-    ensures { result ≡ reading.user_read word.items }
+fn user_of(word: Short<16>) -> Option<User>
+    requires { may_be_word word ≡ true }
+    ensures { result ≡ reading.user_read word }
 {
     if word.is_empty() {
         None

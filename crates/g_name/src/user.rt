@@ -4,43 +4,25 @@ ghost use Rattle.g_name.specs.BadPlace.{IsBadPlace};
 ghost use Rattle.g_name.specs.Grammar.{is_word, is_user_text};
 ghost use Rattle.g_name.specs.Names.{IsUserText};
 
+use crate::short::Short;
+use crate::word::Word;
 use crate::{BadName, grammar};
-use arrayvec::ArrayVec;
-use std::hash::{Hash, Hasher};
 use std::marker::Model;
 
 /// The name of a user without its colon: 1 to 12 of `A` to `Z`, `0` to `9` and `-`, the first a letter. Names are in the order of their bytes.
-#[derive(Debug, Drop, PartialEq, Eq, PartialOrd, Ord)]
+#[derive(Debug, Drop, PartialEq, Eq, PartialOrd, Ord, Hash)]
 pub struct User {
-    word: ArrayVec<u8, 12>,
+    word: Word,
 }
 
 impl Model for User {
-    ghost use Rattle.std.specs.Prelude.{◌≡◌, ℕ, List, true};
-    ghost use Rattle.g_name.specs.Grammar.{is_word};
+    ghost use Rattle.std.specs.Prelude.{ℕ, List};
 
     ghost Value = { List ℕ };
 
-    ghost view = { λ u. u.word.items };
+    ghost view = { λ u. u.word };
 
-    ghost invariant = { λ u. is_word u.word.items ≡ true };
-
-    ghost inverse = { λ xs. record { word = record { items = xs } } };
-}
-
-/// All bytes at once: that of an `ArrayVec` goes byte by byte.
-impl Hash for User {
-    ghost use Rattle.std.specs.Prelude.{[], ◌∷◌};
-    ghost use Rattle.std.specs.Cmp.Rules.{hashing};
-    ghost use Rattle.std.proofs.Common.{rules};
-
-    ghost hash_input = { λ u. u ∷ [] };
-
-    ghost respects_eq = { Prim.search (hashing, rules) };
-
-    fn hash<H: Hasher>(&self, state: &mut H) {
-        state.write(self.word.as_slice());
-    }
+    ghost inverse = { λ xs. record { word = xs } };
 }
 
 impl User {
@@ -49,13 +31,8 @@ impl User {
         ensures word { IsSome result ↔ (is_word word.now ≡ true) }
         ensures value { IfSome result (λ u. u ≡ word.now) }
     {
-        if grammar::is_word(word) {
-            Some(User {
-                word: grammar::copied(word),
-            })
-        } else {
-            None
-        }
+        let word = Word::new(word)?;
+        Some(User { word })
     }
 
     /// The user that a text with a colon is.
@@ -82,7 +59,7 @@ impl User {
         ensures { result ≡ codes "MASTER" }
     {
         User {
-            word: grammar::copied(b"MASTER"),
+            word: Word::of(Short::of(b"MASTER")),
         }
     }
 
@@ -91,16 +68,18 @@ impl User {
         ensures { result ≡ codes "MACROS" }
     {
         User {
-            word: grammar::copied(b"MACROS"),
+            word: Word::of(Short::of(b"MACROS")),
         }
     }
 
     /// The name of characters that were looked at already.
-    pub(crate) fn from_word(word: ArrayVec<u8, 12>) -> User
-        requires { is_word word.items ≡ true }
-        ensures { result ≡ word.items }
+    pub(crate) fn from_word(word: Short<16>) -> User
+        requires { is_word word ≡ true }
+        ensures { result ≡ word }
     {
-        User { word }
+        User {
+            word: Word::of(word),
+        }
     }
 
     /// The characters.
@@ -115,8 +94,6 @@ impl User {
     pub fn copy(&self) -> User
         ensures { result ≡ self.now }
     {
-        User {
-            word: grammar::copied(self.word.as_slice()),
-        }
+        User { word: self.word }
     }
 }

@@ -2,13 +2,16 @@
 use Rattle.std.proofs.Common.{◌≡◌, Bool, true, false, cond, not, ◌++◌, List, [], ◌∷◌, ℕ, Option, Some, None, Result, Ok, Err, is_some, refl, sym, ap, ◌∙◌, true≢false}
 use Rattle.std.specs.List.{AllByRecursion}
 use Rattle.g_name.specs.declared.full.Full.{Full}
+use Rattle.g_plain.specs.declared.names.NamedFile.{NamedFile}
+use Rattle.g_plain.specs.declared.refusals.CallName.{CallName}
+use Rattle.g_plain.specs.declared.refusals.CallName.TheVariants as name
 use Rattle.g_plain.specs.declared.refusals.GrantedName.{GrantedName}
 use Rattle.g_plain.specs.declared.calls.StoreCall.{StoreCall}
 use Rattle.g_plain.specs.declared.faults.StoreFault.{StoreFault}
 use Rattle.g_plain.specs.declared.faults.StoreFault.TheVariants.{NoUser}
 use Rattle.g_plain.specs.PlainTree.{Tree, has_user}
-use Rattle.g_plain.specs.PlainStep.{Checks, first_fault, checks, fault_of}
-use Rattle.g_plain.specs.Grants.{fault_or, granted_by, granted_of, name_granted, name_in}
+use Rattle.g_plain.specs.PlainStep.{Checks, first_fault, checks, fault_in, fault_of}
+use Rattle.g_plain.specs.Grants.{fault_or, file_named, granted_by, granted_of, name_granted, name_in}
 use Rattle.g_plain.proofs.StepKept.{all_passed}
 
 front_some : (a b : Checks) → is_some (first_fault a) ≡ true → first_fault a ≡ first_fault (a ++ b)
@@ -86,3 +89,22 @@ front_refused a b v w f e =
 -- and what they grant goes by those behind them
 pub rest_granted : {A B : Type 0} (a b : Checks) (v x : A) (w : B) → Ok x ≡ granted_by a v → granted_by b w ≡ granted_by (a ++ b) w
 rest_granted a b v x w e = ap (λ o. fault_or o w) (sym (front_none a b (ap is_some (none_is (first_fault a) v x e))))
+
+-- a name for input is one alone
+pub same_input : (a b : Full) → name.Input a ≡ name.Input b → a ≡ b
+same_input a b e = cc
+
+-- what a call is granted that has no fault, where its file is known
+module _ (numbers : Full → Option ℕ) (t : Tree) (who : List ℕ) (call : StoreCall) (file : NamedFile) (named : Full) (is : file ≡ file_named numbers named) (fault : None ≡ fault_in t who call) where
+  known_fault : (name : CallName) → Ok (name_granted numbers name) ≡ granted_by (checks t who call) (name_granted numbers name)
+  known_fault name = ap (λ o. fault_or o (name_granted numbers name)) fault
+
+  pub input_granted : name.Input named ≡ name_in t who call → Ok (record { name = name.Input file.full; number = file.number }) ≡ granted_by (checks t who call) (name_granted numbers (name_in t who call))
+  input_granted there =
+      (λ i. let it : GrantedName = record { name = name.Input (is i).full; number = (is i).number } in Ok it)
+      ∙ ap (λ n. Ok (name_granted numbers n)) there ∙ known_fault (name_in t who call)
+
+  pub output_granted : name.Output named ≡ name_in t who call → Ok (record { name = name.Output file.full; number = file.number }) ≡ granted_by (checks t who call) (name_granted numbers (name_in t who call))
+  output_granted there =
+      (λ i. let it : GrantedName = record { name = name.Output (is i).full; number = (is i).number } in Ok it)
+      ∙ ap (λ n. Ok (name_granted numbers n)) there ∙ known_fault (name_in t who call)

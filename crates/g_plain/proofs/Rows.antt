@@ -1,4 +1,4 @@
--- Rows of files that are found, written back and moved to another name.
+-- Rows that are found, written back and moved to another name.
 use Rattle.std.proofs.Common.{◌≡◌, ℕ, Bool, true, false, cond, List, Option, Some, None, IsSome, is_some, unwrap_or, refl, sym, ap, subst, ◌∙◌, Result, Ok, Err, OnOk, OnErr, true≢false}
 use Rattle.std.specs.Map.{lookup}
 use Rattle.std.specs.Ordering.{eq_by_cmp, is_eq}
@@ -8,9 +8,9 @@ use Rattle.std.specs.Cmp.{eq_by_cmp_equiv}
 use Rattle.std.specs.BTreeMap.{is_at}
 use Rattle.std.specs.FinMap.{FinMap, get, insert, remove, from_entries, same_map, get-insert, get-remove}
 use Rattle.g_name.specs.declared.full.Full.{Full}
-use Rattle.g_name.specs.Order.{full_cmp}
+use Rattle.g_name.specs.Order.{full_cmp, text_cmp}
 use Rattle.g_name.proofs.Order.{full_total}
-use Rattle.g_plain.specs.PlainTree.{FileRow, no_row, with_modes}
+use Rattle.g_plain.specs.PlainTree.{FileRow, Tree, UserRow, no_row, with_modes}
 use Rattle.g_plain.proofs.Maps.{get-made, made_insert}
 use Rattle.g_plain.proofs.TextMaps.{full_exact}
 
@@ -98,3 +98,9 @@ renewed bytes stamp row = record row { bytes = bytes; stamp = stamp }
 
 abbrev pub with_row_modes : Full → List ℕ → ℕ → FileRow → FileRow
 with_row_modes full user modes row = record row { traps = with_modes full user modes row.traps }
+
+abbrev pub with_row_traps : FinMap text_cmp ℕ → FileRow → FileRow
+with_row_traps traps row = record row { traps = traps }
+
+abbrev pub with_users : FinMap text_cmp UserRow → Tree → Tree
+with_users users t = record t { users = users }

@@ -4,102 +4,17 @@ ghost use Rattle.std.specs.Prelude.{length, fold, max, sum_by, None, Some, unwra
 ghost use Rattle.std.specs.Option.{option_copied};
 ghost use Rattle.std.specs.FinMap as finmap;
 ghost use Rattle.std.specs.BTreeMap.{IsOrdered};
-ghost use Rattle.g_base.specs.Block.{blocks_for};
 ghost use Rattle.g_name.specs.Order.{full_cmp, same_text};
 ghost use Rattle.g_plain.specs.PlainTree.{no_row, blocks_of, generations, lengths, with_modes};
 
 use crate::Listing;
-use crate::trap_map::TrapMap;
-use g_base::{NoMemory, blocks_for};
+use crate::file_entry::FileEntry;
+use g_base::NoMemory;
 use g_name::{Full, Text, User};
 use g_trap::Modes;
 use std::alloc::Global;
 use std::collections::BTreeMap;
 use std::marker::Model;
-
-/// A file's traps, its bytes, at most 65,536, and the stamp of its version. Contracts see a row of
-/// the tree.
-#[derive(Debug, Drop)]
-pub(crate) struct FileEntry {
-    traps: TrapMap,
-    bytes: Text,
-    stamp: u64,
-}
-
-impl Model for FileEntry {
-    ghost use Rattle.std.specs.Prelude.{◌≤◌, length};
-    ghost use Rattle.g_plain.specs.PlainTree.{FileRow};
-    ghost use Rattle.g_plain.specs.Codes.{file_row_code};
-
-    ghost Value = { FileRow };
-
-    ghost coded = { file_row_code };
-
-    ghost view = { λ f. record { traps = f.traps; bytes = f.bytes; stamp = f.stamp } };
-
-    ghost invariant = { λ f. length f.bytes ≤ 65536 };
-}
-
-impl FileEntry {
-    pub fn new(traps: TrapMap, bytes: Text, stamp: u64) -> FileEntry
-        requires { length bytes ≤ 65536 }
-        ensures { result ≡ record { traps = traps; bytes = bytes; stamp = stamp } }
-    {
-        FileEntry {
-            traps,
-            bytes,
-            stamp,
-        }
-    }
-
-    pub fn traps(&self) -> &TrapMap
-        ensures { result.now ≡ self.now.traps }
-    {
-        &self.traps
-    }
-
-    pub fn bytes(&self) -> &[u8]
-        ensures value { result.now ≡ self.now.bytes }
-        ensures few { length result.now ≤ 65536 }
-    {
-        self.bytes.as_slice()
-    }
-
-    /// The length in bytes, at most 65,536.
-    pub fn len(&self) -> u32
-        ensures value { result ≡ length self.now.bytes }
-        ensures few { result ≤ 65536 }
-    {
-        self.bytes.as_slice().len() as u32
-    }
-
-    /// The blocks of 512 bytes that the bytes take, at most 128.
-    pub fn blocks(&self) -> u32
-        ensures value { result ≡ blocks_for (length self.now.bytes) }
-        ensures few { result ≤ 128 }
-    {
-        blocks_for(self.len())
-    }
-
-    /// Other bytes, as the version of this stamp.
-    pub fn renew(&mut self, bytes: Text, stamp: u64)
-        requires { length bytes ≤ 65536 }
-        ensures { self.new ≡ record self.old { bytes = bytes; stamp = stamp } }
-    {
-        self.bytes = bytes;
-        self.stamp = stamp;
-    }
-
-    /// The user gets exactly these modes; without memory all stays as it was.
-    pub fn set_traps(&mut self, full: &Full, user: &User, modes: Modes) -> Result<(), NoMemory>
-        ensures ok { OnOk result
-            (let traps = with_modes full.now user.now modes self.old.traps in
-            self.new ≡ record self.old { traps = traps }) }
-        ensures err { OnErr result (self.new ≡ self.old) }
-    {
-        self.traps.set(full, user, modes)
-    }
-}
 
 /// A map from full names to rows.
 #[derive(Debug, Drop)]
@@ -200,7 +115,7 @@ impl FileMap {
             OnOk result (self.new ≡ finmap.insert (finmap.remove self.old full.now) to row) }
         ensures err { OnErr result (self.new ≡ self.old) }
     {
-        let place = FileEntry::new(TrapMap::new(alloc), Text::new(alloc), 0);
+        let place = FileEntry::new(alloc, Text::new(alloc), 0);
         self.insert(to.copy(), place)?;
         let entry = self.take(full);
         self.replace(to, entry);

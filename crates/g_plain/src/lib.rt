@@ -5,6 +5,7 @@
 
 mod calls;
 mod faults;
+mod file_entry;
 mod file_map;
 mod filestore;
 mod laws;
@@ -15,8 +16,7 @@ mod plain_tree;
 mod questions;
 mod refusals;
 mod runs;
-mod trap_map;
-mod user_map;
+mod user_entry;
 
 pub use calls::{BudgetKind, Listing, StoreCall, StoreReply};
 pub use faults::StoreFault;

@@ -7,7 +7,7 @@ ghost use Rattle.g_plain.specs.Rules.{IsTree, IsWithinLimits, most_of};
 
 use crate::names::with_local;
 use crate::plain_tree::PlainTree;
-use crate::user_map::UserEntry;
+use crate::user_entry::UserEntry;
 use crate::{BudgetKind, StoreCall, StoreReply};
 use g_base::NoMemory;
 use g_name::{Local, Path, Text, User};

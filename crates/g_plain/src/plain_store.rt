@@ -1,6 +1,9 @@
 //! A store in memory that is the plain tree and nothing else.
-ghost use Rattle.std.specs.Prelude.{◌≡◌, IfOk, IsOk};
-ghost use Rattle.g_plain.specs.PlainTree.{formatted};
+ghost use Rattle.std.specs.Prelude.{◌≡◌, IfOk, IsOk, is_some};
+ghost use Rattle.std.specs.Option.{option_map};
+ghost use Rattle.std.specs.FinMap.{get};
+ghost use Rattle.g_plain.specs.Grants.{file_named};
+ghost use Rattle.g_plain.specs.PlainTree.{formatted, has_file};
 
 use crate::names::call_is_named;
 use crate::plain_tree::PlainTree;
@@ -43,6 +46,19 @@ impl PlainStore {
         let tree = PlainTree::formatted(alloc)?;
         Ok(PlainStore { tree })
     }
+
+    /// The file of a full name. It is known by its name here: its number tells that it is there.
+    fn find(&self, full: Full) -> NamedFile
+        ensures named { result ≡ file_named (λ f. option_map (λ row. 0) (get self.now.files f)) full }
+        ensures there { is_some result.number ≡ has_file self.now full }
+    {
+        let number = if self.tree.has_file(&full) {
+            Some(0)
+        } else {
+            None
+        };
+        NamedFile { full, number }
+    }
 }
 
 impl Questions for PlainStore {
@@ -51,7 +67,7 @@ impl Questions for PlainStore {
 
     ghost tree = { λ s. s };
 
-    // A file is known by its name here: its number tells that it is there.
+    // That it is there.
     ghost numbers = { λ s full. option_map (λ row. 0) (get s.files full) };
 
     fn has_user(&self, user: &User) -> bool {
@@ -74,25 +90,12 @@ impl Questions for PlainStore {
         self.tree.files()
     }
 
-    fn newest(&self, who: &User, path: &Path) -> u16 {
-        self.tree.newest(who, path)
+    fn input(&self, who: &User, path: &Path) -> NamedFile {
+        self.find(self.tree.input_name(who, path))
     }
 
-    fn input_name(&self, who: &User, path: &Path) -> Full {
-        self.tree.input_name(who, path)
-    }
-
-    fn output_name(&self, who: &User, path: &Path) -> Full {
-        self.tree.output_name(who, path)
-    }
-
-    fn find(&self, full: Full) -> NamedFile {
-        let number = if self.tree.has_file(&full) {
-            Some(0)
-        } else {
-            None
-        };
-        NamedFile { full, number }
+    fn output(&self, who: &User, path: &Path) -> NamedFile {
+        self.find(self.tree.output_name(who, path))
     }
 
     fn len_of(&self, file: &NamedFile) -> u32 {

@@ -1,32 +1,35 @@
 //! The plain directory tree in memory, and the calls on it.
 ghost use Rattle.std.specs.Prelude.{◌≡◌, ◌≤◌, ◌^◌, ◌<◌, ◌++◌, ◌&&◌, ◌==◌, true, false, not};
 ghost use Rattle.std.specs.Prelude.{OnOk, OnErr, IfOk, is_none, length, unwrap_or, nat_le, codes};
+ghost use Rattle.std.specs.Option.{option_copied};
 ghost use Rattle.std.specs.FinMap as finmap;
 ghost use Rattle.g_name.specs.Order.{same_text};
 ghost use Rattle.g_plain.specs.PlainTree as tree;
 ghost use Rattle.g_plain.specs.PlainStep as step;
 ghost use Rattle.g_plain.specs.Rules.{IsTree, most_of};
 
-use crate::file_map::{FileEntry, FileMap};
+use crate::file_entry::FileEntry;
+use crate::file_map::FileMap;
 use crate::names::named;
-use crate::trap_map::TrapMap;
-use crate::user_map::{UserEntry, UserMap};
+use crate::user_entry::UserEntry;
 use crate::{BudgetKind, Listing};
 use g_base::{NoMemory, blocks_for};
 use g_name::{Full, Path, Text, User};
 use g_trap::{Mode, Modes};
 use std::alloc::Global;
+use std::collections::BTreeMap;
 use std::marker::Model;
 
 /// Users, files and the next stamp. Contracts see a tree, of whose rules the calls make use.
 #[derive(Debug, Drop)]
 pub(crate) struct PlainTree {
-    users: UserMap,
+    users: BTreeMap<User, UserEntry>,
     files: FileMap,
     next: u64,
 }
 
 impl Model for PlainTree {
+    ghost use Rattle.std.specs.FinMap.{from_entries};
     ghost use Rattle.g_plain.specs.PlainTree.{Tree};
     ghost use Rattle.g_plain.specs.Codes.{tree_code};
 
@@ -34,7 +37,8 @@ impl Model for PlainTree {
 
     ghost coded = { tree_code };
 
-    ghost view = { λ t. record { users = t.users; files = t.files; next = t.next } };
+    ghost view = { λ t.
+        record { users = from_entries t.users.entries; files = t.files; next = t.next } };
 }
 
 impl PlainTree {
@@ -42,20 +46,33 @@ impl PlainTree {
     pub fn formatted(alloc: Global) -> Result<PlainTree, NoMemory>
         ensures { IfOk result (λ t. t ≡ tree.formatted) }
     {
-        let mut users = UserMap::new(alloc);
-        users.insert(User::master(), first_entry())?;
-        users.insert(User::macros(), first_entry())?;
-        Ok(PlainTree {
-            users,
+        let mut first = PlainTree::empty(alloc);
+        first.add_user(User::master(), first_entry())?;
+        first.add_user(User::macros(), first_entry())?;
+        Ok(first)
+    }
+
+    /// A tree without users and files, which takes no memory yet.
+    fn empty(alloc: Global) -> PlainTree
+        ensures { result ≡ record { users = finmap.empty; files = finmap.empty; next = 1 } }
+    {
+        PlainTree {
+            users: BTreeMap::new(alloc),
             files: FileMap::new(alloc),
             next: 1,
-        })
+        }
     }
 
     pub fn has_user(&self, user: &User) -> bool
         ensures { result ≡ tree.has_user self.now user.now }
     {
-        self.users.has(user)
+        self.users.contains_key(user)
+    }
+
+    fn user(&self, user: &User) -> Option<&UserEntry>
+        ensures { option_copied result ≡ finmap.get self.now.users user.now }
+    {
+        self.users.get(user)
     }
 
     /// Whether the caller set the budgets of this user.
@@ -63,7 +80,7 @@ impl PlainTree {
         requires { tree.has_user self.now user.now ≡ true }
         ensures { result ≡ same_text (tree.user_row self.now user.now).superior who.now }
     {
-        match self.users.get(user) {
+        match self.user(user) {
             Some(entry) => entry.superior == *who,
             None => unreachable!(),
         }
@@ -73,7 +90,7 @@ impl PlainTree {
         requires { tree.has_user self.now user.now ≡ true }
         ensures { result ≡ (tree.user_row self.now user.now).space }
     {
-        match self.users.get(user) {
+        match self.user(user) {
             Some(entry) => entry.space,
             None => unreachable!(),
         }
@@ -117,7 +134,7 @@ impl PlainTree {
             result ≡ unwrap_or (finmap.get traps user.now) 0 }
     {
         match self.files.get(full) {
-            Some(file) => file.traps().get(user),
+            Some(file) => file.given(user),
             None => unreachable!(),
         }
     }
@@ -130,10 +147,7 @@ impl PlainTree {
             && nat_le 9 (finmap.len traps)) }
     {
         match self.files.get(full) {
-            Some(file) => {
-                let traps = file.traps();
-                !modes.is_empty() && !traps.has(user) && traps.len() >= 9
-            }
+            Some(file) => !modes.is_empty() && !file.is_trapped(user) && file.trapped() >= 9,
             None => unreachable!(),
         }
     }
@@ -223,7 +237,8 @@ impl PlainTree {
             (self.new ≡ record self.old { users = finmap.insert self.old.users user entry }) }
         ensures err { OnErr result (self.new ≡ self.old) }
     {
-        self.users.insert(user, entry)
+        self.users.insert(user, entry)?;
+        Ok(())
     }
 
     /// Sets one budget of a user who is there.
@@ -233,7 +248,10 @@ impl PlainTree {
         ensures { let row = step.with_budget (tree.user_row self.old user.now) kind amount in
             self.new ≡ record self.old { users = finmap.insert self.old.users user.now row } }
     {
-        self.users.set_budget(user, kind, amount)
+        match self.users.get_mut(user) {
+            Some(entry) => entry.set(kind, amount),
+            None => unreachable!(),
+        }
     }
 
     /// A new version of a file, or a new file; without memory the tree stays as it was.
@@ -246,10 +264,9 @@ impl PlainTree {
         if self.files.has(&full) {
             self.files.renew(&full, bytes, self.next);
         } else {
-            let mut traps = TrapMap::new(alloc);
-            traps.insert(full.user.copy(), Modes::all())?;
-            self.files
-                .insert(full, FileEntry::new(traps, bytes, self.next))?;
+            let mut file = FileEntry::new(alloc, bytes, self.next);
+            file.give(full.user.copy(), Modes::all())?;
+            self.files.insert(full, file)?;
         }
         self.next += 1;
         Ok(())

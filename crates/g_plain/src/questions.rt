@@ -43,24 +43,18 @@ pub trait Questions {
     fn files(&self) -> usize
         ensures { result ≡ len (tree self.now).files };
 
-    /// The greatest generation there is of what a path names, or 0.
-    fn newest(&self, who: &User, path: &Path) -> u16
-        ensures newest { result ≡ plain.newest (tree self.now) who.now path.now }
-        ensures few { result ≤ 4095 };
+    /// The file that a path names for input, with its number, by which all is asked about it: so its name
+    /// is looked for once.
+    fn input(&self, who: &User, path: &Path) -> NamedFile
+        ensures named { result
+            ≡ file_named (numbers self.now) (plain.input_name (tree self.now) who.now path.now) }
+        ensures there { is_some result.number ≡ plain.has_file (tree self.now) result.full };
 
-    /// The file that a path names for input.
-    fn input_name(&self, who: &User, path: &Path) -> Full
-        ensures { result ≡ plain.input_name (tree self.now) who.now path.now };
-
-    /// The file that a path names for output.
-    fn output_name(&self, who: &User, path: &Path) -> Full
-        ensures { result ≡ plain.output_name (tree self.now) who.now path.now };
-
-    /// The file of a full name with its number, which all that is asked about the file goes by. So the
-    /// name is looked for once.
-    fn find(&self, full: Full) -> NamedFile
-        ensures named { result ≡ file_named (numbers self.now) full }
-        ensures there { is_some result.number ≡ plain.has_file (tree self.now) full };
+    /// The file that a path names for output, with its number.
+    fn output(&self, who: &User, path: &Path) -> NamedFile
+        ensures named { result
+            ≡ file_named (numbers self.now) (plain.output_name (tree self.now) who.now path.now) }
+        ensures there { is_some result.number ≡ plain.has_file (tree self.now) result.full };
 
     /// The length of a file in bytes.
     fn len_of(&self, file: &NamedFile) -> u32

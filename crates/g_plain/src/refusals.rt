@@ -1,11 +1,12 @@
 //! Why a call is refused: the tests of each call, in the order in which its faults come. The name that
 //! its path gives is looked up once, and handed on.
-ghost use Rattle.std.specs.Prelude.{◌≡◌, ℕ, List, [], ◌∷◌, None, Some, is_some, true};
+ghost use Rattle.std.specs.Prelude.{◌≡◌, ℕ, List, [], ◌∷◌, None, is_some, true};
 ghost use Rattle.g_plain.specs.declared.calls.BudgetKind.{BudgetKind};
+ghost use Rattle.g_name.specs.Order.{same_text};
 ghost use Rattle.g_plain.specs.PlainTree as plain;
-ghost use Rattle.g_plain.specs.PlainStep.{Checks, checks, first_fault, fault_in, fault_of};
+ghost use Rattle.g_plain.specs.PlainStep.{checks, first_fault, fault_in, fault_of};
 ghost use Rattle.g_plain.specs.PlainStep.{input_checks, size_checks, spent_check};
-ghost use Rattle.g_plain.specs.Grants.{fault_or, file_named, granted_by, granted_of};
+ghost use Rattle.g_plain.specs.Grants.{fault_or, granted_by, granted_of, name_granted, name_in};
 
 use crate::names::with_local;
 use crate::{NamedFile, Questions, StoreCall, StoreFault};
@@ -58,17 +59,15 @@ pub fn granted_name<Q: Questions>(
         StoreCall::NewUser { user, .. } => nameless(new_user(questions, user)),
         StoreCall::Budget { user, .. } => nameless(budget(questions, who, user)),
         StoreCall::List { user } => nameless(list(questions, who, user)),
-        StoreCall::Put { path, bytes } => output(put(questions, who, path, bytes)),
-        StoreCall::Append { path, bytes } => input(append(questions, who, path, bytes)),
-        StoreCall::Fetch { path, mode } => input(open_to(questions, who, path, *mode)),
-        StoreCall::Erase { path } => input(open_to(questions, who, path, Mode::Erase)),
-        StoreCall::Rename { path, to } => input(rename(questions, who, path, to)),
-        StoreCall::TrapGo { path, user, modes } => {
-            input(trap_go(questions, who, path, user, *modes))
-        }
-        StoreCall::TrapStop { path, user, .. } => input(trap_stop(questions, who, path, user)),
-        StoreCall::TrapCheck { path, user } => input(trap_check(questions, who, path, user)),
-        StoreCall::Retrieve { path } => input(open_to(questions, who, path, Mode::Read)),
+        StoreCall::Put { path, bytes } => output(questions, who, path, bytes),
+        StoreCall::Append { path, .. } => input(questions, who, path, call),
+        StoreCall::Fetch { path, .. } => input(questions, who, path, call),
+        StoreCall::Erase { path } => input(questions, who, path, call),
+        StoreCall::Rename { path, .. } => input(questions, who, path, call),
+        StoreCall::TrapGo { path, .. } => input(questions, who, path, call),
+        StoreCall::TrapStop { path, .. } => input(questions, who, path, call),
+        StoreCall::TrapCheck { path, .. } => input(questions, who, path, call),
+        StoreCall::Retrieve { path } => input(questions, who, path, call),
     }
 }
 
@@ -85,31 +84,79 @@ fn nameless(fault: Option<StoreFault>) -> Result<GrantedName, StoreFault>
     }
 }
 
-/// What is granted to a call that names a file for input.
-fn input(named: Result<NamedFile, StoreFault>) -> Result<GrantedName, StoreFault>
-    ensures { (checks : Checks) (file : NamedFile) → named ≡ granted_by checks file
-        → result ≡ granted_by checks (record { name = CallName.Input file.full; number = file.number }) }
+/// What is granted to a call that names a file for input by this path. The file stays where it is until
+/// all is asked about it.
+fn input<Q: Questions>(
+    questions: &Q,
+    who: &User,
+    path: &Path,
+    call: &StoreCall,
+) -> Result<GrantedName, StoreFault>
+    requires caller { plain.has_user (Q.tree questions.now) who.now ≡ true }
+    requires path { let t = Q.tree questions.now in
+        CallName.Input (plain.input_name t who.now path.now) ≡ name_in t who.now call.now }
+    ensures { let t = Q.tree questions.now in
+        result ≡ granted_by (checks t who.now call.now)
+        (name_granted (Q.numbers questions.now) (name_in t who.now call.now)) }
 {
-    match named {
-        Ok(NamedFile { full, number }) => Ok(GrantedName {
-            name: CallName::Input(full),
-            number,
+    let file = questions.input(who, path);
+    match input_fault(questions, who, call, &file) {
+        Some(fault) => Err(fault),
+        None => Ok(GrantedName {
+            name: CallName::Input(file.full),
+            number: file.number,
         }),
-        Err(fault) => Err(fault),
     }
 }
 
-/// What is granted to a call that names a file for output.
-fn output(named: Result<NamedFile, StoreFault>) -> Result<GrantedName, StoreFault>
-    ensures { (checks : Checks) (file : NamedFile) → named ≡ granted_by checks file
-        → result ≡ granted_by checks (record { name = CallName.Output file.full; number = file.number }) }
+/// What is granted to a `Put`.
+fn output<Q: Questions>(
+    questions: &Q,
+    who: &User,
+    path: &Path,
+    bytes: &Text,
+) -> Result<GrantedName, StoreFault>
+    requires { plain.has_user (Q.tree questions.now) who.now ≡ true }
+    ensures { let t = Q.tree questions.now in
+        let call = StoreCall.Put path.now bytes.now in
+        result ≡ granted_by (checks t who.now call)
+        (name_granted (Q.numbers questions.now) (name_in t who.now call)) }
 {
-    match named {
-        Ok(NamedFile { full, number }) => Ok(GrantedName {
-            name: CallName::Output(full),
-            number,
+    let file = questions.output(who, path);
+    match put_fault(questions, who, path, bytes, &file) {
+        Some(fault) => Err(fault),
+        None => Ok(GrantedName {
+            name: CallName::Output(file.full),
+            number: file.number,
         }),
-        Err(fault) => Err(fault),
+    }
+}
+
+/// The fault of a call that names this file for input.
+fn input_fault<Q: Questions>(
+    questions: &Q,
+    who: &User,
+    call: &StoreCall,
+    file: &NamedFile,
+) -> Option<StoreFault>
+    requires caller { plain.has_user (Q.tree questions.now) who.now ≡ true }
+    requires named { CallName.Input file.now.full ≡ name_in (Q.tree questions.now) who.now call.now }
+    requires numbered { file.now.number ≡ Q.numbers questions.now file.now.full }
+    requires there { is_some file.now.number ≡ plain.has_file (Q.tree questions.now) file.now.full }
+    ensures { result ≡ fault_in (Q.tree questions.now) who.now call.now }
+{
+    match call {
+        StoreCall::Append { path, bytes } => append(questions, who, path, bytes, file),
+        StoreCall::Fetch { path, mode } => closed_to(questions, who, path, *mode, file),
+        StoreCall::Erase { path } => closed_to(questions, who, path, Mode::Erase, file),
+        StoreCall::Rename { path, to } => rename(questions, who, path, to, file),
+        StoreCall::TrapGo { path, user, modes } => {
+            trap_go(questions, who, path, user, *modes, file)
+        }
+        StoreCall::TrapStop { path, user, .. } => trap_stop(questions, who, path, user, file),
+        StoreCall::TrapCheck { path, user } => trap_check(questions, who, path, user, file),
+        StoreCall::Retrieve { path } => closed_to(questions, who, path, Mode::Read, file),
+        _ => unreachable!(),
     }
 }
 
@@ -156,27 +203,9 @@ fn list<Q: Questions>(questions: &Q, who: &User, user: &User) -> Option<StoreFau
     }
 }
 
-/// The owner has to be there, and a generation to be left; the file has to be open to the caller, or
-/// new and the caller's own; the bytes have to be few enough, and a file and a stamp to be left.
-fn put<Q: Questions>(
-    questions: &Q,
-    who: &User,
-    path: &Path,
-    bytes: &Text,
-) -> Result<NamedFile, StoreFault>
-    requires { plain.has_user (Q.tree questions.now) who.now ≡ true }
-    ensures { let t = Q.tree questions.now in
-        result ≡ granted_by (checks t who.now (StoreCall.Put path.now bytes.now))
-        (file_named (Q.numbers questions.now) (plain.output_name t who.now path.now)) }
-{
-    let file = questions.find(questions.output_name(who, path));
-    match put_fault(questions, who, path, bytes, &file) {
-        Some(fault) => Err(fault),
-        None => Ok(file),
-    }
-}
-
-/// The fault of a `Put` whose path gives this name for output.
+/// The fault of a `Put` whose path gives this name for output: the owner has to be there, and a generation
+/// to be left; the file has to be open to the caller, or new and the caller's own; the bytes have to be
+/// few enough, and a file and a stamp to be left.
 fn put_fault<Q: Questions>(
     questions: &Q,
     who: &User,
@@ -190,7 +219,7 @@ fn put_fault<Q: Questions>(
     requires there { is_some file.now.number ≡ plain.has_file (Q.tree questions.now) file.now.full }
     ensures { result ≡ fault_in (Q.tree questions.now) who.now (StoreCall.Put path.now bytes.now) }
 {
-    if !has_owner(questions, who, &file.full) {
+    if !has_owner(questions, who, path, &file.full) {
         return Some(StoreFault::NoUser);
     }
     // Without a generation the path gives the one behind the greatest.
@@ -201,7 +230,7 @@ fn put_fault<Q: Questions>(
     if there && !questions.modes_of(file, who).contains(Mode::Write) {
         return Some(StoreFault::Trapped(Mode::Write));
     }
-    if !there && *who != file.full.user {
+    if !there && !is_own(who, path, &file.full) {
         return Some(StoreFault::NotOwner);
     }
     let over = over_size(questions, file, bytes.as_slice().len() as u64);
@@ -220,24 +249,25 @@ fn append<Q: Questions>(
     who: &User,
     path: &Path,
     bytes: &Text,
-) -> Result<NamedFile, StoreFault>
-    requires { plain.has_user (Q.tree questions.now) who.now ≡ true }
-    ensures { let t = Q.tree questions.now in
-        result ≡ granted_by (checks t who.now (StoreCall.Append path.now bytes.now))
-        (file_named (Q.numbers questions.now) (plain.input_name t who.now path.now)) }
+    file: &NamedFile,
+) -> Option<StoreFault>
+    requires caller { plain.has_user (Q.tree questions.now) who.now ≡ true }
+    requires named { file.now.full ≡ plain.input_name (Q.tree questions.now) who.now path.now }
+    requires numbered { file.now.number ≡ Q.numbers questions.now file.now.full }
+    requires there { is_some file.now.number ≡ plain.has_file (Q.tree questions.now) file.now.full }
+    ensures { result
+        ≡ fault_in (Q.tree questions.now) who.now (StoreCall.Append path.now bytes.now) }
 {
-    let file = match open_to(questions, who, path, Mode::Append) {
-        Ok(file) => file,
-        Err(fault) => return Err(fault),
-    };
-    let size = u64::from(questions.len_of(&file)) + bytes.as_slice().len() as u64;
-    if let Some(fault) = over_size(questions, &file, size) {
-        return Err(fault);
+    let closed = closed_to(questions, who, path, Mode::Append, file);
+    if closed.is_some() {
+        return closed;
     }
-    match spent(questions) {
-        Some(fault) => Err(fault),
-        None => Ok(file),
+    let size = u64::from(questions.len_of(file)) + bytes.as_slice().len() as u64;
+    let over = over_size(questions, file, size);
+    if over.is_some() {
+        return over;
     }
+    spent(questions)
 }
 
 /// The file has to be the caller's, and its new name to be free.
@@ -246,22 +276,24 @@ fn rename<Q: Questions>(
     who: &User,
     path: &Path,
     to: &Local,
-) -> Result<NamedFile, StoreFault>
-    requires { plain.has_user (Q.tree questions.now) who.now ≡ true }
-    ensures { let t = Q.tree questions.now in
-        result ≡ granted_by (checks t who.now (StoreCall.Rename path.now to.now))
-        (file_named (Q.numbers questions.now) (plain.input_name t who.now path.now)) }
+    file: &NamedFile,
+) -> Option<StoreFault>
+    requires caller { plain.has_user (Q.tree questions.now) who.now ≡ true }
+    requires named { file.now.full ≡ plain.input_name (Q.tree questions.now) who.now path.now }
+    requires numbered { file.now.number ≡ Q.numbers questions.now file.now.full }
+    requires there { is_some file.now.number ≡ plain.has_file (Q.tree questions.now) file.now.full }
+    ensures { result ≡ fault_in (Q.tree questions.now) who.now (StoreCall.Rename path.now to.now) }
 {
-    let file = match present(questions, who, path) {
-        Ok(file) => file,
-        Err(fault) => return Err(fault),
-    };
-    if *who != file.full.user {
-        Err(StoreFault::NotOwner)
+    let absent = missing(questions, who, path, file);
+    if absent.is_some() {
+        return absent;
+    }
+    if !is_own(who, path, &file.full) {
+        Some(StoreFault::NotOwner)
     } else if questions.has_file(&with_local(&file.full, to)) {
-        Err(StoreFault::Exists)
+        Some(StoreFault::Exists)
     } else {
-        Ok(file)
+        None
     }
 }
 
@@ -272,20 +304,23 @@ fn trap_go<Q: Questions>(
     path: &Path,
     user: &User,
     modes: Modes,
-) -> Result<NamedFile, StoreFault>
-    requires { plain.has_user (Q.tree questions.now) who.now ≡ true }
-    ensures { let t = Q.tree questions.now in
-        result ≡ granted_by (checks t who.now (StoreCall.TrapGo path.now user.now modes))
-        (file_named (Q.numbers questions.now) (plain.input_name t who.now path.now)) }
+    file: &NamedFile,
+) -> Option<StoreFault>
+    requires caller { plain.has_user (Q.tree questions.now) who.now ≡ true }
+    requires named { file.now.full ≡ plain.input_name (Q.tree questions.now) who.now path.now }
+    requires numbered { file.now.number ≡ Q.numbers questions.now file.now.full }
+    requires there { is_some file.now.number ≡ plain.has_file (Q.tree questions.now) file.now.full }
+    ensures { result
+        ≡ fault_in (Q.tree questions.now) who.now (StoreCall.TrapGo path.now user.now modes) }
 {
-    let file = match trap_stop(questions, who, path, user) {
-        Ok(file) => file,
-        Err(fault) => return Err(fault),
-    };
-    if questions.is_ninth(&file, user, modes) {
-        Err(StoreFault::TrapsFull)
+    let refused = trap_stop(questions, who, path, user, file);
+    if refused.is_some() {
+        return refused;
+    }
+    if questions.is_ninth(file, user, modes) {
+        Some(StoreFault::TrapsFull)
     } else {
-        Ok(file)
+        None
     }
 }
 
@@ -295,22 +330,25 @@ fn trap_stop<Q: Questions>(
     who: &User,
     path: &Path,
     user: &User,
-) -> Result<NamedFile, StoreFault>
-    requires { plain.has_user (Q.tree questions.now) who.now ≡ true }
-    ensures { (modes : ℕ) → let t = Q.tree questions.now in
-        result ≡ granted_by (checks t who.now (StoreCall.TrapStop path.now user.now modes))
-        (file_named (Q.numbers questions.now) (plain.input_name t who.now path.now)) }
+    file: &NamedFile,
+) -> Option<StoreFault>
+    requires caller { plain.has_user (Q.tree questions.now) who.now ≡ true }
+    requires named { file.now.full ≡ plain.input_name (Q.tree questions.now) who.now path.now }
+    requires numbered { file.now.number ≡ Q.numbers questions.now file.now.full }
+    requires there { is_some file.now.number ≡ plain.has_file (Q.tree questions.now) file.now.full }
+    ensures { (modes : ℕ) → result
+        ≡ fault_in (Q.tree questions.now) who.now (StoreCall.TrapStop path.now user.now modes) }
 {
-    let file = match present(questions, who, path) {
-        Ok(file) => file,
-        Err(fault) => return Err(fault),
-    };
+    let absent = missing(questions, who, path, file);
+    if absent.is_some() {
+        return absent;
+    }
     if !questions.has_user(user) {
-        Err(StoreFault::NoUser)
-    } else if *who != file.full.user {
-        Err(StoreFault::NotOwner)
+        Some(StoreFault::NoUser)
+    } else if !is_own(who, path, &file.full) {
+        Some(StoreFault::NotOwner)
     } else {
-        Ok(file)
+        None
     }
 }
 
@@ -320,70 +358,91 @@ fn trap_check<Q: Questions>(
     who: &User,
     path: &Path,
     user: &User,
-) -> Result<NamedFile, StoreFault>
-    requires { plain.has_user (Q.tree questions.now) who.now ≡ true }
-    ensures { let t = Q.tree questions.now in
-        result ≡ granted_by (checks t who.now (StoreCall.TrapCheck path.now user.now))
-        (file_named (Q.numbers questions.now) (plain.input_name t who.now path.now)) }
+    file: &NamedFile,
+) -> Option<StoreFault>
+    requires caller { plain.has_user (Q.tree questions.now) who.now ≡ true }
+    requires named { file.now.full ≡ plain.input_name (Q.tree questions.now) who.now path.now }
+    requires numbered { file.now.number ≡ Q.numbers questions.now file.now.full }
+    requires there { is_some file.now.number ≡ plain.has_file (Q.tree questions.now) file.now.full }
+    ensures { result
+        ≡ fault_in (Q.tree questions.now) who.now (StoreCall.TrapCheck path.now user.now) }
 {
-    let file = match present(questions, who, path) {
-        Ok(file) => file,
-        Err(fault) => return Err(fault),
-    };
+    let absent = missing(questions, who, path, file);
+    if absent.is_some() {
+        return absent;
+    }
     if !questions.has_user(user) {
-        Err(StoreFault::NoUser)
-    } else if *who != file.full.user && *who != *user {
-        Err(StoreFault::NotOwner)
+        Some(StoreFault::NoUser)
+    } else if !is_own(who, path, &file.full) && *who != *user {
+        Some(StoreFault::NotOwner)
     } else {
-        Ok(file)
+        None
     }
 }
 
 /// Whether the owner of a file of this name is there. The caller is, who needn't be looked for again.
-fn has_owner<Q: Questions>(questions: &Q, who: &User, full: &Full) -> bool
-    requires { plain.has_user (Q.tree questions.now) who.now ≡ true }
+fn has_owner<Q: Questions>(questions: &Q, who: &User, path: &Path, full: &Full) -> bool
+    requires caller { plain.has_user (Q.tree questions.now) who.now ≡ true }
+    requires named { full.now.user ≡ plain.owner_of who.now path.now }
     ensures { result ≡ plain.has_user (Q.tree questions.now) full.now.user }
 {
-    *who == full.user || questions.has_user(&full.user)
+    is_own(who, path, full) || questions.has_user(&full.user)
 }
 
-/// The file that a path names for input; whom its name names has to be there, and the file.
-fn present<Q: Questions>(questions: &Q, who: &User, path: &Path) -> Result<NamedFile, StoreFault>
-    requires { plain.has_user (Q.tree questions.now) who.now ≡ true }
-    ensures { let t = Q.tree questions.now in
-        result ≡ granted_by (input_checks t who.now path.now)
-        (file_named (Q.numbers questions.now) (plain.input_name t who.now path.now)) }
+/// Whether a file of the name that a path gives is the caller's, as it is where the path names no user.
+fn is_own(who: &User, path: &Path, full: &Full) -> bool
+    requires { full.now.user ≡ plain.owner_of who.now path.now }
+    ensures { result ≡ same_text who.now full.now.user }
 {
-    let file = questions.find(questions.input_name(who, path));
-    if !has_owner(questions, who, &file.full) {
-        Err(StoreFault::NoUser)
-    } else if file.number.is_none() {
-        Err(StoreFault::NoFile)
-    } else {
-        Ok(file)
+    match &path.user {
+        Some(_user) => *who == full.user,
+        None => true,
     }
 }
 
-/// The file that a path names for input, which has to be there, and open to the caller in this mode.
-fn open_to<Q: Questions>(
+/// Whom the name of a file for input names has to be there, and the file.
+fn missing<Q: Questions>(
+    questions: &Q,
+    who: &User,
+    path: &Path,
+    file: &NamedFile,
+) -> Option<StoreFault>
+    requires caller { plain.has_user (Q.tree questions.now) who.now ≡ true }
+    requires named { file.now.full ≡ plain.input_name (Q.tree questions.now) who.now path.now }
+    requires there { is_some file.now.number ≡ plain.has_file (Q.tree questions.now) file.now.full }
+    ensures { result ≡ first_fault (input_checks (Q.tree questions.now) who.now path.now) }
+{
+    if !has_owner(questions, who, path, &file.full) {
+        Some(StoreFault::NoUser)
+    } else if file.number.is_none() {
+        Some(StoreFault::NoFile)
+    } else {
+        None
+    }
+}
+
+/// The file has to be there, and open to the caller in this mode.
+fn closed_to<Q: Questions>(
     questions: &Q,
     who: &User,
     path: &Path,
     mode: Mode,
-) -> Result<NamedFile, StoreFault>
-    requires { plain.has_user (Q.tree questions.now) who.now ≡ true }
-    ensures { let t = Q.tree questions.now in
-        result ≡ granted_by (checks t who.now (StoreCall.Fetch path.now mode))
-        (file_named (Q.numbers questions.now) (plain.input_name t who.now path.now)) }
+    file: &NamedFile,
+) -> Option<StoreFault>
+    requires caller { plain.has_user (Q.tree questions.now) who.now ≡ true }
+    requires named { file.now.full ≡ plain.input_name (Q.tree questions.now) who.now path.now }
+    requires numbered { file.now.number ≡ Q.numbers questions.now file.now.full }
+    requires there { is_some file.now.number ≡ plain.has_file (Q.tree questions.now) file.now.full }
+    ensures { result ≡ fault_in (Q.tree questions.now) who.now (StoreCall.Fetch path.now mode) }
 {
-    let file = match present(questions, who, path) {
-        Ok(file) => file,
-        Err(fault) => return Err(fault),
-    };
-    if questions.modes_of(&file, who).contains(mode) {
-        Ok(file)
+    let absent = missing(questions, who, path, file);
+    if absent.is_some() {
+        return absent;
+    }
+    if questions.modes_of(file, who).contains(mode) {
+        None
     } else {
-        Err(StoreFault::Trapped(mode))
+        Some(StoreFault::Trapped(mode))
     }
 }
 

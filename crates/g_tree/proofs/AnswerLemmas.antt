@@ -1,21 +1,31 @@
 -- What a path names, among records and in the tree.
-use Rattle.std.proofs.Common.{◌≡◌, ◌≢◌, ℕ, ◌+◌, ◌==◌, Bool, true, false, ◌&&◌, List, [], Some, None, is_some, is_none, unwrap_or, refl, sym, ap, ◌∙◌, arith}
+use Rattle.std.proofs.Common.{◌≡◌, ◌≢◌, ℕ, ◌+◌, ◌<◌, ◌==◌, Bool, true, false, ◌&&◌, List, [], Option, Some, None, is_some, is_none, unwrap_or, refl, sym, ap, subst, ◌∙◌, arith}
 use Rattle.std.specs.Option.{option_map}
 use Rattle.std.proofs.lemmas.Bool.Decides.{nat_tests}
 use Rattle.g_name.specs.declared.full.Full.{Full}
 use Rattle.g_name.specs.declared.path.Path.{Path}
 use Rattle.g_entry.specs.declared.user_rec.UserRec.{UserRec}
 use Rattle.g_entry.specs.declared.file_rec.FileRec.{FileRec}
+use Rattle.g_plain.specs.declared.names.NamedFile.{NamedFile}
+use Rattle.g_plain.specs.Grants.{file_named}
 use Rattle.g_plain.specs.PlainTree.{Tree, has_file, newest, owner_of, named, input_name, output_name}
 use Rattle.g_tree.specs.Records.{IsRecords, tree_of, number_of}
 use Rattle.g_tree.specs.Answers.{IsOutput, IsFileOrNew, is_past_last, newest_of}
 use Rattle.g_tree.specs.declared.output.Output.{Output}
 use Rattle.g_tree.specs.declared.output.Output.TheVariants.{Replace, Fresh, NoGeneration}
+use Rattle.g_tree.proofs.CountLemmas.{nothing_newer}
 use Rattle.g_tree.proofs.RecordLemmas.{file_there, newest_is, nobodys, nobodys_newest}
 
 -- a full name with another generation
 abbrev pub with_generation : Full → ℕ → Full
 with_generation full g = record full { generation = g }
+
+-- and a name with a number
+abbrev pub with_number : Full → Option ℕ → NamedFile
+with_number full number = record { full = full; number = number }
+
+pub named_is : (numbers : Full → Option ℕ) (full called : Full) (number : Option ℕ) → number ≡ numbers full → full ≡ called → with_number full number ≡ file_named numbers called
+named_is numbers full called number has is = ap (λ n. with_number full n) has ∙ ap (file_named numbers) is
 
 both_no : (b : Bool) → (b && false) ≡ false
 both_no true = refl
@@ -86,3 +96,17 @@ module _ (users : List UserRec) (files : List FileRec) (bytes : FileRec → List
       let same : n ≡ newest tree who path = top ∙ newest_there full rules is in
       output_found (with_generation full (n + 1)) output found (output_newest full n rules is none top)
       (ap (λ o. is_none o && (newest tree who path == 4095)) none ∙ ap (λ m. m == 4095) (sym same) ∙ not_same n 4095 below)
+
+  -- one behind the newest, which isn't there
+  below_next : (full : Full) (n : ℕ) → n ≡ newest_of users full files → newest_of users (with_generation full (n + 1)) files < n + 1
+  below_next full n top = subst (λ m. m < n + 1) top (omega arith)
+
+  pub output_unnumbered : (full : Full) (n : ℕ) → IsRecords users files → full ≡ named who path 1 → path.generation ≡ None → n ≡ newest_of users full files
+      → with_number (with_generation full (n + 1)) None ≡ file_named (number_of users files) (output_name tree who path)
+  output_unnumbered full n rules is none top =
+      named_is (number_of users files) (with_generation full (n + 1)) (output_name tree who path) None
+      (sym (nothing_newer users files (with_generation full (n + 1)) rules (below_next full n top))) (output_newest full n rules is none top)
+
+  pub output_absent : (full : Full) (n : ℕ) → IsRecords users files → n ≡ newest_of users full files → false ≡ has_file tree (with_generation full (n + 1))
+  output_absent full n rules top =
+      ap is_some (sym (nothing_newer users files (with_generation full (n + 1)) rules (below_next full n top))) ∙ file_there users files bytes next (with_generation full (n + 1))

@@ -260,6 +260,39 @@ module _ (users : List UserRec) (files : List FileRec) (is : IsRecords users fil
   pub owner_at : (place : ℕ) (r : FileRec) → place < length files → r ≡ get_or files place r → r.owner < 63
   owner_at place r within here = owner_few r.owner (subst (λ s. s.owner < length users) (sym here) (is.among_files.owners place r within))
 
+-- no version is there behind the newest
+pub nothing_newer : (users : List UserRec) (files : List FileRec) (full : Full) → IsRecords users files → newest_of users full files < full.generation → number_of users files full ≡ None
+nothing_newer users files full is newer =
+    elim (number_of users files full) as (λ o. number_of users files full ≡ o → o ≡ None) [
+      | None ↦ λ _. refl
+      | Some number ↦ λ found.
+          let p = λ (s : FileRec). is_version_of full (full_of users s) in
+          let there = named_found users files is number full found in
+          let among : Contains files there.0 = there.1.0 in
+          let same : get_or files among.0 there.0 ≡ there.0 = among.2 in
+          let holds = greatest_holds p (λ s. s.generation) files among.0 there.0 among.1 (ap p same ∙ ap (is_version_of full) there.1.1 ∙ version_itself full) in
+          let greatest_is = newest_greatest users full files in
+          let generation = ap (λ (s : FileRec). s.generation) same in
+          let is_full = ap (λ f. f.generation) there.1.1 in
+          absurd (omega (arith, holds, greatest_is, generation, is_full, newer))
+    ] refl
+
+-- nor one before the first
+no_zeroth : (users : List UserRec) (files : List FileRec) (full : Full) → IsRecords users files → number_of users files (at_generation full 0) ≡ None
+no_zeroth users files full is =
+    elim (number_of users files (at_generation full 0)) as (λ o. number_of users files (at_generation full 0) ≡ o → o ≡ None) [
+      | None ↦ λ _. refl
+      | Some number ↦ λ found.
+          let there = named_found users files is number (at_generation full 0) found in
+          let among : Contains files there.0 = there.1.0 in
+          let least = subst (λ s. 1 ≤ s.generation) among.2 (is.each_file among.0 there.0 among.1).least_generation in
+          let zeroth = ap (λ f. f.generation) there.1.1 in
+          absurd (omega (arith, least, zeroth))
+    ] refl
+
+pub zeroth_none : (users : List UserRec) (files : List FileRec) (entries : FinMap full_cmp NameEntry) (full : Full) → IsRecords users files → AreIndexed users files entries → number_in entries (at_generation full 0) ≡ None
+zeroth_none users files entries full is are = indexed_number users files entries (at_generation full 0) are ∙ no_zeroth users files full is
+
 -- the newest version but one
 
 same_full : (a b : Full) → is_version_of a b ≡ true → b.generation ≡ a.generation → a ≡ b
@@ -311,6 +344,14 @@ module _ (users : List UserRec) (files : List FileRec) (is : IsRecords users fil
         let greatest_is = newest_greatest users full (list.remove files place) in
         let less = greatest_less p (λ s. s.generation) r.generation (list.remove files place) one others_apart (omega (arith, newest, with_it, same, greatest_is)) in
         omega (arith, less, greatest_is, same)
+
+    -- the newest of the others has another generation
+    pub newest_apart : newest_of users full (list.remove files place) ≢ full.generation
+    newest_apart = λ e.
+        let with_it = newest_with users files place r within here full named in
+        let same = generation_is in
+        let less = newest_less (omega (arith, with_it, same, e)) in
+        omega (arith, less, e)
 
     -- a version that is there is among the others
     pub newest_holds : (before : Full) (number : ℕ) → is_version_of full before ≡ true → before.generation ≢ full.generation → number_of users files before ≡ Some number

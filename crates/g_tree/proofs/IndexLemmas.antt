@@ -1,11 +1,12 @@
 -- The index of names, whose look-ups go by equality, as a map in their order.
-use Rattle.std.proofs.Common.{◌≡◌, Bool, cond, List, [], ◌∷◌, Option, Some, None, IsSome, refl, sym, ap, subst, ◌∙◌}
-use Rattle.std.specs.Map.{lookup}
+use Rattle.std.proofs.Common.{◌≡◌, Bool, cond, List, [], ◌∷◌, Option, Some, None, IsSome, refl, sym, ap, subst, ◌∙◌, is_some, true, false, true≢false}
+use Rattle.std.specs.Map.{lookup, lookup_key}
 use Rattle.std.specs.BTreeMap.{is_at}
 use Rattle.std.specs.FinMap.{get, insert, remove, from_entries}
 use Rattle.g_name.specs.declared.full.Full.{Full}
 use Rattle.g_name.specs.Order.{full_cmp}
 use Rattle.g_name.proofs.Order.{full_total, full_ties, full_eq}
+use Rattle.g_plain.proofs.Found.{same_some, tied_are}
 use Rattle.g_plain.proofs.Maps.{get-made, made_insert, made_remove}
 use Rattle.g_plain.proofs.TextMaps.{full_exact}
 
@@ -30,6 +31,15 @@ module _ {X : Type 0} where
   indexed_remove es fs k is =
       made_remove full_total full_exact es fs k
       (λ q. sym (by_order q fs) ∙ is q ∙ ap (λ b. cond b None (lookup (full_eq q) es)) (full_ties k q) ∙ ap (cond (is_at (full_cmp k) q) None) (by_order q es))
+
+-- the key that is found for one is that one
+pub key_found : {X : Type 0} (q k : Full) (es : List (Full × X)) → Some k ≡ lookup_key (full_eq q) es → k ≡ q
+key_found q k [] found = absurd (true≢false (ap is_some found))
+key_found q k (e ∷ es) found =
+    elim (full_eq q e.0) as (λ t. full_eq q e.0 ≡ t → Some k ≡ cond t (Some e.0) (lookup_key (full_eq q) es) → k ≡ q) [
+      | true ↦ λ t same. same_some k e.0 same ∙ sym (tied_are full_total full_exact q e.0 (sym (full_ties q e.0) ∙ t))
+      | false ↦ λ _ rest. key_found q k es rest
+    ] refl found
 
 pub found_there : {X : Type 0} (x : X) (o : Option X) → Some x ≡ o → IsSome o
 found_there x o e = subst IsSome e refl

@@ -114,6 +114,7 @@ module _ (users : List UserRec) (files : List FileRec) (n : ℕ) (u : UserRec) (
     records = rules;
     index = λ full. is.index full ∙ ap (λ ns. get (numbers_by ns files) full) (sym names_kept);
     newest = λ full. is.newest full ∙ ap (λ ns. newest_by ns full files) (sym names_kept);
+    topped = is.topped;
     used = is.used;
   }
 
@@ -171,6 +172,7 @@ module _ (users : List UserRec) (files : List FileRec) (u : UserRec) (is : IsRec
         kept.newest full
         ∙ ap (λ rs. fold max 0 (map (λ (r : FileRec). r.generation) rs))
         (filter_same_on (λ r. is_version_of full (full_of users r)) (λ r. is_version_of full (full_of (users ++ u ∷ []) r)) files (λ k d within. ap (is_version_of full) (sym (full_kept k d within))));
+    topped = kept.topped;
     used = kept.used;
   }
 

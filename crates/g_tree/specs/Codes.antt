@@ -11,8 +11,8 @@ use Rattle.g_tree.specs.declared.sorted.LocalName.{LocalName}
 
 abbrev pub entry_code : Coded NameEntry
 entry_code =
-    code_by (Option ℕ × ℕ) (coded× (coded_option coded_ℕ) coded_ℕ)
-    (λ e. (e.number, e.newest)) (λ p. record { number = p.0; newest = p.1 }) (λ _. refl)
+    code_by (Option ℕ × (ℕ × Option ℕ)) (coded× (coded_option coded_ℕ) (coded× coded_ℕ (coded_option coded_ℕ)))
+    (λ e. (e.number, (e.newest, e.top))) (λ p. record { number = p.0; newest = p.1.0; top = p.1.1 }) (λ _. refl)
 
 abbrev pub entries_code : Coded (map.FinMap full_cmp NameEntry)
 entries_code = map.code full_code entry_code

@@ -1,5 +1,5 @@
 -- What contracts see of a tree in memory, and how its records change.
-use Rattle.std.specs.Prelude.{◌≡◌, ℕ, ◌==◌, not, nat_lt, max, List, [], ◌∷◌, ◌++◌, map, filter, length, sum_by, slice_index_or, codes, Option, Some, None, if◌then◌else◌}
+use Rattle.std.specs.Prelude.{◌≡◌, ℕ, ◌==◌, Bool, ◌&&◌, not, nat_lt, is_some, List, [], ◌∷◌, ◌++◌, map, filter, length, sum_by, slice_index_or, codes, Option, Some, None, if◌then◌else◌}
 use Rattle.std.specs.Ordering.{eq_by_cmp}
 use Rattle.std.specs.FinMap.{FinMap, get, insert, remove, from_entries}
 use Rattle.g_base.specs.Block.{blocks_for}
@@ -49,19 +49,54 @@ newest_in entries full = newest_at (get entries (versions_of full))
 abbrev pub later : ℕ → ℕ
 later generation = if nat_lt 1 generation then generation else 0
 
--- what is known when the greatest generation under a name that is there is at least this one
-abbrev pub raised_at : FinMap full_cmp NameEntry → Full → ℕ → Option NameEntry → FinMap full_cmp NameEntry
-raised_at entries full newest entry = elim entry [ Some e ↦ insert entries full (record e { newest = max e.newest newest }) | None ↦ entries ]
+-- the number of the newest version, known there too
+abbrev pub top_at : Option NameEntry → Option ℕ
+top_at entry = elim entry [ Some e ↦ e.top | None ↦ None ]
 
-abbrev pub raised : FinMap full_cmp NameEntry → Full → ℕ → FinMap full_cmp NameEntry
-raised entries full newest = raised_at entries full newest (get entries full)
+abbrev pub top_in : FinMap full_cmp NameEntry → Full → Option ℕ
+top_in entries full = top_at (get entries (versions_of full))
 
--- what is known when it is this one
-abbrev pub settled_at : FinMap full_cmp NameEntry → Full → ℕ → Option NameEntry → FinMap full_cmp NameEntry
-settled_at entries full newest entry = elim entry [ Some e ↦ insert entries full (record e { newest = newest }) | None ↦ entries ]
+-- the same where the first is gone
+abbrev pub later_top : ℕ → Option ℕ → Option ℕ
+later_top newest top = if nat_lt 1 newest then top else None
 
-abbrev pub settled : FinMap full_cmp NameEntry → Full → ℕ → FinMap full_cmp NameEntry
-settled entries full newest = settled_at entries full newest (get entries full)
+-- and where there is one of this generation and number too
+abbrev pub risen : ℕ → Option ℕ → ℕ → ℕ → Option ℕ
+risen newest top generation number = if nat_lt generation newest then top else Some number
+
+-- what is known when the newest under a name that is there is at least that one
+abbrev pub lifted : NameEntry → ℕ → ℕ → NameEntry
+lifted entry generation number = if nat_lt generation entry.newest then entry else record entry { newest = generation; top = Some number }
+
+abbrev pub raised_at : FinMap full_cmp NameEntry → Full → ℕ → ℕ → Option NameEntry → FinMap full_cmp NameEntry
+raised_at entries full generation number entry = elim entry [ Some e ↦ insert entries full (lifted e generation number) | None ↦ entries ]
+
+abbrev pub raised : FinMap full_cmp NameEntry → Full → ℕ → ℕ → FinMap full_cmp NameEntry
+raised entries full generation number = raised_at entries full generation number (get entries full)
+
+-- what is known when it is that one
+abbrev pub settled_at : FinMap full_cmp NameEntry → Full → ℕ → Option ℕ → Option NameEntry → FinMap full_cmp NameEntry
+settled_at entries full generation number entry = elim entry [ Some e ↦ insert entries full (record e { newest = generation; top = number }) | None ↦ entries ]
+
+abbrev pub settled : FinMap full_cmp NameEntry → Full → ℕ → Option ℕ → FinMap full_cmp NameEntry
+settled entries full generation number = settled_at entries full generation number (get entries full)
+
+-- what is known when a first generation goes: its name, without a number, while there are others
+abbrev pub closed_at : FinMap full_cmp NameEntry → Full → Option NameEntry → FinMap full_cmp NameEntry
+closed_at entries full entry = elim entry [ Some e ↦ if nat_lt e.newest 2 then remove entries full else insert entries full (record e { number = None }) | None ↦ entries ]
+
+abbrev pub closed : FinMap full_cmp NameEntry → Full → FinMap full_cmp NameEntry
+closed entries full = closed_at entries full (get entries full)
+
+-- what is known when the second of two versions goes: the first is the newest
+abbrev pub is_first_of_two : NameEntry → Bool
+is_first_of_two entry = (entry.newest == 2) && is_some entry.number
+
+abbrev pub fallen_at : FinMap full_cmp NameEntry → Full → Option NameEntry → FinMap full_cmp NameEntry
+fallen_at entries full entry = elim entry [ Some e ↦ if is_first_of_two e then insert entries full (record e { newest = 1; top = e.number }) else entries | None ↦ entries ]
+
+abbrev pub fallen : FinMap full_cmp NameEntry → Full → FinMap full_cmp NameEntry
+fallen entries full = fallen_at entries full (get entries full)
 
 -- every full name has the number that it had
 abbrev pub HasNumbers : FinMap full_cmp NameEntry → FinMap full_cmp NameEntry → Type 0
@@ -74,6 +109,14 @@ HasNumber old new full number = (other : Full) → number_in new other ≡ (if e
 -- the greatest generation of a file's versions is another
 abbrev pub HasNewest : FinMap full_cmp NameEntry → FinMap full_cmp NameEntry → Full → ℕ → Type 0
 HasNewest old new full newest = (other : Full) → newest_in new other ≡ (if is_version_of other full then newest else newest_in old other)
+
+-- the number of the newest of a file's versions is another
+abbrev pub HasTop : FinMap full_cmp NameEntry → FinMap full_cmp NameEntry → Full → Option ℕ → Type 0
+HasTop old new full top = (other : Full) → top_in new other ≡ (if is_version_of other full then top else top_in old other)
+
+-- the number of the newest is that of its name
+abbrev pub IsTopped : FinMap full_cmp NameEntry → Type 0
+IsTopped entries = (full : Full) → top_in entries full ≡ number_in entries (record full { generation = newest_in entries full })
 
 -- the blocks of the files of an owner
 abbrev pub used_of : List FileRec → ℕ → ℕ
@@ -97,6 +140,7 @@ pub record IsKept (users : List UserRec) (files : List FileRec) (entries : FinMa
   pub records : IsRecords users files
   pub index : AreIndexed users files entries
   pub newest : AreNewest users files entries
+  pub topped : IsTopped entries
   pub used : AreUsed files blocks
 
 -- the users of a new filestore

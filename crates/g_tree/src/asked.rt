@@ -1,12 +1,12 @@
 //! Whether a call is refused, asked of records: by their numbers, and by no byte of a file.
-ghost use Rattle.std.specs.Prelude.{◌≡◌, ◌≤◌, ℕ, List, Some, length, IfOk, true};
+ghost use Rattle.std.specs.Prelude.{◌≡◌, ◌≤◌, ℕ, List, Some, length, is_some, IfOk, true};
 ghost use Rattle.std.specs.Result.{result_err};
 ghost use Rattle.g_name.specs.declared.full.Full.{Full};
 ghost use Rattle.g_entry.specs.declared.file_rec.FileRec.{FileRec};
-ghost use Rattle.g_plain.specs.Grants.{name_in, number_in};
+ghost use Rattle.g_plain.specs.Grants.{file_named, name_in, number_in};
 ghost use Rattle.g_plain.specs.PlainTree.{file_row, has_file};
 ghost use Rattle.g_plain.specs.PlainStep.{fault_of};
-ghost use Rattle.g_tree.specs.Records.{ForTree, HasLengths, name_of_file, number_of, tree_of};
+ghost use Rattle.g_tree.specs.Records.{ForTree, HasLengths, IsRecords, name_of_file, number_of, tree_of};
 ghost use Rattle.g_tree.specs.AskedRecords.{IsGranted, zeros};
 
 use crate::Tree;
@@ -37,6 +37,19 @@ struct Records<'a> {
 }
 
 impl<'a> Records<'a> {
+    /// The file of a full name, in one look-up.
+    fn find(&self, full: Full) -> NamedFile
+        ensures named { let s = self.now.tree.now in
+            result ≡ file_named (number_of s.users s.files) full }
+        ensures there { let s = self.now.tree.now in
+            is_some result.number
+            ≡ has_file (tree_of s.users s.files zeros self.now.next) result.full }
+        ensures records { IsRecords self.now.tree.now.users self.now.tree.now.files }
+    {
+        let number = self.tree.number_of(&full);
+        NamedFile { full, number }
+    }
+
     /// The number of a file that is there.
     fn number(&self, file: &NamedFile) -> u16
         requires there { let s = self.now.tree.now in
@@ -106,38 +119,39 @@ impl<'a> Questions for Records<'a> {
         self.tree.files().len()
     }
 
-    fn newest(&self, who: &User, path: &Path) -> u16 {
-        self.tree.newest_by(&named(who, path, 1))
-    }
-
-    fn input_name(&self, who: &User, path: &Path) -> Full {
+    fn input(&self, who: &User, path: &Path) -> NamedFile {
         match path.generation {
-            Some(generation) => named(who, path, generation),
+            Some(generation) => self.find(named(who, path, generation)),
             None => {
                 let full = named(who, path, 1);
-                let generation = self.tree.newest_by(&full);
-                Full { generation, ..full }
-            }
-        }
-    }
-
-    fn output_name(&self, who: &User, path: &Path) -> Full {
-        match path.generation {
-            Some(generation) => named(who, path, generation),
-            None => {
-                let full = named(who, path, 1);
-                let newest = self.tree.newest_by(&full);
-                Full {
-                    generation: newest + 1,
-                    ..full
+                let newest = self.tree.newest_file(&full);
+                NamedFile {
+                    full: Full {
+                        generation: newest.generation,
+                        ..full
+                    },
+                    number: newest.number,
                 }
             }
         }
     }
 
-    fn find(&self, full: Full) -> NamedFile {
-        let number = self.tree.number_of(&full);
-        NamedFile { full, number }
+    fn output(&self, who: &User, path: &Path) -> NamedFile {
+        match path.generation {
+            Some(generation) => self.find(named(who, path, generation)),
+            None => {
+                let full = named(who, path, 1);
+                let newest = self.tree.newest_by(&full);
+                // No version is there behind the newest.
+                NamedFile {
+                    full: Full {
+                        generation: newest + 1,
+                        ..full
+                    },
+                    number: None,
+                }
+            }
+        }
     }
 
     fn len_of(&self, file: &NamedFile) -> u32 {

@@ -5,9 +5,9 @@ ghost use Rattle.g_base.specs.Block.{blocks_for};
 ghost use Rattle.g_entry.specs.declared.file_rec.FileRec.{FileRec};
 ghost use Rattle.g_tree.specs.Answers.{newest_of};
 ghost use Rattle.g_tree.specs.Records.{IsRecords, full_of};
-ghost use Rattle.g_tree.specs.State.{AreIndexed, AreNewest, HasNewest, HasNumber, HasNumbers, later, newest_in, number_in, versions_of};
+ghost use Rattle.g_tree.specs.State.{AreIndexed, AreNewest, HasNewest, HasNumber, HasNumbers, HasTop, IsTopped, later, later_top, newest_in, number_in, risen, top_in, versions_of};
 
-use crate::index::{Index, NameEntry};
+use crate::index::{Index, NameEntry, Newest, is_first_of_two, lifted};
 use crate::scan::{full_of, newest_besides};
 use g_base::{NoMemory, blocks_for};
 use g_entry::{BoxedRec, FileRec, UserRec};
@@ -65,14 +65,21 @@ impl Counts {
         }
     }
 
-    /// The greatest generation of the versions of the file whose first has this name, or 0.
-    pub fn newest(&self, first: &Full) -> u16
+    /// The newest of the versions of the file whose first has this name.
+    pub fn newest(&self, first: &Full) -> Newest
         requires { first.now.generation ≡ 1 }
-        ensures { result ≡ newest_in self.now.names.entries first.now }
+        ensures generation { result.generation ≡ newest_in self.now.names.entries first.now }
+        ensures number { result.number ≡ top_in self.now.names.entries first.now }
     {
         match self.names.find(first) {
-            Some(entry) => entry.newest,
-            None => 0,
+            Some(entry) => Newest {
+                generation: entry.newest,
+                number: entry.top,
+            },
+            None => Newest {
+                generation: 0,
+                number: None,
+            },
         }
     }
 
@@ -85,6 +92,10 @@ impl Counts {
         ensures newest { let full = full_of users.now file.now in
             HasNewest self.old.names.entries self.new.names.entries full
             (max (newest_in self.old.names.entries full) file.now.generation) }
+        ensures top { let full = full_of users.now file.now in
+            let old = self.old.names.entries in
+            HasTop old self.new.names.entries full
+            (risen (newest_in old full) (top_in old full) file.now.generation file.now.number) }
         ensures blocks { self.new.blocks.items ≡ self.old.blocks.items }
         ensures spare { self.old.names.spare ≤ self.new.names.spare + 2 }
     {
@@ -105,17 +116,25 @@ impl Counts {
         ensures newest { let full = full_of users.now file.now in
             HasNewest self.old.names.entries self.new.names.entries full
             (max (newest_in self.old.names.entries full) 1) }
+        ensures top { let full = full_of users.now file.now in
+            let old = self.old.names.entries in
+            HasTop old self.new.names.entries full
+            (risen (newest_in old full) (top_in old full) 1 file.now.number) }
         ensures blocks { self.new.blocks.items ≡ self.old.blocks.items }
         ensures spare { self.old.names.spare ≤ self.new.names.spare + 1 }
     {
         let number = Some(file.number);
-        let entry = NameEntry { number, newest: 1 };
+        let entry = NameEntry {
+            number,
+            newest: 1,
+            top: number,
+        };
         match self.names.insert(full_of(users, file), entry) {
             // Others had outlived the one before.
             Some(was) => {
-                let newest = was.newest.max(1);
+                let there = NameEntry { number, ..was };
                 let full = full_of(users, file);
-                self.names.replace(&full, NameEntry { number, newest });
+                self.names.replace(&full, lifted(there, 1, file.number));
             }
             None => {}
         }
@@ -131,54 +150,75 @@ impl Counts {
         ensures newest { let full = full_of users.now file.now in
             HasNewest self.old.names.entries self.new.names.entries full
             (max (newest_in self.old.names.entries full) file.now.generation) }
+        ensures top { let full = full_of users.now file.now in
+            let old = self.old.names.entries in
+            HasTop old self.new.names.entries full
+            (risen (newest_in old full) (top_in old full) file.now.generation file.now.number) }
         ensures blocks { self.new.blocks.items ≡ self.old.blocks.items }
         ensures spare { self.old.names.spare ≤ self.new.names.spare + 2 }
     {
-        let full = full_of(users, file);
-        self.rise(versions_of(&full), file.generation);
-        let number = Some(file.number);
-        self.names.insert(full, NameEntry { number, newest: 0 });
+        let generation = file.generation;
+        let first = Full {
+            generation: 1,
+            ..full_of(users, file)
+        };
+        self.rise(&first, generation, file.number);
+        let full = Full {
+            generation,
+            ..first
+        };
+        let entry = NameEntry {
+            number: Some(file.number),
+            newest: 0,
+            top: None,
+        };
+        self.names.insert(full, entry);
     }
 
-    /// The greatest generation of the versions of the file whose first has this name is at least this.
-    fn rise(&mut self, first: Full, newest: u16)
-        requires first { first.generation ≡ 1 }
+    /// The greatest generation of the versions of the file whose first has this name is at least this,
+    /// which has this number.
+    fn rise(&mut self, first: &Full, newest: u16, number: u16)
+        requires first { first.now.generation ≡ 1 }
         requires room { 1 ≤ self.old.names.spare }
         ensures numbers { HasNumbers self.old.names.entries self.new.names.entries }
-        ensures newest { HasNewest self.old.names.entries self.new.names.entries first
-            (max (newest_in self.old.names.entries first) newest) }
+        ensures newest { HasNewest self.old.names.entries self.new.names.entries first.now
+            (max (newest_in self.old.names.entries first.now) newest) }
+        ensures top { let old = self.old.names.entries in
+            HasTop old self.new.names.entries first.now
+            (risen (newest_in old first.now) (top_in old first.now) newest number) }
         ensures blocks { self.new.blocks.items ≡ self.old.blocks.items }
         ensures spare { self.old.names.spare ≤ self.new.names.spare + 1 }
     {
-        if self.names.raise(&first, newest) {
+        if self.names.raise(first, newest, number) {
             return;
         }
-        self.names.insert(
-            first,
-            NameEntry {
-                number: None,
-                newest,
-            },
-        );
+        let entry = NameEntry {
+            number: None,
+            newest,
+            top: Some(number),
+        };
+        self.names.insert(first.copy(), entry);
     }
 
     /// A file fewer: that at this place.
-    pub fn take_out(&mut self, at: Standing, full: &Full)
+    pub fn take_out(&mut self, at: Standing, full: Full)
         requires records { IsRecords at.users.now at.files.now }
         requires index { AreIndexed at.users.now at.files.now self.old.names.entries }
         requires newest { AreNewest at.users.now at.files.now self.old.names.entries }
+        requires topped { IsTopped self.old.names.entries }
         requires there { at.place < length at.files.now }
-        requires named { (d : FileRec) → full.now
+        requires named { (d : FileRec) → full
             ≡ full_of at.users.now (slice_index_or at.files.now at.place d) }
         ensures index { let a = at.entry in
             AreIndexed a.users.now (remove a.files.now a.place) self.new.names.entries }
         ensures newest { let a = at.entry in
             AreNewest a.users.now (remove a.files.now a.place) self.new.names.entries }
+        ensures topped { IsTopped self.new.names.entries }
         ensures blocks { self.new.blocks.items ≡ self.old.blocks.items }
         ensures spare { self.old.names.spare ≤ self.new.names.spare }
     {
         if full.generation == 1 {
-            self.take_first(full);
+            self.take_first(&full);
         } else {
             self.take_later(at, full);
         }
@@ -190,105 +230,160 @@ impl Counts {
         ensures numbers { HasNumber self.old.names.entries self.new.names.entries full.now None }
         ensures newest { HasNewest self.old.names.entries self.new.names.entries full.now
             (later (newest_in self.old.names.entries full.now)) }
+        ensures top { let old = self.old.names.entries in
+            HasTop old self.new.names.entries full.now
+            (later_top (newest_in old full.now) (top_in old full.now)) }
         ensures blocks { self.new.blocks.items ≡ self.old.blocks.items }
         ensures spare { self.old.names.spare ≤ self.new.names.spare }
     {
-        let newest = self.newest(full);
-        if newest < 2 {
-            self.names.remove(full);
-        } else {
-            self.names.replace(
-                full,
-                NameEntry {
-                    number: None,
-                    newest,
-                },
-            );
-        }
+        self.names.close(full);
     }
 
     /// A generation behind the first fewer: that at this place.
-    fn take_later(&mut self, at: Standing, full: &Full)
+    fn take_later(&mut self, at: Standing, full: Full)
         requires records { IsRecords at.users.now at.files.now }
         requires index { AreIndexed at.users.now at.files.now self.old.names.entries }
         requires newest { AreNewest at.users.now at.files.now self.old.names.entries }
+        requires topped { IsTopped self.old.names.entries }
         requires there { at.place < length at.files.now }
-        requires named { (d : FileRec) → full.now
+        requires named { (d : FileRec) → full
             ≡ full_of at.users.now (slice_index_or at.files.now at.place d) }
-        requires behind { full.now.generation ≢ 1 }
-        ensures numbers { HasNumber self.old.names.entries self.new.names.entries full.now None }
+        requires behind { full.generation ≢ 1 }
+        ensures numbers { HasNumber self.old.names.entries self.new.names.entries full None }
         ensures newest { let a = at.entry in
-            HasNewest self.old.names.entries self.new.names.entries full.now
-            (newest_of a.users.now full.now (remove a.files.now a.place)) }
+            HasNewest self.old.names.entries self.new.names.entries full
+            (newest_of a.users.now full (remove a.files.now a.place)) }
+        ensures topped { IsTopped self.new.names.entries }
         ensures blocks { self.new.blocks.items ≡ self.old.blocks.items }
         ensures spare { self.old.names.spare ≤ self.new.names.spare }
     {
-        let first = versions_of(full);
-        let newest = self.newest_but(at, &first, full);
-        self.settle(&first, newest);
-        self.names.remove(full);
+        let generation = full.generation;
+        let first = Full {
+            generation: 1,
+            ..full
+        };
+        self.lower(at, &first, generation);
+        let full = Full {
+            generation,
+            ..first
+        };
+        self.names.remove(&full);
     }
 
-    /// The greatest generation of the versions of the file whose first has this name is this now;
-    /// where none is left nothing is known of the name.
-    fn settle(&mut self, first: &Full, newest: u16)
+    /// The newest of the versions of the file whose first has this name is this now; where none is left
+    /// nothing is known of the name.
+    fn settle(&mut self, first: &Full, newest: Newest)
         requires first { first.now.generation ≡ 1 }
         requires there { is_some (finmap.get self.old.names.entries first.now) ≡ true }
-        requires none { newest ≡ 0 → number_in self.old.names.entries first.now ≡ None }
+        requires none { newest.generation ≡ 0 → number_in self.old.names.entries first.now ≡ None }
+        requires numbered { newest.generation ≡ 0 → newest.number ≡ None }
         ensures numbers { HasNumbers self.old.names.entries self.new.names.entries }
-        ensures newest { HasNewest self.old.names.entries self.new.names.entries first.now newest }
+        ensures newest { HasNewest self.old.names.entries self.new.names.entries first.now
+            newest.generation }
+        ensures top { HasTop self.old.names.entries self.new.names.entries first.now newest.number }
         ensures blocks { self.new.blocks.items ≡ self.old.blocks.items }
         ensures spare { self.old.names.spare ≤ self.new.names.spare }
     {
-        if newest == 0 {
+        if newest.generation == 0 {
             self.names.remove(first);
         } else {
             self.names.settle(first, newest);
         }
     }
 
-    /// The greatest generation of the versions of the file at this place but of itself, where the
-    /// first of them has this name.
-    fn newest_but(&self, at: Standing, first: &Full, full: &Full) -> u16
+    /// The version of this generation, behind the first, whose name this is, goes: that of the file at
+    /// this place.
+    fn lower(&mut self, at: Standing, first: &Full, generation: u16)
+        requires records { IsRecords at.users.now at.files.now }
+        requires index { AreIndexed at.users.now at.files.now self.old.names.entries }
+        requires newest { AreNewest at.users.now at.files.now self.old.names.entries }
+        requires topped { IsTopped self.old.names.entries }
+        requires there { at.place < length at.files.now }
+        requires named { (d : FileRec) → record first.now { generation = generation }
+            ≡ full_of at.users.now (slice_index_or at.files.now at.place d) }
+        requires first { first.now.generation ≡ 1 }
+        requires some { 1 ≤ generation }
+        requires behind { generation ≢ 1 }
+        ensures numbers { HasNumbers self.old.names.entries self.new.names.entries }
+        ensures newest { let a = at.entry in
+            HasNewest self.old.names.entries self.new.names.entries first.now
+            (newest_of a.users.now first.now (remove a.files.now a.place)) }
+        ensures topped { IsTopped self.new.names.entries }
+        ensures blocks { self.new.blocks.items ≡ self.old.blocks.items }
+        ensures spare { self.old.names.spare ≤ self.new.names.spare }
+    {
+        let Some(entry) = self.names.fall(first) else {
+            unreachable!()
+        };
+        // Most often it was the second of two.
+        if is_first_of_two(entry) {
+            return;
+        }
+        let newest = self.newest_but(at, entry, first, generation);
+        self.settle(first, newest);
+    }
+
+    /// The newest of the versions of the file at this place but itself, which has this generation and the
+    /// first of them this name, where this is known under it.
+    fn newest_but(&self, at: Standing, entry: NameEntry, first: &Full, generation: u16) -> Newest
         requires records { IsRecords at.users.now at.files.now }
         requires index { AreIndexed at.users.now at.files.now self.now.names.entries }
         requires newest { AreNewest at.users.now at.files.now self.now.names.entries }
+        requires topped { IsTopped self.now.names.entries }
         requires there { at.place < length at.files.now }
-        requires named { (d : FileRec) → full.now
+        requires named { (d : FileRec) → record first.now { generation = generation }
             ≡ full_of at.users.now (slice_index_or at.files.now at.place d) }
-        requires first { first.now ≡ versions_of full.now }
-        requires some { 1 ≤ full.now.generation }
-        ensures { let a = at.entry in result ≡ newest_of a.users.now full.now (remove a.files.now a.place) }
+        requires entry { finmap.get self.now.names.entries first.now ≡ Some entry }
+        requires first { first.now.generation ≡ 1 }
+        requires some { 1 ≤ generation }
+        ensures generation { let a = at.entry in
+            result.generation ≡ newest_of a.users.now first.now (remove a.files.now a.place) }
+        ensures number { result.number ≡ number_in self.now.names.entries
+            (record first.now { generation = result.generation }) }
     {
-        let Some(entry) = self.names.find(first) else {
-            unreachable!()
-        };
-        if entry.newest != full.generation {
-            return entry.newest;
+        if entry.newest != generation {
+            return Newest {
+                generation: entry.newest,
+                number: entry.top,
+            };
         }
         // Most often the version before is there.
-        if self.before(entry, full).is_some() {
-            return full.generation - 1;
+        let number = self.number_before(entry, first, generation);
+        if number.is_some() {
+            return Newest {
+                generation: generation - 1,
+                number,
+            };
         }
-        newest_besides(at.users, full, at.files, at.place)
+        let left = newest_besides(at.users, first, at.files, at.place);
+        let full = Full {
+            generation: left,
+            ..first.copy()
+        };
+        Newest {
+            generation: left,
+            number: self.find(&full),
+        }
     }
 
-    /// The number of the version before this one, where this is known of the first.
-    fn before(&self, first: NameEntry, full: &Full) -> Option<u16>
-        requires first { finmap.get self.now.names.entries (versions_of full.now) ≡ Some first }
-        requires some { 1 ≤ full.now.generation }
+    /// The number of the version before this generation, where the first has this name and this is
+    /// known under it.
+    fn number_before(&self, entry: NameEntry, first: &Full, generation: u16) -> Option<u16>
+        requires entry { finmap.get self.now.names.entries first.now ≡ Some entry }
+        requires first { first.now.generation ≡ 1 }
+        requires some { 1 ≤ generation }
         ensures { result ≡ number_in self.now.names.entries
-            (record full.now { generation = full.now.generation - 1 }) }
+            (record first.now { generation = generation - 1 }) }
     {
-        let generation = full.generation - 1;
-        if generation == 1 {
-            return first.number;
+        let before = generation - 1;
+        if before == 1 {
+            return entry.number;
         }
-        let before = Full {
-            generation,
-            ..full.copy()
+        let full = Full {
+            generation: before,
+            ..first.copy()
         };
-        self.find(&before)
+        self.find(&full)
     }
 
     /// The blocks of the files of the owner of this number, 0 where there is no such user.

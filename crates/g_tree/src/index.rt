@@ -1,7 +1,7 @@
 //! What is known of files by full name.
 ghost use Rattle.std.specs.Prelude.{◌≡◌, ℕ, ◌+◌, ◌≤◌, OnOk, is_some, true};
 ghost use Rattle.std.specs.FinMap as finmap;
-ghost use Rattle.g_tree.specs.State.{raised, settled};
+ghost use Rattle.g_tree.specs.State.{closed, fallen, is_first_of_two, lifted, raised, settled};
 
 use g_base::NoMemory;
 use g_name::Full;
@@ -16,6 +16,36 @@ use std::marker::Model;
 pub(crate) struct NameEntry {
     pub number: Option<u16>,
     pub newest: u16,
+    /// The number of the newest version.
+    pub top: Option<u16>,
+}
+
+/// The newest of a file's versions: its generation and number, or 0 and None where there is none.
+#[derive(Clone, Copy)]
+pub(crate) struct Newest {
+    pub generation: u16,
+    pub number: Option<u16>,
+}
+
+/// The newest of what is known is at least this generation, which has this number.
+pub(crate) fn lifted(entry: NameEntry, newest: u16, number: u16) -> NameEntry
+    ensures { result ≡ lifted entry newest number }
+{
+    if newest < entry.newest {
+        return entry;
+    }
+    NameEntry {
+        number: entry.number,
+        newest,
+        top: Some(number),
+    }
+}
+
+/// Whether there are two versions, the first and the second.
+pub(crate) fn is_first_of_two(entry: NameEntry) -> bool
+    ensures { result ≡ is_first_of_two entry }
+{
+    entry.newest == 2 && entry.number.is_some()
 }
 
 /// A map from full names to what is known under them. Contracts see it beside how many more names fit
@@ -92,30 +122,47 @@ impl Index {
         }
     }
 
-    /// Raises the greatest generation under a name to this one, where the name is there, and tells
-    /// whether it is.
-    pub fn raise(&mut self, full: &Full, newest: u16) -> bool
+    /// Raises the greatest generation under a name to this one, which has this number, where the name is
+    /// there, and tells whether it is.
+    pub fn raise(&mut self, full: &Full, newest: u16, number: u16) -> bool
         ensures there { result ≡ is_some (finmap.get self.old.entries full.now) }
-        ensures entries { self.new.entries ≡ raised self.old.entries full.now newest }
+        ensures entries { self.new.entries ≡ raised self.old.entries full.now newest number }
         ensures spare { self.new.spare ≡ self.old.spare }
     {
-        match self.names.get_mut(full) {
-            Some(there) => {
-                let was = *there;
-                *there = NameEntry {
-                    number: was.number,
-                    newest: was.newest.max(newest),
-                };
-                true
-            }
-            None => false,
-        }
+        let Some(there) = self.names.get_mut(full) else {
+            return false;
+        };
+        *there = lifted(*there, newest, number);
+        true
     }
 
-    /// Sets the greatest generation under a name that is there.
-    pub fn settle(&mut self, full: &Full, newest: u16)
+    /// Where the greatest generation under the name of a first that is there is 2, it is 1 now. What was
+    /// known under the name.
+    pub fn fall(&mut self, full: &Full) -> Option<NameEntry>
+        ensures was { result ≡ finmap.get self.old.entries full.now }
+        ensures entries { self.new.entries ≡ fallen self.old.entries full.now }
+        ensures spare { self.new.spare ≡ self.old.spare }
+    {
+        let Some(there) = self.names.get_mut(full) else {
+            return None;
+        };
+        let was = *there;
+        if is_first_of_two(was) {
+            *there = NameEntry {
+                number: was.number,
+                newest: 1,
+                top: was.number,
+            };
+            return Some(was);
+        }
+        Some(was)
+    }
+
+    /// Sets the newest under a name that is there.
+    pub fn settle(&mut self, full: &Full, newest: Newest)
         requires { is_some (finmap.get self.old.entries full.now) ≡ true }
-        ensures entries { self.new.entries ≡ settled self.old.entries full.now newest }
+        ensures entries { self.new.entries
+            ≡ settled self.old.entries full.now newest.generation newest.number }
         ensures spare { self.new.spare ≡ self.old.spare }
     {
         match self.names.get_mut(full) {
@@ -123,11 +170,37 @@ impl Index {
                 let was = *there;
                 *there = NameEntry {
                     number: was.number,
-                    newest,
+                    newest: newest.generation,
+                    top: newest.number,
                 };
             }
             None => unreachable!(),
         }
+    }
+
+    /// Takes the name of a first generation out by one look-up; where the greatest generation under it
+    /// is behind the first it stays without a number.
+    pub fn close(&mut self, full: &Full)
+        ensures entries { self.new.entries ≡ closed self.old.entries full.now }
+        ensures spare { self.old.spare ≤ self.new.spare }
+    {
+        let Some((place, _name, entry)) = self.names.get_full(full) else {
+            return;
+        };
+        let newest = entry.newest;
+        let top = entry.top;
+        if newest < 2 {
+            self.names.swap_remove_index(place);
+            return;
+        }
+        self.replace(
+            full,
+            NameEntry {
+                number: None,
+                newest,
+                top,
+            },
+        );
     }
 
     pub fn remove(&mut self, full: &Full)

@@ -11,6 +11,7 @@ mod changes;
 mod rights;
 
 use crate::counts::{Counts, versions_of};
+use crate::index::Newest;
 use crate::scan::{place_of, sorted_of};
 use crate::{NumberList, Output};
 use g_base::NoMemory;
@@ -291,6 +292,18 @@ impl Tree {
         requires { first.now.generation ≡ 1 }
         ensures newest { result ≡ newest_of self.now.users first.now self.now.files }
         ensures few { result ≤ 4095 }
+        ensures records { IsRecords self.now.users self.now.files }
+    {
+        self.newest_file(first).generation
+    }
+
+    /// The newest of the versions of the file whose first has this name, in one look-up.
+    pub(crate) fn newest_file(&self, first: &Full) -> Newest
+        requires { first.now.generation ≡ 1 }
+        ensures newest { result.generation ≡ newest_of self.now.users first.now self.now.files }
+        ensures number { result.number ≡ number_of self.now.users self.now.files
+            (record first.now { generation = result.generation }) }
+        ensures few { result.generation ≤ 4095 }
         ensures records { IsRecords self.now.users self.now.files }
     {
         self.counts.newest(first)

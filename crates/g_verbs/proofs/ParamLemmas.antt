@@ -4,11 +4,13 @@ use Rattle.std.specs.Prelude.{if◌then◌else◌, is_some, nat_le, ◌&&◌, �
 use Rattle.std.specs.Fmt.{decimal}
 use Rattle.std.specs.List.{find}
 use Rattle.std.specs.Option.{option_and_then, option_map}
-use Rattle.std.specs.Prelude.{IsOkAnd}
+use Rattle.std.specs.Prelude.{IfSome, IsOkAnd}
 use Rattle.std.specs.Result.{result_ok}
 use Rattle.g_name.specs.declared.bad_name.BadName.{BadName}
 use Rattle.std.proofs.Math.Bridge.{le_prop}
 use Rattle.std.proofs.lemmas.Bool.{and_from, and_parts, cond_both, false≢true}
+use Rattle.std.proofs.lemmas.Fmt.{decimal_digit}
+use Rattle.std.proofs.lemmas.List.{append-nil}
 use Rattle.std.proofs.lemmas.Option.{cond_some, option_and_then_some, same_Some, some_pair_parts}
 use Rattle.g_lang.proofs.ValueLemmas.{behind-append, behind-is, same_text-eq}
 use Rattle.g_lang.specs.Conditions.{is_param_letter}
@@ -32,6 +34,7 @@ use Rattle.g_trap.specs.declared.mode_set.Mode.{Mode}
 use Rattle.g_trap.specs.declared.mode_set.Mode.TheVariants as mode
 use Rattle.g_verbs.specs.Ranges.{IsGeneration, clamped, clamped_range, path_with, unit_with}
 use Rattle.g_verbs.specs.Forms.{IsOf}
+use Rattle.g_verbs.specs.Tables.{IsBeforeDigit}
 use Rattle.g_verbs.specs.VerbReader.{all_modes, amount_read, budget_or, budget_read, digit_unit, file_read, is_of, kind_front, letter_read, local_read, mode_read, unit_read, user_read, whole_path}
 use Rattle.g_monitor.specs.Parts.{mode_word}
 use Rattle.g_verbs.specs.Parameters.{IsAmount, IsFile, IsLocal, IsUnit, IsUser, kind_word, most_of, unit_word}
@@ -117,6 +120,31 @@ pub file-answers : (text : List ℕ) (r : Result Path BadName) (o : Option Path)
     → ((n : Name) → IsName n → text ≡ name_text n → IsOkAnd r (λ p. path_name p ≡ n)) → o ≡ file_read text
 file-answers text (Ok path) o same ok read = same ∙ sym (file-complete path text ok)
 file-answers text (Err e) o same ok read = same ∙ none_file text e (file_read text) refl read
+
+-- a local name with a generation of one digit behind it, or none
+abbrev pub short_name : List ℕ → Option ℕ → Name
+short_name local generation = record { user = None; local = local; generation = generation; lang = None }
+
+short_is : (word : List ℕ) (g : Option ℕ) → is_word word ≡ true → IsGeneration g → IsName (short_name word g)
+short_is word g is range = record { user = tt; local = is; generation = range; lang = tt }
+
+pub file_of_word : (text : List ℕ) (path : Path) → is_word text ≡ true → path_name path ≡ short_name text None → IsFile path text
+file_of_word text path is named = subst (λ (n : Name). IsName n × (text ≡ name_text n)) (sym named) (short_is text None is tt, sym (append-nil text))
+
+pub digit_range : (g : ℕ) → (1 ≤ g) × (g ≤ 9) → IsGeneration (Some g)
+digit_range g range = (range.0, omega (arith, range.1))
+
+file_with_digit : (text word : List ℕ) (g : ℕ) (path : Path) → IsBeforeDigit text word g → is_word word ≡ true → path_name path ≡ short_name word (Some g) → IsFile path text
+file_with_digit text word g path before is named =
+    let small : g < 10 = omega (arith, before.range.1) in
+    let digits : (48 + g) ∷ [] ≡ decimal g = sym (decimal_digit g small) in
+    subst (λ (n : Name). IsName n × (text ≡ name_text n)) (sym named)
+    (short_is word (Some g) is (digit_range g before.range), before.parts ∙ ap (λ (ds : List ℕ). word ++ ((codes "(" ++ ds) ++ codes ")")) digits)
+
+pub digit_file : (text word : List ℕ) (g : ℕ) (o : Option Path) → IsBeforeDigit text word g
+    → IfSome o (λ path. (is_word word ≡ true) × (path_name path ≡ short_name word (Some g))) → IfSome o (λ path. IsFile path text)
+digit_file text word g None before named = tt
+digit_file text word g (Some path) before named = file_with_digit text word g path before named.0 named.1
 
 -- users and local names
 user_sound : (text user : List ℕ) → is_user_text text ≡ true → drop 1 text ≡ user → IsUser user text

@@ -1,5 +1,5 @@
 -- What the values of the code say, and what its functions are handed.
-use Rattle.std.specs.Prelude.{Bool, List, Option, Some, false, length, true, ℕ, ◌<◌, ◌≡◌}
+use Rattle.std.specs.Prelude.{Bool, List, Option, Some, [], false, length, true, ℕ, ◌+◌, ◌++◌, ◌<◌, ◌∷◌, ◌≡◌, ◌≤◌}
 use Rattle.g_verbs.specs.Forms.{Forms}
 use Rattle.g_verbs.specs.VerbReader.{is_of, param}
 use Rattle.g_verbs.specs.declared.form.Form.{Form}
@@ -14,6 +14,11 @@ forms_said f = record { all = f.all.now; least = f.least; any_more = f.any_more 
 pub record IsThere (form : Form) (params : List (List ℕ)) (place : ℕ) : Type 0 where
   pub within : place < length params
   pub fits : is_of form (param params place) ≡ true
+
+-- a text that ends in a generation of one digit in brackets, and what stands before it
+pub record IsBeforeDigit (text : List ℕ) (before : List ℕ) (generation : ℕ) : Type 0 where
+  pub parts : text ≡ before ++ 40 ∷ (48 + generation) ∷ 41 ∷ []
+  pub range : (1 ≤ generation) × (generation ≤ 9)
 
 -- the verb DISPLAY
 abbrev pub is_display : Option Verb → Bool

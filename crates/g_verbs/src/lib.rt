@@ -15,5 +15,5 @@ pub use action::Action;
 pub use fault::VerbFault;
 pub use form::{Form, Forms};
 pub use laws::verbs_are_read_by_their_forms;
-pub use read::read_verb;
+pub use read::{only_file, read_known, read_verb};
 pub use verb::Verb;

@@ -1,6 +1,10 @@
 //! One parameter of each form; none of these takes memory.
-ghost use Rattle.std.specs.Prelude.{◌≡◌};
+ghost use Rattle.std.specs.Prelude.{◌≡◌, None, true, IfSome};
 ghost use Rattle.g_lines.specs.Numbers.{number_read};
+ghost use Rattle.g_name.specs.Grammar.{is_word};
+ghost use Rattle.g_name.specs.Names.{path_name};
+ghost use Rattle.g_verbs.specs.Ranges.{IsGeneration};
+ghost use Rattle.g_verbs.specs.Tables.{IsBeforeDigit};
 ghost use Rattle.g_verbs.specs.VerbReader as how;
 ghost use Rattle.g_verbs.specs.Parameters as parameters;
 
@@ -25,7 +29,55 @@ const MODES: [Mode; 5] = [
 pub(crate) fn file(text: &[u8]) -> Option<Path>
     ensures { result ≡ how.file_read text.now }
 {
-    parse_path(text).ok()
+    match short_file(text) {
+        Some(path) => Some(path),
+        None => parse_path(text).ok(),
+    }
+}
+
+/// The path of a text that is a local name, with a generation of one digit behind it or none, as most are. The other
+/// answer says nothing.
+#[tactic(auto, using(crate::proofs::ParamLemmas::digit_range, crate::proofs::ParamLemmas::file_of_word))]
+fn short_file(text: &[u8]) -> Option<Path>
+    ensures { IfSome result (λ path. parameters.IsFile path text.now) }
+{
+    match split_digit(text) {
+        Some((local, generation)) => named_file(local, Some(generation)),
+        None => named_file(text, None),
+    }
+}
+
+/// What stands before a generation of one digit in its brackets, and the generation.
+fn split_digit(text: &[u8]) -> Option<(&[u8], u16)>
+    ensures { IfSome result (λ parts. IsBeforeDigit text.now parts.0.now parts.1) }
+{
+    match text {
+        [local @ .., open, digit, close] => {
+            if *open == b'(' && *close == b')' && (b'1'..=b'9').contains(digit) {
+                Some((local, u16::from(*digit - b'0')))
+            } else {
+                None
+            }
+        }
+        _ => None,
+    }
+}
+
+/// The path of a local name with this generation, if the word is one.
+fn named_file(word: &[u8], generation: Option<u16>) -> Option<Path>
+    requires { IsGeneration generation }
+    ensures { IfSome result (λ path. (is_word word.now ≡ true)
+        × (path_name path ≡ record { user = None; local = word.now; generation = generation; lang = None })) }
+{
+    match Local::new(word) {
+        Some(local) => Some(Path {
+            user: None,
+            local,
+            generation,
+            lang: None,
+        }),
+        None => None,
+    }
 }
 
 /// A user with its colon.

@@ -27,9 +27,20 @@ pub fn read_verb(name: &Local, rest: Rest) -> Result<Action, VerbFault>
     read_known(verb, name, rest)
 }
 
-/// The same where the verb of the name is known. What is large is made in a function of its own: so no verb pays for
-/// what others make.
-fn read_known(verb: Option<Verb>, name: &Local, rest: Rest) -> Result<Action, VerbFault>
+/// The same where the verb of the name is known already.
+pub fn read_known(verb: Option<Verb>, name: &Local, rest: Rest) -> Result<Action, VerbFault>
+    requires { verb ≡ verbs.verb_of name.now }
+    ensures grammar { verbs.Reads name.now (params_read rest) rest result }
+    ensures one { verbs.IsActionRead (how.action_read name.now (params_read rest) rest) result }
+    ensures sound { IfOk result verbs.IsSound }
+{
+    // It is known from here that the name is a word.
+    let _word = name.as_slice();
+    read_by(verb, name, rest)
+}
+
+/// The same. What is large is made in a function of its own: so no verb pays for what others make.
+fn read_by(verb: Option<Verb>, name: &Local, rest: Rest) -> Result<Action, VerbFault>
     requires { verb ≡ verbs.verb_of name.now }
     ensures { verbs.IsActionRead (how.action_read name.now (params_read rest) rest) result }
 {
@@ -126,8 +137,9 @@ fn is_of_one_file(verb: Option<Verb>) -> bool
     }
 }
 
-/// The file that the only parameter names, if it is the only one.
-fn only_file(rest: &[u8]) -> Option<Path>
+/// The file that the only parameter of those that stand in a text names, if there is one alone: it is what a verb of one
+/// file asks for. It takes no memory.
+pub fn only_file(rest: &[u8]) -> Option<Path>
     ensures { IfSome result (λ path. AreGood (just (form.File ∷ [])) (params_read rest.now)
         × (path ≡ how.file_of (how.param (params_read rest.now) 0))) }
 {
@@ -263,31 +275,25 @@ fn action_of(verb: Verb, rest: Rest) -> Action
     ensures { result ≡ how.action_of verb (params_read rest) rest }
 {
     match verb {
-        Verb::Input => Action::Input {
-            file: asked::only_file(rest.as_slice()),
-        },
-        Verb::Copy => asked::copy(rest.as_slice()),
-        Verb::Append => asked::append(rest.as_slice()),
-        Verb::Erase => Action::Erase {
-            file: asked::only_file(rest.as_slice()),
-        },
-        Verb::Rename => asked::rename(rest.as_slice()),
-        Verb::ListFile => Action::ListFile {
-            file: asked::only_file(rest.as_slice()),
-        },
+        Verb::Input | Verb::Erase | Verb::ListFile | Verb::Retrieve | Verb::Load => {
+            of_file(Some(verb), asked::only_file(rest.as_slice()))
+        }
+        Verb::Copy | Verb::Append | Verb::Plan => {
+            of_two_files(Some(verb), asked::two_files(rest.as_slice()))
+        }
+        Verb::Rename => rename(asked::file_and_local(rest.as_slice())),
         Verb::ListDir => asked::list_dir(rest.as_slice()),
-        Verb::TrapGo => asked::trap_go(rest.as_slice()),
-        Verb::TrapStop => asked::trap_stop(rest.as_slice()),
+        Verb::TrapGo => {
+            let (file, user, modes) = asked::file_user_modes(rest.as_slice());
+            Action::TrapGo { file, user, modes }
+        }
+        Verb::TrapStop => {
+            let (file, user, modes) = asked::file_user_modes(rest.as_slice());
+            Action::TrapStop { file, user, modes }
+        }
         Verb::TrapCheck => asked::trap_check(rest.as_slice()),
         Verb::NewUser => asked::new_user(rest.as_slice()),
         Verb::Budget => asked::budget(rest.as_slice()),
-        Verb::Retrieve => Action::Retrieve {
-            file: asked::only_file(rest.as_slice()),
-        },
-        Verb::Load => Action::Load {
-            file: asked::only_file(rest.as_slice()),
-        },
-        Verb::Plan => asked::plan(rest.as_slice()),
         Verb::Enter => asked::enter(rest.as_slice()),
         Verb::Resume => Action::Resume,
         Verb::Assign => asked::assign(rest.as_slice()),

@@ -221,7 +221,7 @@ fn push_text(said: &mut Text, text: &[u8]) -> Result<(), NoMemory> {
 }
 
 fn push_texts(said: &mut Text, texts: &Texts) -> Result<(), NoMemory> {
-    for text in texts.rows() {
+    for text in texts.as_slice() {
         push_text(said, text.as_slice())?;
     }
     Ok(())

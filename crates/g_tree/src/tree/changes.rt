@@ -6,7 +6,7 @@ ghost use Rattle.std.specs.FinMap as finmap;
 ghost use Rattle.g_entry.specs.Rules.{AreNumbered};
 ghost use Rattle.g_tree.specs.Records.{IsRecords, name_of, full_of, user_row_of, file_row_of, tree_of, by_number, number_of};
 ghost use Rattle.g_tree.specs.Places.{StandsAt};
-ghost use Rattle.g_tree.specs.State.{AreIndexed, AreNewest, AreUsed, room_of, with_file, without_file, without_number};
+ghost use Rattle.g_tree.specs.State.{AreIndexed, AreNewest, AreUsed, IsTopped, room_of, with_file, without_file, without_number};
 
 use crate::counts::{Counts, Standing};
 use crate::scan::{full_of, has_same_name, place_of};
@@ -141,7 +141,7 @@ impl Tree {
             self.renew(place, file);
         } else {
             let was = full_of(self.users.as_slice(), old);
-            self.rename(place, &was, file);
+            self.rename(place, was, file);
         }
     }
 
@@ -162,9 +162,9 @@ impl Tree {
     }
 
     /// Puts a file in the place of the one of its number, whose full name is another.
-    fn rename(&mut self, place: usize, old: &Full, file: FileRec)
+    fn rename(&mut self, place: usize, old: Full, file: FileRec)
         requires at { StandsAt self.old.files file.number place }
-        requires was { (d : FileRec) → old.now
+        requires was { (d : FileRec) → old
             ≡ full_of self.old.users (slice_index_or self.old.files place d) }
         requires room { 1 ≤ self.old.spare }
         requires rules { IsRecords self.old.users (slice_set self.old.files place file) }
@@ -205,7 +205,7 @@ impl Tree {
                     files: self.files.as_slice(),
                     place,
                 };
-                self.counts.take_out(at, &full);
+                self.counts.take_out(at, full);
                 let boxed = self.files.remove(place);
                 let file = boxed.get();
                 self.counts.give(file.owner, file.len);
@@ -297,6 +297,7 @@ fn counts_of(alloc: Global, users: &[UserRec], files: &[FileRec]) -> Result<Coun
     requires { IsRecords users.now files.now }
     ensures index { IfOk result (λ c. AreIndexed users.now files.now c.names.entries) }
     ensures newest { IfOk result (λ c. AreNewest users.now files.now c.names.entries) }
+    ensures topped { IfOk result (λ c. IsTopped c.names.entries) }
     ensures used { IfOk result (λ c. AreUsed files.now c.blocks.items) }
 {
     let mut counts = Counts::new(alloc)?;

@@ -1,4 +1,5 @@
 use Rattle.std.proofs.Common.{◌+◌, ◌∙◌, ap, arith, refl, subst}
+use Rattle.g_base.specs.Fields.{padded}
 use Rattle.g_slots.specs.declared.side.Side.{Side}
 use Rattle.g_slots.specs.Layout.{other}
 use Rattle.g_dirs.specs.Marks.{IsNext}
@@ -23,10 +24,10 @@ pub loop-k-preserved : goal.loop-k-preserved
 loop-k-preserved g c = record {
   within = c.next_marked-k-in-loop-k.ensures.within;
   wrote = wrote_next c.args.slots.now c.args.listing.now c.loop-k.k c.next_marked-k-in-loop-k.result (g.D.Disc.state c.args.disc.now) (g.D.Disc.state c.loop-k.disc)
-      (g.D.Disc.state c.write_page.new.disc) c.args.last.now c.loop-k.last c.write_page.new.last c.block.result.now c.in-Ok.field-0 c.loop-k-test.true
+      (g.D.Disc.state c.write_page.new.disc) c.args.last.now c.loop-k.last c.write_page.new.last (padded 512 c.put_block.new.writer) c.in-Ok.field-0 c.loop-k-test.true
       c.requires.size
       (λ a told. (c.size-size.ensures.blocks a told).0 ∙ c.size-size.ensures.size)
-      c.requires.remembers c.requires.covers c.loop-k.invariant.wrote c.loop-k.invariant.marks (c.block.ensures ∙ c.put_block.ensures)
+      c.requires.remembers c.requires.covers c.loop-k.invariant.wrote c.loop-k.invariant.marks c.put_block.ensures
       c.in-Ok.ensures.ok c.in-Ok.ensures.counts c.in-Ok.ensures.pages
       (subst (λ (s : Side). IsNext (marks_of s c.write_page.new.last) (c.loop-k.k + 1) c.next_marked-k-in-loop-k.result) (c.other-side.ensures ∙ ap other c.side.ensures)
       c.next_marked-k-in-loop-k.ensures);

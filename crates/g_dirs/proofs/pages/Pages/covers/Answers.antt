@@ -9,7 +9,7 @@ loop-k-preserved c =
     elim c.else-next_marked-k.branch [
       | else-next_marked-k-via-then-next_marked-k+else-not-is_remembered w ↦
           remembered_more c.args.listing.now c.args.side c.args.self.now c.loop-k.k
-          (ap (is_remembered (pages_of c.args.side c.args.self.now) c.loop-k.k) (sym w.block.ensures) ∙ sym w.is_remembered.ensures ∙ w.if-not-is_remembered.false)
+          (ap (is_remembered (pages_of c.args.side c.args.self.now) c.loop-k.k) (sym w.written.ensures) ∙ sym w.is_remembered.ensures ∙ w.if-not-is_remembered.false)
           c.loop-k.invariant
       | else-next_marked-k-via-else-next_marked-k w ↦
           marked_more c.args.listing.now c.args.side c.args.self.now c.loop-k.k

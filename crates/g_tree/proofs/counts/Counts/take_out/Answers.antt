@@ -5,8 +5,8 @@ use Rattle.std.proofs.lemmas.List.{get_or_default}
 use Rattle.g_tree.specs.Answers.{newest_of}
 use Rattle.g_tree.specs.State.{HasNumber, later, newest_in}
 use Rattle.g_tree.proofs.FreeLemmas.{no_file}
-use Rattle.g_tree.proofs.CountLemmas.{erased_newest, first_left}
-use Rattle.g_tree.proofs.EntryLemmas.{indexed_out}
+use Rattle.g_tree.proofs.CountLemmas.{erased_newest, first_left, zeroth_none}
+use Rattle.g_tree.proofs.EntryLemmas.{indexed_out, topped_first}
 use Rattle.g_tree.proofs.counts.Counts.take_out.Goals as goal
 
 pub returns-then-full-eq1-clause-index : goal.returns-then-full-eq1-clause-index
@@ -21,7 +21,7 @@ returns-then-full-eq1-clause-newest c =
     let users = c.args.at.users.now in
     let files = c.args.at.files.now in
     let place = c.args.at.place in
-    let full = c.args.full.now in
+    let full = c.args.full in
     let old = c.args.self.now.names.entries in
     let r = get_or files place no_file in
     let here = get_or_default files place no_file r c.requires.there in
@@ -40,7 +40,13 @@ returns-else-full-eq1-clause-newest c =
     let users = c.args.at.users.now in
     let files = c.args.at.files.now in
     let place = c.args.at.place in
-    let full = c.args.full.now in
+    let full = c.args.full in
     let r = get_or files place no_file in
     erased_newest users files place r c.requires.there (get_or_default files place no_file r c.requires.there) (newest_of users full (remove_at files place)) full c.args.self.now.names.entries c.take_later.new.self.names.entries
     c.requires.newest (c.requires.named no_file) refl c.take_later.ensures.newest
+
+pub returns-then-full-eq1-clause-topped : goal.returns-then-full-eq1-clause-topped
+returns-then-full-eq1-clause-topped c =
+    let old = c.args.self.now.names.entries in
+    topped_first old c.take_first.new.self.names.entries c.args.full c.requires.topped c.if-full-eq1.true (zeroth_none c.args.at.users.now c.args.at.files.now old c.args.full c.requires.records c.requires.index)
+    c.take_first.ensures.numbers c.take_first.ensures.newest c.take_first.ensures.top

@@ -70,7 +70,7 @@ invariant_of-self c =
     (erased_used files place r c.self.inside.counts.blocks.items c.self.invariant.used (owner_at users files is place r at.within here) at.within here) in
     subst (λ fs. IsKept users fs c.give.new.self.names.entries c.give.new.self.blocks.items) (sym c.remove-boxed.ensures.items)
     (subst (λ m. IsKept users rest m c.give.new.self.blocks.items) (sym (ap (λ g. g.entries) c.give.ensures.names))
-    (record { records = removed_rules users files is place at.within; index = index; newest = newest; used = used }))
+    (record { records = removed_rules users files is place at.within; index = index; newest = newest; topped = c.take_out.ensures.topped; used = used }))
 
 pub unreachable-requires : goal.unreachable-requires
 unreachable-requires c =

@@ -13,5 +13,6 @@ invariant_of-result c =
       records = c.requires;
       index = subst (λ fs. AreIndexed users fs entries) c.as_slice-2.ensures.value (subst (λ us. AreIndexed us c.as_slice-2.result.now entries) c.as_slice.ensures.value c.in_ok-counts.ensures.index);
       newest = subst (λ fs. AreNewest users fs entries) c.as_slice-2.ensures.value (subst (λ us. AreNewest us c.as_slice-2.result.now entries) c.as_slice.ensures.value c.in_ok-counts.ensures.newest);
+      topped = c.in_ok-counts.ensures.topped;
       used = subst (λ fs. AreUsed fs counts.blocks.items) c.as_slice-2.ensures.value c.in_ok-counts.ensures.used;
     })

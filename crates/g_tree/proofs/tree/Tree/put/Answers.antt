@@ -1,15 +1,15 @@
 -- A file in the place of another, or between others.
-use Rattle.std.proofs.Common.{◌≡◌, ◌≤◌, ◌<◌, ◌⊎◌, ℕ, ◌+◌, List, max, get_or, sym, ap, subst, ◌∙◌, arith, Some, length}
+use Rattle.std.proofs.Common.{◌≡◌, ◌≤◌, ◌<◌, ◌⊎◌, ℕ, ◌+◌, List, max, get_or, refl, sym, ap, subst, ◌∙◌, arith, Some, length}
 use Rattle.std.proofs.Math.ListN.{set}
 use Rattle.std.specs.List as list
 use Rattle.g_base.specs.Block.{blocks_for}
 use Rattle.g_entry.specs.declared.user_rec.UserRec.{UserRec}
 use Rattle.g_entry.specs.declared.file_rec.FileRec.{FileRec}
 use Rattle.g_tree.specs.Records.{IsRecords, full_of, tree_of, number_of}
-use Rattle.g_tree.specs.State.{IsKept, AreIndexed, AreNewest, AreUsed, HasNumber, HasNewest, newest_in, with_file}
+use Rattle.g_tree.specs.State.{IsKept, AreIndexed, AreNewest, AreUsed, HasNumber, HasNewest, HasTop, IsTopped, newest_in, risen, top_in, with_file}
 use Rattle.g_tree.specs.Places.{StandsAt, FitsAt}
 use Rattle.g_tree.proofs.PutLemmas.{owner_there, file_ruled, with_new, with_other, named_fits, still_room}
-use Rattle.g_tree.proofs.EntryLemmas.{indexed_in}
+use Rattle.g_tree.proofs.EntryLemmas.{indexed_in, topped_more}
 use Rattle.g_tree.proofs.LawLemmas.{tree_put}
 use Rattle.g_tree.proofs.CountLemmas.{new_newest, new_used, used_few, owner_few}
 use Rattle.g_tree.proofs.tree.Tree.put.Goals as goal
@@ -96,12 +96,17 @@ invariant_of-self c =
     let newest : AreNewest users (list.insert files place file) c.put.new.self.names.entries =
     new_newest users files place file old c.put.new.self.names.entries c.self.invariant.newest
     (subst (λ us. HasNewest old c.put.new.self.names.entries (full_of us file) (max (newest_in old (full_of us file)) file.generation)) c.as_slice-in-Err.ensures.value c.put.ensures.newest) in
+    let topped : IsTopped c.put.new.self.names.entries =
+    topped_more old c.put.new.self.names.entries (full_of users file) c.self.invariant.topped file.generation file.number refl
+    (subst (λ us. HasNumber old c.put.new.self.names.entries (full_of us file) (Some file.number)) c.as_slice-in-Err.ensures.value c.put.ensures.numbers)
+    (subst (λ us. HasNewest old c.put.new.self.names.entries (full_of us file) (max (newest_in old (full_of us file)) file.generation)) c.as_slice-in-Err.ensures.value c.put.ensures.newest)
+    (subst (λ us. HasTop old c.put.new.self.names.entries (full_of us file) (risen (newest_in old (full_of us file)) (top_in old (full_of us file)) file.generation file.number)) c.as_slice-in-Err.ensures.value c.put.ensures.top) in
     let used : AreUsed (list.insert files place file) c.take.new.self.blocks.items =
     subst (AreUsed (list.insert files place file)) (sym (c.take.ensures.blocks ∙ ap (λ bs. set bs file.owner (get_or bs file.owner 0 + blocks_for file.len)) c.put.ensures.blocks))
     (new_used files place file c.self.inside.counts.blocks.items c.self.invariant.used owner) in
     subst (λ fs. IsKept users fs c.take.new.self.names.entries c.take.new.self.blocks.items) (sym items)
     (subst (λ m. IsKept users (list.insert files place file) m c.take.new.self.blocks.items) (sym (ap (λ g. g.entries) c.take.ensures.names))
-    (record { records = between; index = index; newest = newest; used = used }))
+    (record { records = between; index = index; newest = newest; topped = topped; used = used }))
 
 pub returns-in-Err-clause-files : goal.returns-in-Err-clause-files
 returns-in-Err-clause-files c =

@@ -57,4 +57,4 @@ invariant_of-self c =
     (put_owner users files is c.args.place r at.within here c.args.file rules) at.within here c.give.ensures.blocks) in
     subst (λ (f : FileRec). IsKept users (set files c.args.place f) c.take.new.self.names.entries c.take.new.self.blocks.items) (sym c.set.ensures)
     (subst (λ m. IsKept users (set files c.args.place c.args.file) m c.take.new.self.blocks.items) (sym (ap (λ g. g.entries) (c.take.ensures.names ∙ c.give.ensures.names)))
-    (record { records = rules; index = index; newest = newest; used = used }))
+    (record { records = rules; index = index; newest = newest; topped = c.self.invariant.topped; used = used }))

@@ -1,7 +1,6 @@
 -- Another name than the one before has room, and the same name needs none.
-use Rattle.std.proofs.Common.{◌≡◌, ◌<◌, length, get_or, sym, ap, subst, ◌∙◌}
-use Rattle.std.proofs.Math.ListN.{set}
-use Rattle.g_tree.specs.Records.{IsRecords, full_of, number_of}
+use Rattle.std.proofs.Common.{◌≡◌, get_or, sym, ap, subst, ◌∙◌}
+use Rattle.g_tree.specs.Records.{full_of, number_of}
 use Rattle.g_tree.specs.Places.{StandsAt}
 use Rattle.g_tree.proofs.PutLemmas.{named_apart, stands_named, still_room}
 use Rattle.g_tree.proofs.tree.Tree.replace.Goals as goal

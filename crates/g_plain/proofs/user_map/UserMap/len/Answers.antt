@@ -1,9 +1,0 @@
--- Entries in order are as many as the map has.
-use Rattle.std.proofs.Common.{◌∙◌, ap, sym}
-use Rattle.std.specs.FinMap as map
-use Rattle.g_plain.proofs.Maps.{len-made}
-use Rattle.g_plain.proofs.TextMaps.{text_total, text_exact}
-use Rattle.g_plain.proofs.user_map.UserMap.len.Goals as goal
-
-pub returns : goal.returns
-returns c = c.len.ensures.len ∙ sym (len-made text_total text_exact _ c.len.ensures.ordered) ∙ ap map.len c.self.view_is
