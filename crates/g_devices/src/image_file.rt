@@ -6,7 +6,7 @@ use crate::claim::{Access, claim, sync_folder};
 use crate::names::{FileId, id_of, is_there, open_plain, open_unready};
 use crate::neighbours::Neighbours;
 use crate::reach::Reach;
-use g_base::Block;
+use g_base::{Block, WriteFailed};
 use std::fs::{self, File};
 use std::io::{self, Error, ErrorKind, Read};
 use std::os::unix::fs::FileExt;
@@ -80,26 +80,40 @@ impl ImageFile {
         self.ahead.read(&self.file, GATE, k, into)
     }
 
-    /// Writes block k. Neighbours that are written one behind the other, at most 64, are held and come into the file by one
-    /// call, before any other block is written; where that call fails, the write that makes it fails, what is held is dropped,
-    /// and in the file stands a front of what was written.
-    pub fn write(&mut self, k: u32, block: &Block) -> io::Result<()> {
+    /// Writes block k. One that isn't the neighbour of the block before comes into the file at once. Those behind it that are
+    /// written one behind the other are held, at most 64, and come into the file by one call, before any other block is written;
+    /// where that call fails, the write that makes it fails, what is held is dropped, and in the file stands a front of what was
+    /// written.
+    pub fn write(&mut self, k: u32, block: &Block) -> Result<(), WriteFailed> {
         if k == GATE {
             return self.put(k, block);
         }
         if !self.settled {
             self.settle()?;
         }
-        if !self.held.push(k, block) {
-            self.release()?;
-            let _first = self.held.push(k, block);
+        if self.held.is_next(k) {
+            return self.hold(k, block);
         }
+        if !self.held.is_empty() {
+            self.release()?;
+        }
+        self.held.begin(k.saturating_add(1));
+        self.write_at(k, block)
+    }
+
+    /// Holds block k, the neighbour of the last one; where 64 are held, they are written before.
+    fn hold(&mut self, k: u32, block: &Block) -> Result<(), WriteFailed> {
+        if self.held.is_full() {
+            self.release()?;
+            self.held.begin(k);
+        }
+        self.held.push(block);
         Ok(())
     }
 
     /// Writes these bytes at block k, behind all that is held. The gate, block 0, makes a commit: all that was written before
     /// it is on the device before it, and it is there before all that comes behind it.
-    pub fn put(&mut self, k: u32, bytes: &[u8]) -> io::Result<()> {
+    pub fn put(&mut self, k: u32, bytes: &[u8]) -> Result<(), WriteFailed> {
         if !self.settled {
             self.settle()?;
         }
@@ -121,9 +135,11 @@ impl ImageFile {
 
     /// Brings the gate to the device, before the first write and behind a gate whose sync failed. The system may take
     /// what such a sync didn't bring there for brought, so it is written once more.
-    fn settle(&mut self) -> io::Result<()> {
+    fn settle(&mut self) -> Result<(), WriteFailed> {
         let mut gate = [0; 512];
-        self.file.read_exact_at(&mut gate, start_of(GATE))?;
+        if self.file.read_exact_at(&mut gate, start_of(GATE)).is_err() {
+            return Err(WriteFailed);
+        }
         self.write_at(GATE, &gate)?;
         self.bring()?;
         self.settled = true;
@@ -131,24 +147,29 @@ impl ImageFile {
     }
 
     /// Writes what is held to the file; nothing is held then, also where this fails.
-    fn release(&mut self) -> io::Result<()> {
+    fn release(&mut self) -> Result<(), WriteFailed> {
         self.ahead.forget(0);
         self.reach = Reach::Behind;
-        let written = self.held.write(&self.file);
+        let written = self.held.write(&self.file).is_ok();
         self.held.cut(0);
-        written
+        if written { Ok(()) } else { Err(WriteFailed) }
     }
 
     /// Writes these bytes at block k of the file.
-    fn write_at(&mut self, k: u32, bytes: &[u8]) -> io::Result<()> {
+    fn write_at(&mut self, k: u32, bytes: &[u8]) -> Result<(), WriteFailed> {
         self.ahead.forget(k);
         self.reach = Reach::Behind;
-        self.file.write_all_at(bytes, start_of(k))
+        if self.file.write_all_at(bytes, start_of(k)).is_err() {
+            return Err(WriteFailed);
+        }
+        Ok(())
     }
 
     /// Brings what was written to the device.
-    fn bring(&mut self) -> io::Result<()> {
-        self.file.sync_data()?;
+    fn bring(&mut self) -> Result<(), WriteFailed> {
+        if self.file.sync_data().is_err() {
+            return Err(WriteFailed);
+        }
         self.reach = Reach::There;
         Ok(())
     }

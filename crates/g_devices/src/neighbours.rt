@@ -45,18 +45,28 @@ impl Neighbours {
         self.count == 0
     }
 
-    /// Puts block k behind the others, or as the first where there is none; not where it isn't their neighbour, or where they
-    /// are 64.
-    pub fn push(&mut self, k: u32, block: &Block) -> bool {
-        if self.count == 0 {
-            self.first = k;
+    /// Whether block k is the one behind the others; where there is none, the one that they were to begin with.
+    pub fn is_next(&self, k: u32) -> bool {
+        k >= self.first && k - self.first == self.count
+    }
+
+    /// Whether they are 64.
+    pub fn is_full(&self) -> bool {
+        self.count >= MOST
+    }
+
+    /// Drops them all. The next ones begin with block k.
+    pub fn begin(&mut self, k: u32) {
+        self.first = k;
+        self.count = 0;
+    }
+
+    /// Puts a block behind the others, where they aren't 64.
+    pub fn push(&mut self, block: &Block) {
+        if self.count < MOST {
+            put_block(&mut self.bytes, self.count, block);
+            self.count += 1;
         }
-        if self.count >= MOST || k < self.first || k - self.first != self.count {
-            return false;
-        }
-        put_block(&mut self.bytes, self.count, block);
-        self.count += 1;
-        true
     }
 
     /// Writes them to their places in the file.

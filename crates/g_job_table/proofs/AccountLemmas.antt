@@ -1,14 +1,13 @@
 -- Accounts: where a user's stands, and what ended jobs leave of it.
-use Rattle.std.proofs.Common.{◌≡◌, ⊎_elim, ◌+◌, ◌-◌, ◌<◌, ◌≤◌, ◌∙◌, ◌++◌, ◌∷◌, [], Bool, List, None, Option, Some, ap, append-nil, arith, cond, drop, false, find, get_or, is_some, length, refl, slice_get, subst, suc, sum_by, sym, take, take_all, true, true≢false, unwrap_or, zero, ℕ}
+use Rattle.std.proofs.Common.{◌≡◌, ◌+◌, ◌-◌, ◌<◌, ◌∙◌, ◌++◌, ◌∷◌, [], Bool, List, None, Option, Some, ap, append-nil, arith, cond, drop, false, find, get_or, is_some, length, refl, slice_get, subst, suc, sum_by, sym, take, take_all, true, true≢false, unwrap_or, zero, ℕ}
 use Rattle.std.specs.Option.{option_map, option_or}
-use Rattle.std.proofs.lemmas.Bool.{cases_lt, cond_both, false≢true}
-use Rattle.std.proofs.lemmas.List.{drop_all, get_or_default, same_lists, take_more}
+use Rattle.std.proofs.lemmas.Bool.{cond_both, false≢true}
+use Rattle.std.proofs.lemmas.List.{drop_all, take_more}
 use Rattle.std.proofs.lemmas.List.Elements.{filter_more}
 use Rattle.std.proofs.lemmas.List.Folds.{find-append}
 use Rattle.std.proofs.lemmas.List.Sums.{sum_by-append, sum_by_push}
 use Rattle.std.proofs.lemmas.Option.{none-some, same_Some}
 use Rattle.std.proofs.lemmas.Slice.Eq.{bytes_eq-Decides}
-use Rattle.g_entry.proofs.SameLemmas.{Agree}
 use Rattle.g_name.specs.Order.{same_text}
 use Rattle.g_job_table.specs.Accounts.{AreKept, KeepAccounts, charged, kept_for, left_behind, less}
 use Rattle.g_job_table.specs.Keeping.{IsLeft, IsPlaceFor, empty_for, less_held}
@@ -22,27 +21,6 @@ same_eq a b is = (bytes_eq-Decides a b).0 is
 
 pub same_refl : (a : List ℕ) → same_text a a ≡ true
 same_refl a = (bytes_eq-Decides a a).1 refl
-
--- texts that agree in all bytes
-pub same_whole : (n : ℕ) (xs ys : List ℕ) → length xs ≡ length ys → length xs ≤ n → Agree n xs ys → true ≡ same_text xs ys
-same_whole n xs ys long whole is =
-    let equal : xs ≡ ys =
-    same_lists xs ys long
-    (λ i d within. get_or_default xs i d 0 within ∙ is i (omega (arith, within, whole)) ∙ get_or_default ys i 0 d (omega (arith, within, long))) in
-    sym ((bytes_eq-Decides xs ys).1 equal)
-
--- all but some of the last, and the last four
-same_both : (xs ys : List ℕ) → length xs ≡ length ys → 4 ≤ length xs → ((k : ℕ) → k + 4 ≤ length xs → get_or xs k 0 ≡ get_or ys k 0)
-    → ((k : ℕ) → length xs - 4 ≤ k → k < length xs - 4 + 4 → get_or xs k 0 ≡ get_or ys k 0) → true ≡ same_text xs ys
-same_both xs ys long four front back =
-    same_whole (length xs) xs ys long (omega arith)
-    (λ k below. ⊎_elim (λ (less : k < length xs - 4). front k (omega (arith, less, four))) (λ (past : length xs - 4 ≤ k). back k past (omega (arith, below, four))) (cases_lt k (length xs - 4)))
-
--- by whether the last four are
-pub same_ends : (b : Bool) (xs ys : List ℕ) → length xs ≡ length ys → 4 ≤ length xs → ((k : ℕ) → k + 4 ≤ length xs → get_or xs k 0 ≡ get_or ys k 0)
-    → (b ≡ true → (k : ℕ) → length xs - 4 ≤ k → k < length xs - 4 + 4 → get_or xs k 0 ≡ get_or ys k 0) → (b ≡ false → same_text xs ys ≡ false) → b ≡ same_text xs ys
-same_ends true xs ys long four front back apart = same_both xs ys long four front (back refl)
-same_ends false xs ys long four front back apart = sym (apart refl)
 
 pub apart : (a b u : List ℕ) → same_text a b ≡ false → same_text a u ≡ true → same_text b u ≡ false
 apart a b u other is =

@@ -2,8 +2,8 @@
 ghost use Rattle.std.specs.Prelude.{◌≡◌, ◌++◌, List, MatchOption, None, OnOk, is_some, unwrap_or};
 ghost use Rattle.g_job_table.specs.Accounts.{charged, kept_for};
 ghost use Rattle.g_job_table.specs.Keeping.{IsLeft, IsPlaceFor, Opens, empty_for, less_held};
+ghost use Rattle.g_name.specs.Order.{same_text};
 
-use crate::same::same_user;
 use g_base::NoMemory;
 use g_entry::UserRec;
 use g_job::Job;
@@ -113,4 +113,11 @@ pub(crate) fn left_for(accounts: &[Account], jobs: &[Job], user: &User) -> Accou
         left = less_held(left, job, user);
     }
     left
+}
+
+/// Whether both names are the same.
+fn same_user(one: &User, other: &User) -> bool
+    ensures { result ≡ same_text one.now other.now }
+{
+    one == other
 }

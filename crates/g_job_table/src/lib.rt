@@ -7,7 +7,6 @@ mod choice;
 mod crew;
 mod files;
 mod place;
-mod same;
 mod seating;
 mod seats;
 mod taken;

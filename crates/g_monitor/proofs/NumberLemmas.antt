@@ -1,10 +1,12 @@
 -- Each text begins with its number.
-use Rattle.std.proofs.Common.{◌≡◌, List, [], ℕ, true, ◌+◌, ◌/◌, ◌%◌, ◌<◌, ◌≤◌, ◌^◌, ◌∷◌, ◌++◌, refl, sym, ap, ◌∙◌, arith}
+use Rattle.std.proofs.Common.{◌≡◌, List, [], length, ℕ, true, ◌+◌, ◌/◌, ◌%◌, ◌<◌, ◌≤◌, ◌^◌, ◌∷◌, ◌++◌, refl, sym, ap, ◌∙◌, arith}
 use Rattle.std.proofs.Math.Dec.{leb, ltb}
-use Rattle.std.proofs.lemmas.Bool.{leb-true, ltb-true}
+use Rattle.std.proofs.lemmas.Bool.{and_parts, leb-true, ltb-true}
 use Rattle.std.proofs.lemmas.Fmt.{decimal_digit, decimal_step}
-use Rattle.std.specs.Prelude.{codes}
+use Rattle.std.specs.List.{list_all}
+use Rattle.std.specs.Prelude.{codes, nat_le, ◌&&◌}
 use Rattle.std.specs.Fmt.{decimal}
+use Rattle.g_name.specs.Grammar.{is_lang, is_letter, is_name_char, is_word}
 use Rattle.g_plain.specs.declared.faults.StoreFault.{StoreFault}
 use Rattle.g_plain.specs.declared.faults.StoreFault.TheVariants as fault
 use Rattle.g_plain.specs.Faults.{fault_number}
@@ -15,6 +17,16 @@ use Rattle.g_monitor.specs.Refusals.{IsPrinted, fault_line, error_line, error_nu
 
 pub only_digit : (n digit : ℕ) → n < 10 → digit ≡ 48 + n → decimal n ≡ digit ∷ []
 only_digit n digit small is = decimal_digit n small ∙ ap (λ (d : ℕ). d ∷ []) (sym is)
+
+-- how long the parts of a name may be
+pub word_short : (word : List ℕ) → is_word word ≡ true → length word ≤ 12
+word_short [] is = omega arith
+word_short (first ∷ others) is =
+    let few : nat_le (length others) 11 ≡ true = (and_parts (is_letter first) (nat_le (length others) 11) (and_parts (is_letter first && nat_le (length others) 11) (list_all is_name_char others) is).0).1 in
+    omega (arith, leb-true (length others) 11 few)
+
+pub lang_short : (lang : List ℕ) → is_lang lang ≡ true → length lang ≤ 4
+lang_short lang is = leb-true (length lang) 4 (and_parts (nat_le (length lang) 4) (list_all is_name_char lang) is).0
 
 -- the text is the number, a space and what stands behind
 abbrev Numbered : ℕ → List ℕ → Type 0

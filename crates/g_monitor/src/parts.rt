@@ -1,14 +1,17 @@
 //! The parts of lines: numbers, full names, modes and words of a program.
 ghost use Rattle.std.specs.Fmt.{decimal};
-ghost use Rattle.std.specs.Prelude.{◌≡◌, ◌++◌, ◌∷◌, [], IfSome, OnOk};
+ghost use Rattle.std.specs.Prelude.{◌≡◌, ◌≤◌, ◌+◌, ◌++◌, ◌∷◌, [], length, IfSome, OnOk};
+ghost use Rattle.arrayvec.specs.ArrayVec.{array_vec_len};
 ghost use Rattle.g_word.specs.Octal.{octal_digits};
 ghost use Rattle.g_monitor.specs.Parts.{mode_word, full_text, shown_mode, modes_text, with_number, with_numbers, with_copy};
 
+use arrayvec::ArrayVec;
 use g_base::NoMemory;
 use g_lines::push_decimal;
 use g_name::{Full, Text};
 use g_trap::{Mode, Modes};
 use g_word::Word;
+use itoa::Buffer;
 
 /// The word for a mode, as commands and texts write it.
 pub fn mode_word(mode: Mode) -> &'static [u8]
@@ -23,19 +26,52 @@ pub fn mode_word(mode: Mode) -> &'static [u8]
     }
 }
 
-/// Puts the text of a full name behind the text. Where memory is wanting, a front of it may stand there.
+/// Puts the text of a full name behind the text; without memory the text stays as it was.
 pub fn push_full(text: &mut Text, full: &Full) -> Result<(), NoMemory>
     ensures { OnOk result (text.new ≡ text.old ++ full_text full.now) }
 {
-    text.push(b':')?;
-    text.extend(full.user.as_slice())?;
-    text.push(b'.')?;
-    text.extend(full.local.as_slice())?;
-    text.push(b'(')?;
-    push_generation(text, full.generation)?;
-    text.push(b'/')?;
-    text.extend(full.lang.as_slice())?;
-    text.push(b')')
+    let name = text_of_full(full);
+    text.extend(name.as_slice())
+}
+
+/// The text of a full name, which has at most 38 bytes and takes no memory here: so one place alone asks for room.
+fn text_of_full(full: &Full) -> ArrayVec<u8, 40>
+    ensures { result.items ≡ full_text full.now }
+{
+    let mut name = ArrayVec::new();
+    name.push(b':');
+    put(&mut name, full.user.as_slice());
+    name.push(b'.');
+    put(&mut name, full.local.as_slice());
+    name.push(b'(');
+    put_generation(&mut name, full.generation);
+    name.push(b'/');
+    put(&mut name, full.lang.as_slice());
+    name.push(b')');
+    name
+}
+
+/// Puts a few bytes behind those of a name.
+fn put(name: &mut ArrayVec<u8, 40>, bytes: &[u8])
+    requires { array_vec_len name.old + length bytes.now ≤ 40 }
+    ensures items { name.new.items ≡ name.old.items ++ bytes.now }
+    ensures len { array_vec_len name.new ≡ array_vec_len name.old + length bytes.now }
+{
+    for byte in bytes {
+        name.push(*byte);
+    }
+}
+
+/// Puts the digits of a generation behind a name. Most generations have one.
+fn put_generation(name: &mut ArrayVec<u8, 40>, generation: u16)
+    requires { array_vec_len name.old + 5 ≤ 40 }
+    ensures items { name.new.items ≡ name.old.items ++ decimal generation }
+    ensures len { array_vec_len name.new ≤ array_vec_len name.old + 5 }
+{
+    match only_digit(generation) {
+        Some(digit) => name.push(digit),
+        None => put(name, Buffer::new().format(generation).as_bytes()),
+    }
 }
 
 /// Puts the digits of a generation behind the text. Most generations have one.

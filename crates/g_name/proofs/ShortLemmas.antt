@@ -1,5 +1,5 @@
 -- Short texts: how they are made, and that their bytes with the zeros behind tell them apart.
-use Rattle.std.proofs.Common.{◌≡◌, ℕ, ◌+◌, ◌-◌, ◌<◌, ◌≤◌, Bool, List, ◌++◌, length, take, drop, replicate, sym, ap, ◌∙◌, arith, length-append, length-set, length-take-le, take-append-drop}
+use Rattle.std.proofs.Common.{◌≡◌, ℕ, ◌+◌, ◌-◌, ◌<◌, ◌≤◌, Bool, List, ◌++◌, length, take, drop, replicate, sym, ap, ◌∙◌, arith, length-append, length-set}
 use Rattle.std.proofs.Math.ListN.{set}
 use Rattle.std.proofs.Math.Seq.{drop-append_seam}
 use Rattle.std.proofs.lemmas.List.{length-replicate, drop-set-lt, drop-drop, drop-replicate}

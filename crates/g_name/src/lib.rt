@@ -12,6 +12,7 @@ mod path_reader;
 mod short;
 mod text;
 mod user;
+mod word;
 
 pub use bad_name::BadName;
 pub use full::Full;

@@ -5,24 +5,22 @@ ghost use Rattle.g_name.specs.Grammar.{is_word};
 ghost use Rattle.g_name.specs.Names.{IsLocalText};
 
 use crate::short::Short;
+use crate::word::Word;
 use crate::{BadName, grammar};
 use std::marker::Model;
 
 /// The name of a file within its user: 1 to 12 of `A` to `Z`, `0` to `9` and `-`, the first a letter. Names are in the order of their bytes.
 #[derive(Debug, Drop, PartialEq, Eq, PartialOrd, Ord, Hash)]
 pub struct Local {
-    word: Short<16>,
+    word: Word,
 }
 
 impl Model for Local {
-    ghost use Rattle.std.specs.Prelude.{◌≡◌, ℕ, List, true};
-    ghost use Rattle.g_name.specs.Grammar.{is_word};
+    ghost use Rattle.std.specs.Prelude.{ℕ, List};
 
     ghost Value = { List ℕ };
 
     ghost view = { λ l. l.word };
-
-    ghost invariant = { λ l. is_word l.word ≡ true };
 
     ghost inverse = { λ xs. record { word = xs } };
 }
@@ -33,13 +31,8 @@ impl Local {
         ensures word { IsSome result ↔ (is_word word.now ≡ true) }
         ensures value { IfSome result (λ l. l ≡ word.now) }
     {
-        if grammar::is_word(word) {
-            Some(Local {
-                word: Short::of(word),
-            })
-        } else {
-            None
-        }
+        let word = Word::new(word)?;
+        Some(Local { word })
     }
 
     /// The local name that a text is.
@@ -60,7 +53,9 @@ impl Local {
         requires { is_word word ≡ true }
         ensures { result ≡ word }
     {
-        Local { word }
+        Local {
+            word: Word::of(word),
+        }
     }
 
     /// The characters.

@@ -5,24 +5,22 @@ ghost use Rattle.g_name.specs.Grammar.{is_word, is_user_text};
 ghost use Rattle.g_name.specs.Names.{IsUserText};
 
 use crate::short::Short;
+use crate::word::Word;
 use crate::{BadName, grammar};
 use std::marker::Model;
 
 /// The name of a user without its colon: 1 to 12 of `A` to `Z`, `0` to `9` and `-`, the first a letter. Names are in the order of their bytes.
 #[derive(Debug, Drop, PartialEq, Eq, PartialOrd, Ord, Hash)]
 pub struct User {
-    word: Short<16>,
+    word: Word,
 }
 
 impl Model for User {
-    ghost use Rattle.std.specs.Prelude.{◌≡◌, ℕ, List, true};
-    ghost use Rattle.g_name.specs.Grammar.{is_word};
+    ghost use Rattle.std.specs.Prelude.{ℕ, List};
 
     ghost Value = { List ℕ };
 
     ghost view = { λ u. u.word };
-
-    ghost invariant = { λ u. is_word u.word ≡ true };
 
     ghost inverse = { λ xs. record { word = xs } };
 }
@@ -33,13 +31,8 @@ impl User {
         ensures word { IsSome result ↔ (is_word word.now ≡ true) }
         ensures value { IfSome result (λ u. u ≡ word.now) }
     {
-        if grammar::is_word(word) {
-            Some(User {
-                word: Short::of(word),
-            })
-        } else {
-            None
-        }
+        let word = Word::new(word)?;
+        Some(User { word })
     }
 
     /// The user that a text with a colon is.
@@ -66,7 +59,7 @@ impl User {
         ensures { result ≡ codes "MASTER" }
     {
         User {
-            word: Short::of(b"MASTER"),
+            word: Word::of(Short::of(b"MASTER")),
         }
     }
 
@@ -75,7 +68,7 @@ impl User {
         ensures { result ≡ codes "MACROS" }
     {
         User {
-            word: Short::of(b"MACROS"),
+            word: Word::of(Short::of(b"MACROS")),
         }
     }
 
@@ -84,7 +77,9 @@ impl User {
         requires { is_word word ≡ true }
         ensures { result ≡ word }
     {
-        User { word }
+        User {
+            word: Word::of(word),
+        }
     }
 
     /// The characters.

@@ -47,32 +47,9 @@ pub(crate) fn end_turn<K: Sink, D: Disc, T: Tapes>(
     }
 }
 
-/// The turn of a job at no terminal is over.
+/// The turn of a job at no terminal is over. Nearly each turn ends as Ran: the functions of the other ends are cold, so that it is
+/// asked for first.
 fn end_untold<K: Sink, D: Disc, T: Tapes>(
-    alloc: Global,
-    up: &mut DayUp<D, T>,
-    number: u64,
-    turn: Turn,
-    out: &mut K,
-) -> Option<Failure>
-    requires stopped { (up.old.store.running.spent ≡ true) ↔ (turn ≡ Turn.Broken) }
-    requires there { (job : JobState) × (job_in number up.old.crew.jobs ≡ Some job) × (job.terminal ≡ None) }
-    requires accounts { HaveAll up.old.store up.old.crew }
-    ensures ends { EndsTurn up.old.count number up.old.store.running up.old.crew [] turn result (left_of up.new.store.running) up.new.crew
-        (K.written out.old) (K.written out.new) (K.faults out.old) (K.faults out.new) }
-    ensures count { up.new.count ≡ up.old.count }
-    ensures accounts { result ≡ None → up.new.store.running.spent ≡ false → HaveAll up.new.store up.new.crew }
-{
-    match turn {
-        Turn::Ran { .. } => goes_on(up),
-        other => end_any(alloc, up, number, other, out),
-    }
-}
-
-/// The same, however the turn ended.
-// Nearly each turn ends as Ran, which is asked for first: a function of its own keeps the others out of it.
-#[inline(never)]
-fn end_any<K: Sink, D: Disc, T: Tapes>(
     alloc: Global,
     up: &mut DayUp<D, T>,
     number: u64,
@@ -97,6 +74,7 @@ fn end_any<K: Sink, D: Disc, T: Tapes>(
 
 /// The system was stopped.
 // A tick seldom comes to it: a function of its own keeps its room out of each.
+#[cold]
 #[inline(never)]
 fn stops<K: Sink, D: Disc, T: Tapes>(
     alloc: Global,
@@ -132,6 +110,7 @@ fn goes_on<D: Disc, T: Tapes>(up: &mut DayUp<D, T>) -> Option<Failure>
 
 /// The job waits for this reel.
 // A tick seldom comes to it: a function of its own keeps its room out of each.
+#[cold]
 #[inline(never)]
 fn waits<K: Sink, D: Disc, T: Tapes>(
     alloc: Global,
@@ -168,6 +147,7 @@ pub(crate) fn wants(alloc: Global, number: u64, serial: u32) -> Result<Text, NoM
 
 /// The job of this number has ended: it is taken out, and its file put.
 // A tick seldom comes to it: a function of its own keeps its room out of each.
+#[cold]
 #[inline(never)]
 fn ends<K: Sink, D: Disc, T: Tapes>(
     up: &mut DayUp<D, T>,

@@ -17,7 +17,6 @@ use Rattle.g_macro.specs.Levels.{holds}
 use Rattle.g_plain.specs.Programs.{Gives}
 use Rattle.g_verbs.specs.Verbs.{IsActionRead}
 use Rattle.g_verbs.specs.declared.action.Action.{Action}
-use Rattle.g_verbs.specs.declared.action.Action.TheVariants as action
 use Rattle.g_verbs.specs.declared.fault.VerbFault.{VerbFault}
 use Rattle.g_verbs.specs.declared.fault.VerbFault.TheVariants.{BadParameter}
 
@@ -77,7 +76,3 @@ met_holds whole inner cond w (Some other) is spoken on met = (
 -- the index that a refusal of a verb tells, however it is taken out
 pub index_read : (index : VerbFault → ℕ) → ((n : ℕ) → index (BadParameter n) ≡ n) → (asked : Result Action ℕ) (fault : VerbFault) → IsActionRead asked (Err fault) → asked ≡ Err (index fault)
 index_read index is asked (BadParameter n) read = read ∙ ap (λ (m : ℕ). let r : Result Action ℕ = Err m in r) (sym (is n))
-
--- the text that a DISPLAY was read to say
-pub text_read : (asked : Result Action ℕ) (a : Action) (text : List ℕ) → a ≡ action.Display text → IsActionRead asked (Ok a) → asked ≡ Ok (action.Display text)
-text_read asked a text is read = subst (λ (b : Action). IsActionRead asked (Ok b)) is read

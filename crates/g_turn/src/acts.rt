@@ -237,7 +237,7 @@ impl Work {
     }
 
     /// INPUT: the lines up to `////` are put, and passed over whatever that answers.
-    fn input<S: Filestore>(
+    pub(crate) fn input<S: Filestore>(
         &mut self,
         store: &mut S,
         asker: &Asker<'_>,

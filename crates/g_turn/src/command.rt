@@ -1,5 +1,5 @@
 //! One command of a line: GOTO, IF, WHENEVER, or a verb.
-ghost use Rattle.std.specs.Prelude.{◌≡◌, ◌≤◌, ◌+◌, ◌<◌, ℕ, false, length, IfSome, OnErr, OnOk};
+ghost use Rattle.std.specs.Prelude.{◌≡◌, ◌≤◌, ◌+◌, ◌<◌, ℕ, Some, false, length, IfSome, OnErr, OnOk};
 ghost use Rattle.g_turn.specs.Commands as commands;
 ghost use Rattle.g_turn.specs.LineMeaning.{IsBare, IsSpoken, Met};
 ghost use Rattle.g_turn.specs.Outcomes as said;
@@ -11,16 +11,20 @@ ghost use Rattle.g_macro.specs.Levels.{current, line_of_label};
 ghost use Rattle.g_plain.specs.Programs.{RanInPart};
 ghost use Rattle.g_monitor.specs.declared.errors.CommandError.TheVariants as errors;
 ghost use Rattle.g_verbs.specs.VerbReader.{action_read};
+ghost use Rattle.g_verbs.specs.Verbs.{verb_of};
+ghost use Rattle.g_verbs.specs.declared.verb.Verb.TheVariants as verb;
 
 use crate::asker::Asker;
+use crate::uses::Use;
 use crate::work::Work;
 use g_base::NoMemory;
 use g_lang::{Command, Cond, Label, Rest};
 use g_macro::MacroFault;
 use g_monitor::CommandError;
 use g_name::{Local, Text};
-use g_plain::Filestore;
-use g_verbs::{Action, VerbFault, read_verb};
+use g_plain::{Filestore, StoreCall};
+use g_trap::Mode;
+use g_verbs::{Verb, VerbFault, only_file, read_known};
 use std::alloc::Global;
 
 /// A verb's line: its name, and the text in which its parameters stand.
@@ -185,7 +189,7 @@ impl Work {
         }
     }
 
-    /// A verb, or a macro.
+    /// A verb, or a macro. An action is large: so the most common verbs do without one, each in a function of its own.
     fn verb<S: Filestore>(
         &mut self,
         store: &mut S,
@@ -207,12 +211,168 @@ impl Work {
         ensures same_waits { (s : ℕ) → S.can_wait store.new s ≡ S.can_wait store.old s }
         ensures blocks { OnOk result (self.new.blocks ≤ self.old.blocks + 2048) }
     {
-        let VerbLine { name, rest } = line;
-        match read_verb(&name, rest) {
-            // An action is large: so that of the most common verb isn't moved on.
-            Ok(Action::Display { text }) => {
-                self.display(asker.alloc, asker.room, text.as_slice())
+        match Verb::of(line.name.as_slice()) {
+            Some(Verb::Input) => self.input_line(store, asker, by, line),
+            Some(Verb::Erase) => self.erase_line(store, asker, by, line),
+            Some(Verb::ListFile) => self.list_line(store, asker, by, line),
+            Some(Verb::Display) => self.display_line(store, asker, by, line),
+            verb => self.any_verb(store, asker, by, verb, line),
+        }
+    }
+
+    /// INPUT, mostly of a file.
+    fn input_line<S: Filestore>(
+        &mut self,
+        store: &mut S,
+        asker: &Asker<'_>,
+        by: bool,
+        line: VerbLine,
+    ) -> Result<(), NoMemory>
+        requires running { S.is_spent store.old ≡ false }
+        requires open { said.is_over self.old ≡ false }
+        requires few { self.old.blocks ≤ 2048 }
+        requires level { 0 < length self.old.desk.levels.levels }
+        requires verb { verb_of line.name ≡ Some verb.Input }
+        ensures ok { OnOk result (RanWell S.answers S.is_spent S.can_wait asker.now.who.now store.old
+            (commands.acted asker.now.room asker.now.who.now by line.name (action_read line.name (params_read line.rest) line.rest) self.old)
+            self.new store.new) }
+        ensures err { OnErr result (RanInPart S.answers asker.now.who.now store.old
+            (commands.acted asker.now.room asker.now.who.now by line.name (action_read line.name (params_read line.rest) line.rest) self.old)
+            store.new) }
+        ensures live { OnOk result (said.is_over self.new ≡ false → S.is_spent store.new ≡ false) }
+        ensures same_waits { (s : ℕ) → S.can_wait store.new s ≡ S.can_wait store.old s }
+        ensures blocks { OnOk result (self.new.blocks ≤ self.old.blocks + 2048) }
+    {
+        // It is known from here that the name is a word.
+        let _word = line.name.as_slice();
+        match only_file(line.rest.as_slice()) {
+            Some(file) => self.input(store, asker, file),
+            None => self.any_verb(store, asker, by, Some(Verb::Input), line),
+        }
+    }
+
+    /// ERASE, mostly of a file.
+    fn erase_line<S: Filestore>(
+        &mut self,
+        store: &mut S,
+        asker: &Asker<'_>,
+        by: bool,
+        line: VerbLine,
+    ) -> Result<(), NoMemory>
+        requires running { S.is_spent store.old ≡ false }
+        requires open { said.is_over self.old ≡ false }
+        requires few { self.old.blocks ≤ 2048 }
+        requires level { 0 < length self.old.desk.levels.levels }
+        requires verb { verb_of line.name ≡ Some verb.Erase }
+        ensures ok { OnOk result (RanWell S.answers S.is_spent S.can_wait asker.now.who.now store.old
+            (commands.acted asker.now.room asker.now.who.now by line.name (action_read line.name (params_read line.rest) line.rest) self.old)
+            self.new store.new) }
+        ensures err { OnErr result (RanInPart S.answers asker.now.who.now store.old
+            (commands.acted asker.now.room asker.now.who.now by line.name (action_read line.name (params_read line.rest) line.rest) self.old)
+            store.new) }
+        ensures live { OnOk result (said.is_over self.new ≡ false → S.is_spent store.new ≡ false) }
+        ensures same_waits { (s : ℕ) → S.can_wait store.new s ≡ S.can_wait store.old s }
+        ensures blocks { OnOk result (self.new.blocks ≤ self.old.blocks + 2048) }
+    {
+        // It is known from here that the name is a word.
+        let _word = line.name.as_slice();
+        match only_file(line.rest.as_slice()) {
+            Some(path) => {
+                let call = StoreCall::Erase { path };
+                self.one_call(store, asker, &call)
             }
+            None => self.any_verb(store, asker, by, Some(Verb::Erase), line),
+        }
+    }
+
+    /// LISTFILE, mostly of a file.
+    fn list_line<S: Filestore>(
+        &mut self,
+        store: &mut S,
+        asker: &Asker<'_>,
+        by: bool,
+        line: VerbLine,
+    ) -> Result<(), NoMemory>
+        requires running { S.is_spent store.old ≡ false }
+        requires open { said.is_over self.old ≡ false }
+        requires few { self.old.blocks ≤ 2048 }
+        requires level { 0 < length self.old.desk.levels.levels }
+        requires verb { verb_of line.name ≡ Some verb.ListFile }
+        ensures ok { OnOk result (RanWell S.answers S.is_spent S.can_wait asker.now.who.now store.old
+            (commands.acted asker.now.room asker.now.who.now by line.name (action_read line.name (params_read line.rest) line.rest) self.old)
+            self.new store.new) }
+        ensures err { OnErr result (RanInPart S.answers asker.now.who.now store.old
+            (commands.acted asker.now.room asker.now.who.now by line.name (action_read line.name (params_read line.rest) line.rest) self.old)
+            store.new) }
+        ensures live { OnOk result (said.is_over self.new ≡ false → S.is_spent store.new ≡ false) }
+        ensures same_waits { (s : ℕ) → S.can_wait store.new s ≡ S.can_wait store.old s }
+        ensures blocks { OnOk result (self.new.blocks ≤ self.old.blocks + 2048) }
+    {
+        // It is known from here that the name is a word.
+        let _word = line.name.as_slice();
+        match only_file(line.rest.as_slice()) {
+            Some(file) => self.fetch(store, asker, (file, Mode::Read), Use::List),
+            None => self.any_verb(store, asker, by, Some(Verb::ListFile), line),
+        }
+    }
+
+    /// DISPLAY, mostly of a text.
+    fn display_line<S: Filestore>(
+        &mut self,
+        store: &mut S,
+        asker: &Asker<'_>,
+        by: bool,
+        line: VerbLine,
+    ) -> Result<(), NoMemory>
+        requires running { S.is_spent store.old ≡ false }
+        requires open { said.is_over self.old ≡ false }
+        requires few { self.old.blocks ≤ 2048 }
+        requires level { 0 < length self.old.desk.levels.levels }
+        requires verb { verb_of line.name ≡ Some verb.Display }
+        ensures ok { OnOk result (RanWell S.answers S.is_spent S.can_wait asker.now.who.now store.old
+            (commands.acted asker.now.room asker.now.who.now by line.name (action_read line.name (params_read line.rest) line.rest) self.old)
+            self.new store.new) }
+        ensures err { OnErr result (RanInPart S.answers asker.now.who.now store.old
+            (commands.acted asker.now.room asker.now.who.now by line.name (action_read line.name (params_read line.rest) line.rest) self.old)
+            store.new) }
+        ensures live { OnOk result (said.is_over self.new ≡ false → S.is_spent store.new ≡ false) }
+        ensures same_waits { (s : ℕ) → S.can_wait store.new s ≡ S.can_wait store.old s }
+        ensures blocks { OnOk result (self.new.blocks ≤ self.old.blocks + 2048) }
+    {
+        // It is known from here that the name is a word.
+        let _word = line.name.as_slice();
+        if line.rest.as_slice().is_empty() {
+            return self.any_verb(store, asker, by, Some(Verb::Display), line);
+        }
+        self.display(asker.alloc, asker.room, line.rest.as_slice())
+    }
+
+    /// Any verb, which is this one, or a macro.
+    fn any_verb<S: Filestore>(
+        &mut self,
+        store: &mut S,
+        asker: &Asker<'_>,
+        by: bool,
+        verb: Option<Verb>,
+        line: VerbLine,
+    ) -> Result<(), NoMemory>
+        requires running { S.is_spent store.old ≡ false }
+        requires open { said.is_over self.old ≡ false }
+        requires few { self.old.blocks ≤ 2048 }
+        requires level { 0 < length self.old.desk.levels.levels }
+        requires verb { verb ≡ verb_of line.name }
+        ensures ok { OnOk result (RanWell S.answers S.is_spent S.can_wait asker.now.who.now store.old
+            (commands.acted asker.now.room asker.now.who.now by line.name (action_read line.name (params_read line.rest) line.rest) self.old)
+            self.new store.new) }
+        ensures err { OnErr result (RanInPart S.answers asker.now.who.now store.old
+            (commands.acted asker.now.room asker.now.who.now by line.name (action_read line.name (params_read line.rest) line.rest) self.old)
+            store.new) }
+        ensures live { OnOk result (said.is_over self.new ≡ false → S.is_spent store.new ≡ false) }
+        ensures same_waits { (s : ℕ) → S.can_wait store.new s ≡ S.can_wait store.old s }
+        ensures blocks { OnOk result (self.new.blocks ≤ self.old.blocks + 2048) }
+    {
+        let VerbLine { name, rest } = line;
+        match read_known(verb, &name, rest) {
             Ok(action) => self.act(store, asker, by, action),
             Err(VerbFault::BadParameter(index)) => {
                 self.bad_parameter(asker.alloc, asker.room, &name, index)

@@ -1,5 +1,5 @@
 //! What each verb asks for, from parameters that are good. `params` is the text in which they stand.
-ghost use Rattle.std.specs.Prelude.{◌≡◌, [], ◌∷◌};
+ghost use Rattle.std.specs.Prelude.{◌≡◌, [], ◌∷◌, drop};
 ghost use Rattle.g_lang.specs.LineReader.{params_read};
 ghost use Rattle.g_verbs.specs.Forms as forms;
 ghost use Rattle.g_verbs.specs.Forms.{AreGood};
@@ -14,8 +14,9 @@ use crate::values::{
     user_at, user_if_at,
 };
 use g_lang::{Param, Rest};
-use g_name::Path;
+use g_name::{Local, Path, User};
 use g_plain::BudgetKind;
+use g_trap::Modes;
 
 /// The file of a verb that takes one file alone.
 pub(crate) fn only_file(params: &[u8]) -> Path
@@ -25,48 +26,22 @@ pub(crate) fn only_file(params: &[u8]) -> Path
     file_at(params, 0)
 }
 
-/// COPY with both files.
-pub(crate) fn copy(params: &[u8]) -> Action
-    requires { AreGood (verbs.verb_forms verb.Copy) (params_read params.now) }
-    ensures { result ≡ how.action_of verb.Copy (params_read params.now) [] }
+/// The files of a verb that takes two files alone.
+pub(crate) fn two_files(params: &[u8]) -> (Path, Path)
+    requires { AreGood (forms.just (form.File ∷ form.File ∷ [])) (params_read params.now) }
+    ensures from { result.0 ≡ how.file_of (how.param (params_read params.now) 0) }
+    ensures to { result.1 ≡ how.file_of (how.param (params_read params.now) 1) }
 {
-    Action::Copy {
-        from: file_at(params, 0),
-        to: file_at(params, 1),
-    }
+    (file_at(params, 0), file_at(params, 1))
 }
 
-/// APPEND with both files.
-pub(crate) fn append(params: &[u8]) -> Action
-    requires { AreGood (verbs.verb_forms verb.Append) (params_read params.now) }
-    ensures { result ≡ how.action_of verb.Append (params_read params.now) [] }
+/// The file of RENAME and its new name.
+pub(crate) fn file_and_local(params: &[u8]) -> (Path, Local)
+    requires { AreGood (forms.just (form.File ∷ form.Local ∷ [])) (params_read params.now) }
+    ensures file { result.0 ≡ how.file_of (how.param (params_read params.now) 0) }
+    ensures to { result.1 ≡ how.local_of (how.param (params_read params.now) 1) }
 {
-    Action::Append {
-        from: file_at(params, 0),
-        to: file_at(params, 1),
-    }
-}
-
-/// PLAN with its source and its program file.
-pub(crate) fn plan(params: &[u8]) -> Action
-    requires { AreGood (verbs.verb_forms verb.Plan) (params_read params.now) }
-    ensures { result ≡ how.action_of verb.Plan (params_read params.now) [] }
-{
-    Action::Plan {
-        from: file_at(params, 0),
-        to: file_at(params, 1),
-    }
-}
-
-/// RENAME with its file and the new name.
-pub(crate) fn rename(params: &[u8]) -> Action
-    requires { AreGood (verbs.verb_forms verb.Rename) (params_read params.now) }
-    ensures { result ≡ how.action_of verb.Rename (params_read params.now) [] }
-{
-    Action::Rename {
-        file: file_at(params, 0),
-        to: local_at(params, 1),
-    }
+    (file_at(params, 0), local_at(params, 1))
 }
 
 /// LISTDIR, which may name a user.
@@ -79,28 +54,18 @@ pub(crate) fn list_dir(params: &[u8]) -> Action
     }
 }
 
-/// TRAPGO with its file, a user and the modes.
-pub(crate) fn trap_go(params: &[u8]) -> Action
+/// The file of TRAPGO and TRAPSTOP, the user and the modes.
+pub(crate) fn file_user_modes(params: &[u8]) -> (Path, User, Modes)
     requires { AreGood (verbs.verb_forms verb.TrapGo) (params_read params.now) }
-    ensures { result ≡ how.action_of verb.TrapGo (params_read params.now) [] }
+    ensures file { result.0 ≡ how.file_of (how.param (params_read params.now) 0) }
+    ensures user { result.1 ≡ how.user_of (how.param (params_read params.now) 1) }
+    ensures modes { result.2 ≡ how.modes_read (drop 2 (params_read params.now)) }
 {
-    Action::TrapGo {
-        file: file_at(params, 0),
-        user: user_at(params, 1),
-        modes: modes_from(params, 2),
-    }
-}
-
-/// TRAPSTOP with its file, a user and the modes.
-pub(crate) fn trap_stop(params: &[u8]) -> Action
-    requires { AreGood (verbs.verb_forms verb.TrapStop) (params_read params.now) }
-    ensures { result ≡ how.action_of verb.TrapStop (params_read params.now) [] }
-{
-    Action::TrapStop {
-        file: file_at(params, 0),
-        user: user_at(params, 1),
-        modes: modes_from(params, 2),
-    }
+    (
+        file_at(params, 0),
+        user_at(params, 1),
+        modes_from(params, 2),
+    )
 }
 
 /// TRAPCHECK with its file, which may name a user.

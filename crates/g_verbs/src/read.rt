@@ -275,31 +275,25 @@ fn action_of(verb: Verb, rest: Rest) -> Action
     ensures { result ≡ how.action_of verb (params_read rest) rest }
 {
     match verb {
-        Verb::Input => Action::Input {
-            file: asked::only_file(rest.as_slice()),
-        },
-        Verb::Copy => asked::copy(rest.as_slice()),
-        Verb::Append => asked::append(rest.as_slice()),
-        Verb::Erase => Action::Erase {
-            file: asked::only_file(rest.as_slice()),
-        },
-        Verb::Rename => asked::rename(rest.as_slice()),
-        Verb::ListFile => Action::ListFile {
-            file: asked::only_file(rest.as_slice()),
-        },
+        Verb::Input | Verb::Erase | Verb::ListFile | Verb::Retrieve | Verb::Load => {
+            of_file(Some(verb), asked::only_file(rest.as_slice()))
+        }
+        Verb::Copy | Verb::Append | Verb::Plan => {
+            of_two_files(Some(verb), asked::two_files(rest.as_slice()))
+        }
+        Verb::Rename => rename(asked::file_and_local(rest.as_slice())),
         Verb::ListDir => asked::list_dir(rest.as_slice()),
-        Verb::TrapGo => asked::trap_go(rest.as_slice()),
-        Verb::TrapStop => asked::trap_stop(rest.as_slice()),
+        Verb::TrapGo => {
+            let (file, user, modes) = asked::file_user_modes(rest.as_slice());
+            Action::TrapGo { file, user, modes }
+        }
+        Verb::TrapStop => {
+            let (file, user, modes) = asked::file_user_modes(rest.as_slice());
+            Action::TrapStop { file, user, modes }
+        }
         Verb::TrapCheck => asked::trap_check(rest.as_slice()),
         Verb::NewUser => asked::new_user(rest.as_slice()),
         Verb::Budget => asked::budget(rest.as_slice()),
-        Verb::Retrieve => Action::Retrieve {
-            file: asked::only_file(rest.as_slice()),
-        },
-        Verb::Load => Action::Load {
-            file: asked::only_file(rest.as_slice()),
-        },
-        Verb::Plan => asked::plan(rest.as_slice()),
         Verb::Enter => asked::enter(rest.as_slice()),
         Verb::Resume => Action::Resume,
         Verb::Assign => asked::assign(rest.as_slice()),

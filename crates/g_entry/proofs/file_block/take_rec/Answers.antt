@@ -1,4 +1,5 @@
-use Rattle.std.proofs.Common.{◌≡◌, ◌++◌, List, Option, Some, ap, ℕ}
+use Rattle.std.proofs.Common.{◌≡◌, ◌≤◌, ◌∙◌, ◌++◌, List, Option, Some, ap, arith, length, ℕ}
+use Rattle.std.proofs.lemmas.List.{length-drop}
 use Rattle.g_entry.specs.declared.file_rec.FileRec.{FileRec}
 use Rattle.g_entry.specs.declared.format.Format.{Format}
 use Rattle.g_entry.specs.FileFields.{IsFile, file_block, online_fields}
@@ -17,6 +18,33 @@ read c format r online is here =
     c.take_local-local.result c.take_lang-lang.result c.take_traps-traps.result c.take_copy-tape.result
     is here c.take_u8-used.ensures c.take_u8-owner.ensures c.take_local-local.ensures.again c.take_u16-generation.ensures.again c.take_lang-lang.ensures.again
     c.take_u64-stamp.ensures.again c.take_u32-len.ensures.again c.take_traps-traps.ensures.again c.take_copy-tape.ensures.again
+
+-- what is left of 512 bytes behind these fields
+left : (c : After-take_copy-tape) → 385 ≤ length c.take_copy-tape.new.reader
+left c =
+    let all = c.requires in
+    let used = ap length c.take_u8-used.ensures in
+    let owner = ap length c.take_u8-owner.ensures in
+    let local = c.take_local-local.ensures.left in
+    let generation = ap length c.take_u16-generation.ensures.left ∙ length-drop 2 c.take_local-local.new.reader in
+    let lang = c.take_lang-lang.ensures.left in
+    let stamp = ap length c.take_u64-stamp.ensures.left ∙ length-drop 8 c.take_lang-lang.new.reader in
+    let len = ap length c.take_u32-len.ensures.left ∙ length-drop 4 c.take_u64-stamp.new.self in
+    let traps = c.take_traps-traps.ensures.left in
+    let tape = c.take_copy-tape.ensures.left in
+    omega (arith, all, used, owner, local, generation, lang, stamp, len, traps, tape)
+
+pub returns-in_err-local-clause-left : goal.returns-in_err-local-clause-left
+returns-in_err-local-clause-left c = left (goal.at.returns-in_err-local-clause-left c).After-take_copy-tape
+
+pub returns-in_err-lang-clause-left : goal.returns-in_err-lang-clause-left
+returns-in_err-lang-clause-left c = left (goal.at.returns-in_err-lang-clause-left c).After-take_copy-tape
+
+pub returns-in_err-traps-clause-left : goal.returns-in_err-traps-clause-left
+returns-in_err-traps-clause-left c = left (goal.at.returns-in_err-traps-clause-left c).After-take_copy-tape
+
+pub returns-clause-left : goal.returns-clause-left
+returns-clause-left c = left (goal.at.returns-clause-left c).After-take_copy-tape
 
 pub returns-in_err-local-clause-again : goal.returns-in_err-local-clause-again
 returns-in_err-local-clause-again c = λ format r online numbered is here.

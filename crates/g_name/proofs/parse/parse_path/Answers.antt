@@ -1,7 +1,5 @@
-use Rattle.std.proofs.Common.{◌≡◌, true, refl, subst, ◌∙◌, sym, ap}
-use Rattle.g_name.specs.Grammar.{is_word}
-use Rattle.g_name.specs.Names.{IsName, name_text}
-use Rattle.g_name.proofs.PathLemmas.{word_name, word_is_name, one_word_name}
+use Rattle.std.proofs.Common.{refl}
+use Rattle.g_name.proofs.PathLemmas.{word_is_name, one_word_name}
 use Rattle.g_name.proofs.parse.parse_path.Goals as goal
 
 pub returns-in-Some-clause-ok : goal.returns-in-Some-clause-ok
