@@ -12,7 +12,7 @@ ghost use Rattle.g_copy.specs.Store.{StopsIn, Takes};
 use crate::copy::DiscCopy;
 use crate::fault::CopyFault;
 use crate::write::write_copy;
-use g_base::{BlockList, blocks_for};
+use g_base::{BlockList, BlockWriter, blocks_for};
 use g_blocks::Pool;
 use g_disc::Disc;
 use std::alloc::Global;
@@ -54,7 +54,7 @@ pub fn store_copy<D: Disc>(
         blocks: list_of(taken.as_slice()),
         len,
     };
-    write_copy(disc, &copy, bytes)?;
+    write_copy(disc, &mut BlockWriter::new(), &copy, bytes)?;
     Ok(copy)
 }
 

@@ -10,8 +10,14 @@ use g_base::BlockWriter;
 use g_disc::Disc;
 
 /// Writes the bytes into the blocks of the copy, with zeros behind the last of them. It takes no
-/// memory. Where it answers `Stopped`, these blocks hold anything, and all others are as they were.
-pub fn write_copy<D: Disc>(disc: &mut D, copy: &DiscCopy, bytes: &[u8]) -> Result<(), CopyFault>
+/// memory: the blocks are made in `writer`, whatever it has. Where it answers `Stopped`, these blocks
+/// hold anything, and all others are as they were.
+pub fn write_copy<D: Disc>(
+    disc: &mut D,
+    writer: &mut BlockWriter,
+    copy: &DiscCopy,
+    bytes: &[u8],
+) -> Result<(), CopyFault>
     requires size { 2177 < (D.state disc.old).size }
     requires copy { IsCopy (D.state disc.old).size copy.now }
     requires len { copy.now.len ≡ length bytes.now }
@@ -24,9 +30,8 @@ pub fn write_copy<D: Disc>(disc: &mut D, copy: &DiscCopy, bytes: &[u8]) -> Resul
 {
     let _size = disc.size();
     let places = copy.blocks.as_slice();
-    let mut writer = BlockWriter::new();
     for (i, place) in places.iter().enumerate() {
-        put_part(&mut writer, bytes, i);
+        put_part(writer, bytes, i);
         match disc.write(*place, writer.block()) {
             Ok(()) => {}
             Err(_) => return Err(CopyFault::Stopped),

@@ -18,7 +18,8 @@ use g_entry::Format;
 use g_slots::Slots;
 
 /// One commit: makes this directory the one that the disc stands for, whatever changed. It writes those blocks of the slot
-/// that isn't current which aren't remembered as they are to be, in order of number, and then the gate.
+/// that isn't current which aren't remembered as they are to be, in order of number, and then the gate. The blocks
+/// are made in `writer`, whatever it has.
 ///
 /// Where a write fails the answer is `Stopped`, the disc stands for what it stood for or for the new directory, and
 /// neither `slots` nor `last` may be used again: the gate has to be found anew, and what was remembered made anew.
@@ -27,6 +28,7 @@ pub fn write_dirs<D: Disc>(
     slots: &mut Slots,
     listing: &Listing,
     last: &mut Pages,
+    writer: &mut BlockWriter,
 ) -> Result<(), DirsFault>
     requires size { 2177 < (D.state disc.old).size }
     requires gate { GateNames slots.old (D.state disc.old).held }
@@ -52,7 +54,7 @@ pub fn write_dirs<D: Disc>(
     ensures only { OnErr result (result ≡ Err DirsFault.Stopped) }
 {
     last.all_changed();
-    write_changed(disc, slots, listing, last)
+    write_changed(disc, slots, listing, last, writer)
 }
 
 /// The same commit, where it is known which blocks may have changed: those that are marked. No other block is looked at, so
@@ -62,6 +64,7 @@ pub fn write_changed<D: Disc>(
     slots: &mut Slots,
     listing: &Listing,
     last: &mut Pages,
+    writer: &mut BlockWriter,
 ) -> Result<(), DirsFault>
     requires size { 2177 < (D.state disc.old).size }
     requires gate { GateNames slots.old (D.state disc.old).held }
@@ -91,7 +94,7 @@ pub fn write_changed<D: Disc>(
 {
     let _size = disc.size();
     let next = slots.side().other();
-    fill(disc, slots, listing, last)?;
+    fill(disc, slots, listing, last, writer)?;
     slots.flip(disc)?;
     last.clear(next);
     Ok(())
@@ -103,6 +106,7 @@ fn fill<D: Disc>(
     slots: &Slots,
     listing: &Listing,
     last: &mut Pages,
+    writer: &mut BlockWriter,
 ) -> Result<(), DirsFault>
     requires size { 2177 < (D.state disc.old).size }
     requires gate { GateNames slots.now (D.state disc.old).held }
@@ -122,12 +126,11 @@ fn fill<D: Disc>(
     let _size = disc.size();
     let side = slots.side().other();
     // All blocks are made in one place, from where they are compared and written.
-    let mut writer = BlockWriter::new();
     let mut k = last.next_marked(side, 0);
     while k < 1088 {
-        listing.put_block(&mut writer, k);
+        listing.put_block(writer, k);
         // In a loop the proof reads the arms of a `match`, and not what `?` returns.
-        match write_page(disc, slots, k, &writer, last) {
+        match write_page(disc, slots, k, writer, last) {
             Ok(()) => {}
             Err(fault) => return Err(fault),
         }

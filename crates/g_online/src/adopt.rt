@@ -40,6 +40,7 @@ impl<D: Disc> Online<D> {
             &self.head,
             &self.tree,
             &self.online,
+            &mut self.writer,
         )
     }
 }

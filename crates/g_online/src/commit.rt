@@ -9,6 +9,7 @@ ghost use Rattle.g_online.specs.Commit.{HasCommitted, IsMarked, commit_blocks};
 ghost use Rattle.g_online.specs.Invariant.{AreWhole};
 
 use crate::OnlineFault;
+use g_base::BlockWriter;
 use g_dirs::{CopyTable, Listing, Pages, write_changed};
 use g_disc::Disc;
 use g_entry::Head;
@@ -16,8 +17,8 @@ use g_slots::Slots;
 use g_tree::Tree;
 
 /// Makes the directory of these records the one that the disc stands for. It writes the blocks of the slot that isn't
-/// current which are marked and aren't remembered as they are to be, and then the gate. Where a write fails the filestore
-/// is live no more.
+/// current which are marked and aren't remembered as they are to be, and then the gate. The blocks are made in `writer`,
+/// whatever it has. Where a write fails the filestore is live no more.
 pub(crate) fn commit<D: Disc>(
     disc: &mut D,
     slots: &mut Slots,
@@ -26,6 +27,7 @@ pub(crate) fn commit<D: Disc>(
     head: &Head,
     tree: &Tree,
     online: &CopyTable,
+    writer: &mut BlockWriter,
 ) -> Result<(), OnlineFault>
     requires copies { AreCopies tree.now.files online.now }
     requires marked { IsMarked (D.state disc.old) slots.old pages.old
@@ -43,7 +45,7 @@ pub(crate) fn commit<D: Disc>(
     ensures only { OnErr result (result ≡ Err OnlineFault.Stopped) }
 {
     let listing = Listing::new(head, tree.users(), tree.files(), online);
-    match write_changed(disc, slots, &listing, pages) {
+    match write_changed(disc, slots, &listing, pages, writer) {
         Ok(()) => {
             let _size = disc.size();
             Ok(())

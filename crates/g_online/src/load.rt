@@ -20,7 +20,7 @@ ghost use Rattle.g_online.specs.Invariant.{IsAgreed, facts_of};
 use crate::commit::commit;
 use crate::numbers::UserNumbers;
 use crate::{Online, OnlineFault};
-use g_base::NoMemory;
+use g_base::{BlockWriter, NoMemory};
 use g_blocks::Pool;
 use g_dirs::{BoxedCopy, CopyTable, Dirs, DirsFault, FileCopy, Pages, read_dirs};
 use g_disc::Disc;
@@ -115,7 +115,14 @@ impl<D: Disc> Online<D> {
         };
         let mut live = true;
         match commit(
-            &mut disc, &mut slots, &mut pages, &mut live, &head, &tree, &online,
+            &mut disc,
+            &mut slots,
+            &mut pages,
+            &mut live,
+            &head,
+            &tree,
+            &online,
+            &mut BlockWriter::new(),
         ) {
             Ok(()) => Ok(begin(disc, slots, pages, pool, tree, head, online)),
             Err(fault) => Err((fault, disc)),
@@ -155,6 +162,7 @@ fn begin<D: Disc>(
         changed,
         touched: UserNumbers::new(),
         live: true,
+        writer: BlockWriter::new(),
     }
 }
 

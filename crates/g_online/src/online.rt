@@ -7,6 +7,7 @@ ghost use Rattle.g_online.specs.Room.{FitsDisc};
 
 use crate::numbers::UserNumbers;
 use crate::pin_list::PinList;
+use g_base::BlockWriter;
 use g_blocks::Pool;
 use g_dirs::{CopyTable, Pages};
 use g_disc::Disc;
@@ -32,6 +33,9 @@ pub struct Online<D: Disc> {
     pub(crate) changed: UserNumbers,
     pub(crate) touched: UserNumbers,
     pub(crate) live: bool,
+
+    // Where the blocks of every write are made.
+    pub(crate) writer: BlockWriter,
 }
 
 impl<D: Disc> Model for Online<D> {

@@ -27,7 +27,7 @@ use crate::numbers::UserNumbers;
 use crate::pin_list::PinList;
 use crate::records::{kept_head, mark_user_changed};
 use crate::{Online, OnlineFault};
-use g_base::{FIRST_FILE_BLOCK, blocks_for};
+use g_base::{BlockWriter, FIRST_FILE_BLOCK, blocks_for};
 use g_blocks::Pool;
 use g_copy::{DiscCopy, write_copy};
 use g_dirs::{BoxedCopy, CopyTable, Pages};
@@ -92,13 +92,20 @@ impl<D: Disc> Online<D> {
             &mut self.head,
             &self.tree,
             &mut self.online,
+            &mut self.writer,
             pinned,
             numbers,
         ) {
             Ok(()) => {}
             Err(fault) => return Err(fault),
         }
-        match write_new(&mut self.disc, &mut self.live, &copy, content) {
+        match write_new(
+            &mut self.disc,
+            &mut self.live,
+            &mut self.writer,
+            &copy,
+            content,
+        ) {
             Ok(()) => {}
             Err(fault) => return Err(fault),
         }
@@ -122,6 +129,7 @@ impl<D: Disc> Online<D> {
             &self.head,
             &self.tree,
             &self.online,
+            &mut self.writer,
         )
     }
 }
@@ -271,6 +279,7 @@ fn unjam_first<D: Disc>(
     head: &mut Head,
     tree: &Tree,
     online: &mut CopyTable,
+    writer: &mut BlockWriter,
     pinned: bool,
     numbers: &[u16],
 ) -> Result<(), OnlineFault>
@@ -298,7 +307,7 @@ fn unjam_first<D: Disc>(
     *head = kept_head(head, pinned);
     pages.changed(0);
     forget_all(pages, online, numbers);
-    commit(disc, slots, pages, live, head, tree, online)
+    commit(disc, slots, pages, live, head, tree, online, writer)
 }
 
 /// Takes the copies of these files out of the list, and marks their records.
@@ -326,6 +335,7 @@ fn forget_one(pages: &mut Pages, online: &mut CopyTable, number: u16)
 fn write_new<D: Disc>(
     disc: &mut D,
     live: &mut bool,
+    writer: &mut BlockWriter,
     copy: &BoxedCopy,
     bytes: &[u8],
 ) -> Result<(), OnlineFault>
@@ -342,7 +352,7 @@ fn write_new<D: Disc>(
     ensures whole { ForSome (D.state disc.new).held (AreWhole (D.state disc.new).size) }
     ensures only { OnErr result (result ≡ Err OnlineFault.Stopped) }
 {
-    match write_copy(disc, copy.get(), bytes) {
+    match write_copy(disc, writer, copy.get(), bytes) {
         Ok(()) => {
             let _size = disc.size();
             Ok(())

@@ -73,6 +73,7 @@ impl<D: Disc> Online<D> {
             &self.head,
             &self.tree,
             &self.online,
+            &mut self.writer,
         )
     }
 }

@@ -31,6 +31,7 @@ impl<D: Disc> Online<D> {
             &self.head,
             &self.tree,
             &self.online,
+            &mut self.writer,
         )
     }
 
@@ -51,6 +52,7 @@ impl<D: Disc> Online<D> {
             &self.head,
             &self.tree,
             &self.online,
+            &mut self.writer,
         )
     }
 
@@ -77,6 +79,7 @@ impl<D: Disc> Online<D> {
             &self.head,
             &self.tree,
             &self.online,
+            &mut self.writer,
         )
     }
 
@@ -104,6 +107,7 @@ impl<D: Disc> Online<D> {
             &self.head,
             &self.tree,
             &self.online,
+            &mut self.writer,
         )
     }
 }
