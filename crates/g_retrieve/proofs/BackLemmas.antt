@@ -146,6 +146,12 @@ not_here o number files file are one (f, c, away) none =
     let wrong : None ≡ Some c = sym none ∙ ap (λ (r : FileRec). r.tape) same ∙ away.copy in
     (let no : ⊥ = cc in no)
 
+-- its record is there
+pub used_here : (o : OnlineFacts) (number : ℕ) (files : List FileRec) → files ≡ recs_in o.contents → (f : File) × (c : TapeCopy) × IsOnTape number o f c
+    → (r : FileRec) × Contains files r × (r.number ≡ number)
+used_here o number files are (f, c, away) =
+    (f.rec, subst (λ (l : List FileRec). Contains l f.rec) (sym are) (mapped_there (λ (g : File). g.rec) o.contents.files f away.there), away.number_is)
+
 -- the copy that was read is the file's
 pub read_here : (o : OnlineFacts) (number : ℕ) (users : List UserRec) (files : List FileRec) (file : FileRec) (copy : TapeCopy) (before after : Rack) (result : Result (List ℕ) StoreFault) (f : File) (c : TapeCopy)
     → users ≡ o.contents.users → files ≡ recs_in o.contents → ((r : FileRec) → Contains files r → r.number ≡ number → file ≡ r) → file.tape ≡ Some copy → IsOnTape number o f c

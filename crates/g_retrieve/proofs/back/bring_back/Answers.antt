@@ -8,7 +8,7 @@ use Rattle.g_online.specs.AllowedChanges.{IsAllowed}
 use Rattle.g_laws_memory.specs.UnjamPlan.{IsUnjamPlan}
 use Rattle.g_retrieve.specs.Retrieval.{IsOnTape}
 use Rattle.g_retrieve.proofs.AllowLemmas.{away_is}
-use Rattle.g_retrieve.proofs.BackLemmas.{IsAnswered, by_disc, by_tape, filled_here, may_here, not_here, read_here}
+use Rattle.g_retrieve.proofs.BackLemmas.{IsAnswered, by_disc, by_tape, filled_here, may_here, not_here, read_here, used_here}
 use Rattle.g_retrieve.proofs.back.bring_back.Given as given
 use Rattle.g_retrieve.proofs.back.bring_back.Goals as goal
 
@@ -16,6 +16,10 @@ pub unreachable-requires : goal.unreachable-requires
 unreachable-requires g c =
     not_here c.args.online.now c.args.number c.tree-tree.result.now.files c.file_of-file.result c.tree-tree.ensures.files c.file_of-file.ensures.value
     (away_is c.args.online.now c.args.number c.requires.live c.requires.tied c.requires.offline) c.in_default.is
+
+pub read_copy-requires-clause-used : goal.read_copy-requires-clause-used
+read_copy-requires-clause-used g c =
+    used_here c.args.online.now c.args.number c.tree-tree.result.now.files c.tree-tree.ensures.files (away_is c.args.online.now c.args.number c.requires.live c.requires.tied c.requires.offline)
 
 pub read_copy-requires-clause-filled : goal.read_copy-requires-clause-filled
 read_copy-requires-clause-filled g c =
