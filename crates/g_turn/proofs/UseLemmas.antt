@@ -1,9 +1,9 @@
 -- What is done with a file's bytes, by what they were fetched for.
-use Rattle.std.proofs.Common.{◌≡◌, ℕ, Bool, true, false, if◌then◌else◌, List, OnErr, Result, Ok, Err, inr, length, refl, sym, subst}
-use Rattle.g_turn.specs.Asking.{append, put}
-use Rattle.g_turn.specs.Outcomes.{in_error, with_bytes}
+use Rattle.std.proofs.Common.{◌≡◌, ℕ, Bool, true, false, true≢false, if◌then◌else◌, List, OnErr, Result, Ok, Err, inr, length, refl, sym, subst}
+use Rattle.g_turn.specs.Asking.{append, one_call, put}
+use Rattle.g_turn.specs.Outcomes.{in_error, is_over, refused, with_bytes}
 use Rattle.g_turn.specs.State.{Work}
-use Rattle.g_turn.specs.Steps.{RanWell}
+use Rattle.g_turn.specs.Steps.{IsStep, RanWell}
 use Rattle.g_turn.specs.Uses.{ToAssign, assign, fetch, listed, output_kept, put_or_bad, use_bytes}
 use Rattle.g_turn.specs.Values.{use_of}
 use Rattle.g_turn.specs.declared.uses.Use as uses
@@ -17,7 +17,9 @@ use Rattle.g_plain.specs.Programs.{Answer, Asks, Gives, RanInPart}
 use Rattle.g_plain.specs.declared.calls.StoreCall.{StoreCall}
 use Rattle.g_plain.specs.declared.calls.StoreCall.TheVariants as call
 use Rattle.g_plain.specs.declared.calls.StoreReply.{StoreReply}
-use Rattle.g_plain.specs.declared.calls.StoreReply.TheVariants.{Made}
+use Rattle.g_plain.specs.declared.calls.StoreReply.TheVariants.{Appended, Made}
+use Rattle.g_plain.specs.declared.faults.StoreFault.{StoreFault}
+use Rattle.g_plain.specs.declared.faults.StoreFault.TheVariants as fault
 use Rattle.g_plan.specs.Assembly.{assembled}
 use Rattle.g_trap.specs.declared.mode_set.Mode.{Mode}
 use Rattle.g_trap.specs.declared.mode_set.Mode.TheVariants as mode
@@ -70,6 +72,30 @@ assemble_well answers is_spent can_wait who s t room path m use_for to full byte
     subst (λ (u : uses.Use). RanWell answers is_spent can_wait who s (use_bytes room path m (use_of u) full bytes (with_bytes (length bytes) w)) made t) (sym is)
     (subst (λ (y : Work). RanWell answers is_spent can_wait who s (put_or_bad room to (assembled bytes) y) made t) counted
     (subst (λ (text : List ℕ). RanWell answers is_spent can_wait who s (put_or_bad room to (assembled text) v) made t) same r))
+
+not_spent : (b : Bool) → (b ≡ true → ⊥) → b ≡ false
+not_spent true never = absurd (never refl)
+not_spent false never = refl
+
+-- behind a refusal a store is spent only where the work is over
+pub refused_live : {S : Type 0} (answers : S → List ℕ → StoreCall → Answer → S → Type 0) (is_spent : S → Bool) (can_wait : S → ℕ → Bool) (who : List ℕ) (old new : S) (room : ℕ) (asked : StoreCall)
+    (refusal : StoreFault) (w v : Work) → IsStep answers is_spent can_wait who old asked (Err refusal) new → v ≡ refused room refusal w → is_over v ≡ false → is_spent new ≡ false
+refused_live answers is_spent can_wait who old new room asked fault.Stopped w v step is on = absurd (true≢false (subst (λ (u : Work). is_over u ≡ false) is on))
+refused_live answers is_spent can_wait who old new room asked refusal w v step is on =
+    not_spent (is_spent new) (λ spent. let same = step.spent.0 spent in (let never : ⊥ = cc in never))
+
+-- a call was granted, and what came behind found no memory
+pub granted_asked : {T E S : Type 0} (answers : S → List ℕ → StoreCall → Answer → S → Type 0) (who : List ℕ) (old new : S) (room : ℕ) (asked : StoreCall) (w : Work) (reply : StoreReply) (r : Result T E)
+    → answers old who asked (Ok reply) new → OnErr r (RanInPart answers who old (one_call room asked w) new)
+granted_asked answers who old new room asked w reply (Ok x) a = tt
+granted_asked answers who old new room asked w reply (Err e) a = inr (inr (Ok reply, new, a, tt, refl))
+
+-- bytes were put behind a file, and what came behind found no memory
+pub append_asked : {T E S : Type 0} (answers : S → List ℕ → StoreCall → Answer → S → Type 0) (who : List ℕ) (old new : S) (room : ℕ) (path : Path) (bytes : List ℕ) (w : Work)
+    (reply : StoreReply) (full : Full) (r : Result T E) → reply ≡ Appended full → answers old who (call.Append path bytes) (Ok reply) new → OnErr r (RanInPart answers who old (append room path bytes w) new)
+append_asked answers who old new room path bytes w reply full (Ok x) is a = tt
+append_asked answers who old new room path bytes w reply full (Err e) is a =
+    inr (inr (Ok (Appended full), new, subst (λ (made : StoreReply). answers old who (call.Append path bytes) (Ok made) new) is a, tt, refl))
 
 -- bytes were put, and what came behind found no memory
 pub put_asked : {T E S : Type 0} (answers : S → List ℕ → StoreCall → Answer → S → Type 0) (who : List ℕ) (old new : S) (room : ℕ) (well : Bool) (path : Path) (bytes : List ℕ) (w : Work)
