@@ -37,6 +37,11 @@ returns-in-Ok-clause-dumps g c =
     (let r : Result ℕ StoreFault = Ok c.in-Ok.number in r) c.process.new.online (g.T.Tapes.rack c.process.new.tapes) _
     (ok_store c.args.serial c.args.self.now _ _ _ _ c.self.view_is c.requires.running (sym c.in-None.ensures) c.process.new.online (g.T.Tapes.rack c.process.new.tapes)) c.in-Ok.ensures
 
+pub invariant_of-self-in-Err : goal.invariant_of-self-in-Err
+invariant_of-self-in-Err g c =
+    (process_err c.args.serial c.args.self.now _ _ _ _ c.self.view_is c.requires.running (sym c.in-None.ensures) c.process.new.online (g.T.Tapes.rack c.process.new.tapes) c.in-Err.fault
+    c.is_stop-self-inside.result c.is_stop-self-inside.ensures c.in-Err.ensures).keeps
+
 pub returns-in-Err-clause-processes : goal.returns-in-Err-clause-processes
 returns-in-Err-clause-processes g c =
     process_err c.args.serial c.args.self.now _ _ _ _ c.self.view_is c.requires.running (sym c.in-None.ensures) c.process.new.online (g.T.Tapes.rack c.process.new.tapes) c.in-Err.fault
