@@ -59,14 +59,6 @@ noted_all noted marks is = record {
       let no : ⊥ = cc in absurd no;
 }
 
-pub noted_none : (noted marks : List Bool) → length noted ≡ 34 → marks ≡ replicate 1088 false → AreNoted noted marks
-noted_none noted marks size is = record {
-  size = size;
-  each = λ i inside off.
-      let long : length marks ≡ 1088 = ap length is ∙ length-replicate 1088 false in
-      slice_get-get_or marks i false (omega (arith, inside, long)) ∙ ap Some (ap (λ (l : List Bool). get_or l i false) is ∙ get_or-replicate 1088 i false false inside);
-}
-
 -- the next place
 pub behind_one : (marks : List Bool) (k : ℕ) → k < 1088 → slice_get marks k ≡ Some false → IsBehind marks k (k + 1)
 behind_one marks k within off = record {

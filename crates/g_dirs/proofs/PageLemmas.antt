@@ -161,8 +161,3 @@ module _ (d : Directory) (side : Side) (pages : Remembered) where
 
   pub covers_whole : (n : ℕ) → 1088 ≤ n → CoversFirst n → Covers d side pages
   covers_whole n all first = record { block = λ j below there. first j (omega arith) there }
-
-  -- a block that is neither
-  pub not_covered : (n : ℕ) → n < 1088 → slice_get (marks_of side pages) n ≡ Some false → is_remembered (pages_of side pages) n (block_of Two d n) ≡ false → Covers d side pages → ⊥
-  not_covered n below free is covers =
-      false≢true (sym is ∙ is_page-same (block_of Two d n) (slice_get (pages_of side pages) n) (covers.block n below free))

@@ -1,23 +1,19 @@
 -- Writes that change nothing of what a disc stands for.
 use Rattle.std.proofs.Common.{◌≡◌, ℕ, zero, suc, ◌+◌, ◌-◌, ◌<◌, ◌≤◌, List, [], ◌∷◌, length, get_or, take, drop, Option, sym, ◌∙◌, ap, subst, arith, slice_get, length-set}
 use Rattle.std.specs.Prelude.{All, Contains, ◌%◌, ◌==◌, if◌then◌else◌, unwrap_or}
-use Rattle.std.specs.Option.{ForSome}
 use Rattle.std.proofs.Math.ListN.{set}
 use Rattle.std.proofs.lemmas.List.{drop-set-add, take-set-le, get_or-drop, get_or-take, get_or_default, length-drop, length-take, same_lists}
 use Rattle.std.proofs.lemmas.List.Elements.{All-contains}
 use Rattle.std.proofs.lemmas.Option.{unwrap_or-slice_get}
-use Rattle.g_base.specs.ToldContent.{Changes}
-use Rattle.g_base.proofs.ToldLemmas.{told_after}
 use Rattle.g_blocks.specs.Pool.{IsInArea}
 use Rattle.g_blocks.proofs.Marks.{slice_get-set_other}
 use Rattle.g_copy.proofs.Blocks.{blocks_at-OnlyAt}
-use Rattle.g_copy.specs.declared.copy.DiscCopy.{DiscCopy}
-use Rattle.g_copy.specs.Copy.{Holds, OnlyAt, bytes_at}
+use Rattle.g_copy.specs.Copy.{OnlyAt, bytes_at}
 use Rattle.g_slots.proofs.OneWrite.{gate_side-set, keeps_current}
 use Rattle.g_slots.specs.Commit.{KeepsCurrent}
 use Rattle.g_slots.specs.declared.side.Side.{Side}
 use Rattle.g_slots.specs.declared.side.Side.TheVariants.{A, B}
-use Rattle.g_slots.specs.Layout.{GateNames, current, gate_side, other, slot, start_of}
+use Rattle.g_slots.specs.Layout.{current, gate_side, other, slot, start_of}
 use Rattle.g_dirs.specs.Directory.{Directory, IsDirectory}
 use Rattle.g_dirs.specs.Image.{IsImage, StandsFor}
 use Rattle.g_dirs.specs.Pages.{Remembered, Remembers}
@@ -106,11 +102,3 @@ module _ (places : List ℕ) (a b : List (List ℕ)) (only : OnlyAt places a b) 
 
   pub stands_beside : (d : Directory) → StandsFor a d → StandsFor b d
   stands_beside d stands = stands_same a b d (ap (λ (s : Side). slot s b) gate_kept ∙ slot_kept (gate_side a)) only.size stands
-
--- the same of a disc, by what a copy's write did
-module _ (copy : DiscCopy) (bytes : List ℕ) (before now : Option (List (List ℕ))) (size : ℕ) (area : All (IsInArea size) copy.blocks) (changes : Changes (Holds copy.blocks bytes) before now) where
-  pub gate_after : (side : Side) → GateNames side before → GateNames side now
-  gate_after side names = told_after changes (λ a b told holds. gate_kept copy.blocks a b holds.only size area ∙ names a told)
-
-  pub remembers_after : (pages : Remembered) → ForSome before (Remembers pages) → ForSome now (Remembers pages)
-  remembers_after pages was = told_after changes (λ a b told holds. remembers_kept copy.blocks a b holds.only size area pages (was a told))

@@ -1,4 +1,3 @@
-pub mod CopyTable
 pub mod Directory
 pub mod Image
 pub mod Parts

@@ -1,11 +1,12 @@
 //! The copies on disc of all files, by their numbers.
-ghost use Rattle.std.specs.Prelude.{◌≡◌, ◌<◌, ◌∷◌, ◌++◌, ◌==◌, All, AllPairs, IfOk, None, [], filter, length, nat_lt, not, replicate};
+ghost use Rattle.std.specs.Prelude.{◌≡◌, ◌<◌, ◌∷◌, ◌++◌, ◌==◌, All, AllPairs, IfOk, [], filter, nat_lt, not};
 ghost use Rattle.std.specs.Option.{option_copied};
 ghost use Rattle.g_dirs.specs.Directory.{copy_at};
 
 use crate::{BoxedCopy, FileCopy};
 use g_base::NoMemory;
 use g_copy::DiscCopy;
+use g_table::NumberTable;
 use std::alloc::Global;
 use std::marker::Model;
 
@@ -13,22 +14,19 @@ use std::marker::Model;
 /// comes or goes. Contracts see the copies in order of number, each with its number.
 #[derive(Drop)]
 pub struct CopyTable {
-    places: Vec<Option<BoxedCopy>>,
+    copies: NumberTable<BoxedCopy>,
 
     // The box of the copy that went last, for the next one.
     spare: Option<BoxedCopy>,
 }
 
 impl Model for CopyTable {
-    ghost use Rattle.std.specs.Prelude.{◌≡◌, ℕ, List, length};
+    ghost use Rattle.std.specs.Prelude.{ℕ, List};
     ghost use Rattle.g_copy.specs.declared.copy.DiscCopy.{DiscCopy};
-    ghost use Rattle.g_dirs.specs.CopyTable.{listed_from};
 
     ghost Value = { List (ℕ × DiscCopy) };
 
-    ghost view = { λ t. listed_from 0 t.places.items };
-
-    ghost invariant = { λ t. length t.places.items ≡ 1024 };
+    ghost view = { λ t. t.copies };
 }
 
 impl CopyTable {
@@ -47,9 +45,8 @@ impl CopyTable {
     fn new(alloc: Global) -> Result<CopyTable, NoMemory>
         ensures { IfOk result (λ t. t ≡ []) }
     {
-        let places = no_copies(alloc, 1024)?;
         Ok(CopyTable {
-            places,
+            copies: NumberTable::new(alloc)?,
             spare: None,
         })
     }
@@ -72,8 +69,8 @@ impl CopyTable {
     pub fn get(&self, number: u16) -> Option<&DiscCopy>
         ensures { option_copied result ≡ copy_at self.now number }
     {
-        match self.places.get(number as usize) {
-            Some(place) => lent(place),
+        match self.copies.get(number) {
+            Some(copy) => Some(copy.get()),
             None => None,
         }
     }
@@ -84,7 +81,7 @@ impl CopyTable {
         ensures { self.new ≡ filter (λ c. nat_lt c.0 number) self.old ++ (number, copy)
             ∷ filter (λ c. nat_lt number c.0) self.old }
     {
-        let was = self.places[number as usize].replace(copy);
+        let was = self.copies.put(number, copy);
         keep_box(&mut self.spare, was);
     }
 
@@ -93,7 +90,7 @@ impl CopyTable {
         requires { number < 1024 }
         ensures { self.new ≡ filter (λ c. not (c.0 == number)) self.old }
     {
-        let was = self.places[number as usize].take();
+        let was = self.copies.take(number);
         keep_box(&mut self.spare, was);
     }
 
@@ -112,31 +109,9 @@ impl CopyTable {
     }
 }
 
-/// What stands at a place.
-fn lent(place: &Option<BoxedCopy>) -> Option<&DiscCopy>
-    ensures { option_copied result ≡ place.now }
-{
-    match place {
-        Some(copy) => Some(copy.get()),
-        None => None,
-    }
-}
-
 /// Keeps the box of a copy that went, if there is one.
 fn keep_box(spare: &mut Option<BoxedCopy>, was: Option<BoxedCopy>) {
     if was.is_some() {
         *spare = was;
     }
-}
-
-/// So many places, and no copy.
-fn no_copies(alloc: Global, count: usize) -> Result<Vec<Option<BoxedCopy>>, NoMemory>
-    ensures none { IfOk result (λ places. places.items ≡ replicate count None) }
-    ensures all { IfOk result (λ places. length places.items ≡ count) }
-{
-    let mut places = Vec::with_capacity(alloc, count)?;
-    for _ in 0..count {
-        places.push_reserved(None);
-    }
-    Ok(places)
 }

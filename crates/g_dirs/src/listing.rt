@@ -2,7 +2,6 @@
 ghost use Rattle.std.specs.Prelude.{◌≡◌, ◌<◌, ◌==◌, [], All, find, slice_get};
 ghost use Rattle.std.specs.Option.{option_copied, option_map};
 ghost use Rattle.g_base.specs.Fields.{padded};
-ghost use Rattle.g_entry.specs.Rules.{AreNumbered};
 ghost use Rattle.g_entry.specs.UserFields.{IsUser};
 ghost use Rattle.g_dirs.specs.Directory.{AreCopies, copy_at, directory_of, entries_of};
 ghost use Rattle.g_dirs.specs.Image.{block_of, entry_at, file_or_empty, user_or_empty};
@@ -10,7 +9,8 @@ ghost use Rattle.g_dirs.specs.Writing.{AreEncodable, IsEncodable, number_of_file
 
 use crate::CopyTable;
 use g_base::{BlockList, BlockWriter};
-use g_entry::{BoxedRec, FileRec, Format, Head, UserRec, place_of, put_file, put_head, put_user};
+use g_entry::{FileRec, Format, Head, UserRec, put_file, put_head, put_user};
+use g_table::FileTable;
 use std::marker::Model;
 
 /// A directory that is borrowed: the head, the users and the files in order of number, and by file number the copies on
@@ -19,7 +19,7 @@ use std::marker::Model;
 pub struct Listing<'a> {
     head: &'a Head,
     users: &'a [UserRec],
-    files: &'a [BoxedRec],
+    files: &'a FileTable,
     online: &'a CopyTable,
 }
 
@@ -38,7 +38,7 @@ impl<'a> Listing<'a> {
     pub fn new(
         head: &'a Head,
         users: &'a [UserRec],
-        files: &'a [BoxedRec],
+        files: &'a FileTable,
         online: &'a CopyTable,
     ) -> Listing<'a>
         requires { AreCopies files.now online.now }
@@ -80,7 +80,7 @@ fn put_slot_block(
     writer: &mut BlockWriter,
     head: &Head,
     users: &[UserRec],
-    files: &[BoxedRec],
+    files: &FileTable,
     online: &CopyTable,
     k: u32,
 )
@@ -115,7 +115,7 @@ fn put_user_block(writer: &mut BlockWriter, users: &[UserRec], number: usize)
 }
 
 /// The block of file `number`; nothing, which stands for zeros, where it is unused.
-fn put_file_block(writer: &mut BlockWriter, files: &[BoxedRec], online: &CopyTable, number: u16)
+fn put_file_block(writer: &mut BlockWriter, files: &FileTable, online: &CopyTable, number: u16)
     requires empty { writer.old ≡ [] }
     requires files { AreEncodable files.now online.now }
     requires copies { AreCopies files.now online.now }
@@ -129,14 +129,10 @@ fn put_file_block(writer: &mut BlockWriter, files: &[BoxedRec], online: &CopyTab
 }
 
 /// The file of this number, where there is one.
-fn file_of(files: &[BoxedRec], number: u16) -> Option<&FileRec>
-    requires { AreNumbered files.now }
+fn file_of(files: &FileTable, number: u16) -> Option<&FileRec>
     ensures { option_copied result ≡ find (λ r. number_of_file r == number) files.now }
 {
-    match place_of(files, number) {
-        Ok(place) => Some(files[place].get()),
-        Err(_) => None,
-    }
+    files.get(number)
 }
 
 /// The block numbers of the file of this number, where it is online.

@@ -1,12 +1,10 @@
 -- A store keeps what it keeps over the opening of a dump.
-use Rattle.std.proofs.Common.{◌≡◌, ◌≢◌, ℕ, ◌+◌, ◌<◌, ◌≤◌, Bool, true, false, List, [], ◌∷◌, ◌++◌, get_or, length, map, take, Option, Some, None, Ok, Err, refl, sym, ◌∙◌, ap, subst, inl, inr}
+use Rattle.std.proofs.Common.{◌≡◌, ℕ, ◌+◌, ◌≤◌, Bool, true, List, [], ◌∷◌, get_or, map, take, Option, Some, None, Ok, Err, refl, sym, ◌∙◌, ap, subst, inl, inr}
 use Rattle.std.specs.Prelude.{◌⊎◌, All, Contains, IfErr, IfOk, IfSome, Result, is_some}
-use Rattle.std.specs.Option.{ForSome}
 use Rattle.std.proofs.lemmas.List.Elements.{All-contains, All-cons, All-head, All-nil, All-tail, Contains-get_or}
 use Rattle.std.proofs.lemmas.List.Kept.{AllPairs-from_increasing}
 use Rattle.std.proofs.lemmas.Option.{none-some, same_Some}
-use Rattle.g_entry.specs.declared.file_rec.FileRec.{FileRec}
-use Rattle.g_base.specs.Block.{IsBlock, blocks_for}
+use Rattle.g_base.specs.Block.{blocks_for}
 use Rattle.g_tape.specs.Rack.{Rack, reel, refuses_unmount}
 use Rattle.g_tape.specs.Reads.{OnlyReads, blocks_in, blocks_of, unread}
 use Rattle.g_tape.proofs.ReadLemmas.{blocks_after_reads, reel_after_reads}
@@ -17,14 +15,14 @@ use Rattle.g_disc_contents.specs.Contents.{Contents, File, Holds, recs_in, with_
 use Rattle.g_disc_contents.specs.Facts.{IsPinOf, IsTied, OnlineFacts, Pin}
 use Rattle.g_disc_contents.proofs.HoldLemmas.{holds_one}
 use Rattle.g_incr.specs.Layout.{Dump, holds}
-use Rattle.g_incr.specs.Plan.{IsPlan, Plan, dump_of, first_content, waiting}
-use Rattle.g_online.specs.Pins.{ArePinnedFrom, HasPinned}
+use Rattle.g_incr.specs.Plan.{IsPlan, Plan, first_content, waiting}
+use Rattle.g_online.specs.Pins.{ArePinnedFrom}
 use Rattle.g_shelf.specs.CompletedDumps.{AreCompleted, AreShelved, all_dumps, end_of}
-use Rattle.g_store_meaning.specs.Answers.{Belongs, IsStore, Told}
-use Rattle.g_store_meaning.specs.Belonging.{BelongWith, DiscBelongs, IsPlaced, KeepsFile, RackBelongs}
-use Rattle.g_store_meaning.specs.Meaning.{files_of, joined, told_reels}
+use Rattle.g_store_meaning.specs.Answers.{Belongs, Told}
+use Rattle.g_store_meaning.specs.Belonging.{DiscBelongs, IsPlaced, KeepsFile}
+use Rattle.g_store_meaning.specs.Meaning.{joined, told_reels}
 use Rattle.g_store_meaning.specs.Reading.{AllTold, ReelsTold}
-use Rattle.g_store_meaning.specs.StoreInvariant.{ArePinned, DumpFacts, IsOpen, IsReady, IsUp, KeepsDirectories, KeepsOpening, StoreFacts, content_in}
+use Rattle.g_store_meaning.specs.StoreInvariant.{ArePinned, DumpFacts, IsOpen, IsUp}
 use Rattle.g_store_meaning.proofs.ChangeLemmas.{intents_belong}
 use Rattle.g_store_meaning.proofs.DirectoryLemmas.{all_up_to}
 use Rattle.g_laws_store.specs.Dumping.{AreDumpable, IsPlanOf, PinsText, opened_with}
@@ -99,10 +97,6 @@ up_again text shelf rack p q d contents pins changed touched was =
           let is = four.open_dump ps pinned content told in
           record { rules = is.rules; rack = is.rack; disc = is.disc; opening = record { each = is.opening.each } };
     }
-
--- a serial that a reel has
-pub serial_among : (rs : List Reel) (r : Reel) → Contains rs r → Contains (map (λ (x : Reel). x.serial) rs) r.serial
-serial_among rs r there = mapped_there (λ (x : Reel). x.serial) rs r there
 
 -- THE REEL is there, and the place is the end of its dumps
 module _ (serial place : ℕ) (rack after : Rack) (on : Reel) (reads : OnlyReads rack after) (on_is : reel serial after.reels ≡ Some on) (end_is : IsEnd serial rack place)

@@ -13,11 +13,12 @@ ghost use Rattle.g_dumper.specs.Invariant.{KeepsStore, behind_opening, up_with};
 use crate::dump::Dump;
 use g_base::NoMemory;
 use g_disc::Disc;
-use g_entry::{BoxedRec, FileRec, Intent};
+use g_entry::{FileRec, Intent};
 use g_incr::Writer;
 use g_known::KnownReels;
 use g_online::{Online, OnlineFault};
 use g_plain::StoreFault;
+use g_table::FileTable;
 use g_tape::Tapes;
 use std::alloc::Global;
 
@@ -176,7 +177,7 @@ fn open<D: Disc>(
 }
 
 /// The files of these users, one user behind the other, as `Writer::new` takes them.
-pub fn held_files(alloc: Global, files: &[BoxedRec], held: &[u8]) -> Result<Vec<FileRec>, NoMemory>
+pub fn held_files(alloc: Global, files: &FileTable, held: &[u8]) -> Result<Vec<FileRec>, NoMemory>
     ensures { IfOk result (λ all. all.items ≡ held_of held.now files.now) }
 {
     let mut all = Vec::new(alloc);
@@ -190,12 +191,12 @@ pub fn held_files(alloc: Global, files: &[BoxedRec], held: &[u8]) -> Result<Vec<
 }
 
 /// Puts the files of this user behind the others.
-fn add_files_of(owner: u8, files: &[BoxedRec], all: &mut Vec<FileRec>) -> Result<(), NoMemory>
+fn add_files_of(owner: u8, files: &FileTable, all: &mut Vec<FileRec>) -> Result<(), NoMemory>
     ensures { OnOk result (all.new.items ≡ all.old.items ++ files_of owner files.now) }
 {
     for file in files {
-        if file.get().owner == owner {
-            match all.push(file.get().copy()) {
+        if file.owner == owner {
+            match all.push(file.copy()) {
                 Ok(()) => {}
                 Err(_) => return Err(NoMemory),
             }

@@ -200,11 +200,6 @@ module _ (count : ℕ) (field : List ℕ) where
     again = λ pairs is. (refl, is.field_is ∙ sym (pairs_padded pairs));
   }
 
-  pub pairs_all : (i : ℕ) (left : List ℕ) (taken : List (ℕ × ℕ)) → PairsSo i left taken → min count 8 ≤ i → (pairs : List (ℕ × ℕ)) → IsPairField pairs → taken ≡ pairs
-  pairs_all i left taken so all pairs is =
-      let whole : length pairs ≤ i = let is_count = is.count_is in let few = is.few in omega arith in
-      (so.again pairs is).0 ∙ take_all i pairs whole
-
 module _ (format : Format) (len : ℕ) (first : List ℕ) where
   abbrev Bytes : List ℕ → List ℕ
   Bytes places = flat_map (number (place_width format)) places
@@ -214,9 +209,6 @@ module _ (format : Format) (len : ℕ) (first : List ℕ) where
     pub room : 384 ≤ length left + 3 * i
     pub count : length taken ≡ i
     pub again : (places rest : List ℕ) → ArePlaces format len places → first ≡ Bytes places ++ rest → (taken ≡ take i places) × (left ≡ Bytes (drop i places) ++ rest)
-
-  pub places_none : 384 ≤ length first → PlacesSo 0 first []
-  places_none room = record { room = omega arith; count = refl; again = λ places rest are is. (refl, is) }
 
   pub places_more : (i place : ℕ) (left after taken : List ℕ) → PlacesSo i left taken → i < blocks_for len → length left ≤ length after + 3
       → ((k : ℕ) (rest : List ℕ) → is_place format k ≡ true → left ≡ number (place_width format) k ++ rest → (place ≡ k) × (after ≡ rest))
@@ -236,8 +228,3 @@ module _ (format : Format) (len : ℕ) (first : List ℕ) where
           got.1 ∙ ap (λ (n : ℕ). Bytes (drop n places) ++ rest) next,
         );
   }
-
-  pub places_all : (i : ℕ) (left taken : List ℕ) → PlacesSo i left taken → blocks_for len ≤ i → (places rest : List ℕ) → ArePlaces format len places → first ≡ Bytes places ++ rest → taken ≡ places
-  places_all i left taken so all places rest are is =
-      let whole : length places ≤ i = let count_is = are.count in omega arith in
-      (so.again places rest are is).0 ∙ take_all i places whole

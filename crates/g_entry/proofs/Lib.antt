@@ -5,4 +5,3 @@ pub mod NameLemmas
 pub mod RuleLemmas
 pub mod SameLemmas
 pub mod ComingLemmas
-pub mod PlaceLemmas

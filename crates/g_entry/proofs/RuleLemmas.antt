@@ -37,18 +37,6 @@ users_from users both few places names = record {
   names = names;
 }
 
-pub places_of_users : (users : List UserRec) → AreUsers users → KeepPlaces users
-places_of_users users are = record {
-  each = λ i u is. record {
-    number = are.numbered i u is;
-    stands = record {
-      master = λ first. let at = are.master u (subst (λ (n : ℕ). slice_get users n ≡ Some u) first is) in (at.user, at.superior);
-      macros = λ second. let at = are.macros u (subst (λ (n : ℕ). slice_get users n ≡ Some u) second is) in (at.user, at.superior);
-      behind = λ behind. are.superiors i u behind is;
-    };
-  };
-}
-
 -- THE FILES
 pub files_from : (users : ℕ) (files : List FileRec) → length files ≤ 1024 → All (KeepsAlone users) files → AllPairs (λ r s. SameName r s → ⊥) files → AllPairs (λ r s. r.stamp ≢ s.stamp) files → AreFiles users files
 files_from users files few alone names stamps = record {
@@ -60,9 +48,6 @@ files_from users files few alone names stamps = record {
   dated = λ k d inside. (alone k d inside).dated;
   empty = λ k d inside. (alone k d inside).empty;
 }
-
-pub alone_in : (users : ℕ) (files : List FileRec) → AreFiles users files → All (KeepsAlone users) files
-alone_in users files are = λ k d inside. record { owner = are.owners k d inside; trapped = are.trapped k d inside; dated = are.dated k d inside; empty = are.empty k d inside }
 
 -- A RECORD with another number, another local name, another version, other traps or another place on tape is one of a file where what is new may be so
 pub file_made : (number : ℕ) (local : List ℕ) (stamp len : ℕ) (traps : TrapList) (tape : Option TapeCopy) (r : FileRec) → IsFile r → is_word local ≡ true → stamp < 2 ^ 62 → len ≤ 65536

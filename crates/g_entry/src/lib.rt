@@ -15,7 +15,7 @@ mod take;
 mod user_block;
 mod user_rec;
 
-pub use boxed_rec::{BoxedRec, boxed, place_of};
+pub use boxed_rec::BoxedRec;
 pub use file_block::{decode_file_in, decode_file_on_tape, encode_file_in, put_file};
 pub use file_rec::{FileRec, TapeCopy};
 pub use format::{Format, empty_block};

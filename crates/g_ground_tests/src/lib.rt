@@ -29,6 +29,8 @@ mod records;
 #[cfg(test)]
 mod streams;
 #[cfg(test)]
+mod tables;
+#[cfg(test)]
 mod tapes;
 #[cfg(test)]
 mod traps;

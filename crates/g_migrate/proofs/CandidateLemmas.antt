@@ -1,10 +1,10 @@
 -- The candidates among records, one file after another.
-use Rattle.std.proofs.Common.{◌≡◌, ℕ, zero, suc, ◌+◌, ◌<◌, ◌≤◌, Bool, true, false, ◌&&◌, cond, List, [], ◌∷◌, ◌++◌, length, get_or, map, filter, take, Option, Some, None, refl, sym, ◌∙◌, ap, subst, arith, if◌then◌else◌}
+use Rattle.std.proofs.Common.{◌≡◌, ℕ, zero, suc, ◌+◌, ◌<◌, ◌≤◌, Bool, true, false, ◌&&◌, cond, List, [], ◌∷◌, ◌++◌, length, get_or, map, filter, take, drop, Option, Some, None, refl, sym, ◌∙◌, ap, arith, if◌then◌else◌}
 use Rattle.std.specs.Prelude.{All, Contains, is_some, nat_lt}
 use Rattle.std.specs.Option.{option_to_list}
 use Rattle.std.specs.List.Sorted.{IsPermutation}
 use Rattle.std.proofs.lemmas.Bool.{cond-false, cond-true}
-use Rattle.std.proofs.lemmas.List.{length-map, map-append, take_more}
+use Rattle.std.proofs.lemmas.List.{length-map, map-append, take_all, take_more}
 use Rattle.std.proofs.lemmas.List.Elements.{All-filter, All-map, filter-append}
 use Rattle.std.proofs.lemmas.List.Sorted.{All-permutation, length_permutation}
 use Rattle.std.proofs.lemmas.List.Sums.{count_by-le-length, length-filter}
@@ -14,6 +14,7 @@ use Rattle.g_entry.specs.FileFields.{IsFile}
 use Rattle.g_tree.specs.Records.{IsRecords}
 use Rattle.g_disc_contents.specs.Contents.{File, recs_in}
 use Rattle.g_disc_contents.specs.Facts.{IsTied, OnlineFacts, room_of}
+use Rattle.g_online.proofs.WalkLemmas.{IsNext, next_of, none_behind}
 use Rattle.g_migrate.specs.declared.candidates.Candidate.{Candidate}
 use Rattle.g_migrate.specs.Candidates.{candidate_in, candidate_of, candidates_in}
 use Rattle.g_laws_memory.specs.UnjamPlan.{is_candidate}
@@ -33,10 +34,6 @@ file_in (f ∷ fs) (suc i) r inside is =
     let within = rest.inside in
     record { file = rest.file; inside = omega (arith, within); at = rest.at; rec_is = rest.rec_is }
 
-pub file_at : (files : List File) (recs : List FileRec) (i : ℕ) (r : FileRec) → recs ≡ map (λ (f : File). f.rec) files → i < length recs → r ≡ get_or recs i r → IsFileAt files i r
-file_at files recs i r same inside is =
-    file_in files i r (subst (λ (l : List FileRec). i < length l) same inside) (is ∙ ap (λ (l : List FileRec). get_or l i r) same)
-
 -- one file more
 one_candidate : (f : File) → candidates_in (f ∷ []) ≡ option_to_list (candidate_in f)
 one_candidate f = by_case (is_candidate f)
@@ -52,14 +49,42 @@ candidates_more files i f inside at =
     ∙ map-append candidate_of (filter is_candidate (take i files)) (filter is_candidate (f ∷ []))
     ∙ ap (λ (l : List Candidate). candidates_in (take i files) ++ l) (one_candidate f)
 
--- what was found of the record at a place
-module _ (files : List File) (recs : List FileRec) (i : ℕ) (r : FileRec) (found : Option Candidate) (same : recs ≡ map (λ (f : File). f.rec) files) (inside : i < length recs) (is : r ≡ get_or recs i r)
+-- AMONG THE RECORDS THAT ARE LEFT
+abbrev recs_of : List File → List FileRec
+recs_of files = map (λ (f : File). f.rec) files
+
+-- the candidates are those of the files in front of them
+pub record IsListed (files : List File) (left : List FileRec) (candidates : List Candidate) : Type 0 where
+  pub place : ℕ
+  pub left_is : left ≡ drop place (map (λ (f : File). f.rec) files)
+  pub so_far : candidates ≡ candidates_in (take place files)
+
+pub listed_none : (files : List File) (left : List FileRec) (candidates : List Candidate) → left ≡ map (λ (f : File). f.rec) files → candidates ≡ [] → IsListed files left candidates
+listed_none files left candidates is none = record { place = 0; left_is = is; so_far = none }
+
+-- what was found of the first of them
+module _ (files : List File) (left rest : List FileRec) (r : FileRec) (found : Option Candidate) (is : left ≡ r ∷ rest)
     (tells : (f : File) → Contains files f → f.rec ≡ r → found ≡ candidate_in f) where
-  pub found_is : candidates_in (take (i + 1) files) ≡ candidates_in (take i files) ++ option_to_list found
-  found_is =
-      let here = file_at files recs i r same inside is in
+  found_is : (i : ℕ) → IsNext (recs_of files) i r rest → candidates_in (take (i + 1) files) ≡ candidates_in (take i files) ++ option_to_list found
+  found_is i next =
+      let here = file_in files i r next.inside next.at in
       candidates_more files i here.file here.inside here.at
       ∙ ap (λ (o : Option Candidate). candidates_in (take i files) ++ option_to_list o) (sym (tells here.file (i, here.inside, here.at) here.rec_is))
+
+  pub listed_more : (candidates more : List Candidate) → IsListed files left candidates → more ≡ candidates ++ option_to_list found → IsListed files rest more
+  listed_more candidates more was put =
+      let next = next_of (recs_of files) was.place r rest (sym is ∙ was.left_is) in
+      record {
+        place = was.place + 1;
+        left_is = next.behind;
+        so_far = put ∙ ap (λ (l : List Candidate). l ++ option_to_list found) was.so_far ∙ sym (found_is was.place next);
+      }
+
+pub listed_all : (files : List File) (left : List FileRec) (candidates : List Candidate) → left ≡ [] → IsListed files left candidates → candidates ≡ candidates_in files
+listed_all files left candidates is was =
+    let past = none_behind (recs_of files) was.place (sym is ∙ was.left_is) in
+    let as_many = length-map files (λ (f : File). f.rec) in
+    was.so_far ∙ ap candidates_in (take_all was.place files (omega (arith, past, as_many)))
 
 -- WHETHER A FILE IS ONE, by its record
 three : (a b c : Bool) → (a && b && c) ≡ (if b && c then a else false)
@@ -84,13 +109,6 @@ is_one f r there dumped same tells yes_is online = sym (cond-true dumped there f
 
 pub is_none_of : (f : File) (r : FileRec) (dumped : Bool) → f.rec ≡ r → dumped ≡ (nat_lt 0 r.len && is_some r.tape) → dumped ≡ false → false ≡ is_candidate f
 is_none_of f r dumped same tells isnt = sym (cond-false dumped f.online false isnt) ∙ by_tape f r f.online dumped same tells refl
-
-pub candidate_is : (f : File) (r : FileRec) (is : Bool) (blocks : ℕ) → f.rec ≡ r → is ≡ is_candidate f → blocks ≡ blocks_for r.len
-    → (if is then Some (record { stamp = r.stamp; number = r.number; blocks = blocks }) else None) ≡ candidate_in f
-candidate_is f r is blocks same tells counted =
-    ap (λ (b : Bool). if b then Some (let c : Candidate = record { stamp = r.stamp; number = r.number; blocks = blocks } in c) else None) tells
-    ∙ ap (λ (n : ℕ). if is_candidate f then Some (let c : Candidate = record { stamp = r.stamp; number = r.number; blocks = n } in c) else None) counted
-    ∙ ap (λ (s : FileRec). if is_candidate f then Some (let c : Candidate = record { stamp = s.stamp; number = s.number; blocks = blocks_for s.len } in c) else None) (sym same)
 
 -- THEY ARE FEW, and small
 pub few_sorted : (files : List File) (sorted : List Candidate) → length files ≤ 1024 → IsPermutation (candidates_in files) sorted → length sorted ≤ 1024

@@ -7,9 +7,6 @@ use Rattle.std.proofs.lemmas.List.Sums.{sum_by-cons}
 use Rattle.g_migrate.specs.declared.candidates.Candidate.{Candidate}
 use Rattle.g_migrate.specs.Candidates.{blocks_in}
 
-abbrev pub stamp_of : Candidate → ℕ
-stamp_of c = c.stamp
-
 -- the blocks of a candidate that is below a stamp
 abbrev pub below : ℕ → Candidate → ℕ
 below t c = if nat_lt c.stamp t then c.blocks else 0
@@ -20,9 +17,6 @@ pub record AreRising (cs : List Candidate) : Type 0 where
 
 rest_rises : (c : Candidate) (cs : List Candidate) → AreRising (c ∷ cs) → AreRising cs
 rest_rises c cs rising = record { each = λ i j d before inside. rising.each (suc i) (suc j) d (omega (arith, before)) (omega (arith, inside)) }
-
-first_is_least : (c : Candidate) (cs : List Candidate) → AreRising (c ∷ cs) → All (λ (e : Candidate). c.stamp < e.stamp) cs
-first_is_least c cs rising k d inside = rising.each 0 (suc k) d (omega arith) (omega (arith, inside))
 
 none_below : (t : ℕ) (cs : List Candidate) → All (λ (c : Candidate). t ≤ c.stamp) cs → sum_by (below t) cs ≡ 0
 none_below t [] all = refl

@@ -6,8 +6,7 @@ use Rattle.std.proofs.lemmas.Bool.{eqb-true, or_cases}
 use Rattle.std.proofs.lemmas.List.{get_or-map, length-map}
 use Rattle.std.proofs.lemmas.Option.{same_Some}
 use Rattle.std.proofs.lemmas.List.Elements.{All-cons, All-contains, All-nil, Contains-get_or}
-use Rattle.g_disc.specs.Disc.{Causes, DiscState}
-use Rattle.g_disc.proofs.CallLemmas.{Causes-for, Causes-none}
+use Rattle.g_disc.proofs.CallLemmas.{Causes-none}
 use Rattle.g_entry.specs.declared.file_rec.FileRec.{FileRec}
 use Rattle.g_entry.specs.declared.file_rec.TapeCopy.{TapeCopy}
 use Rattle.g_entry.specs.declared.user_rec.UserRec.{UserRec}
@@ -18,15 +17,12 @@ use Rattle.g_tree.proofs.PutLemmas.{number_found}
 use Rattle.g_disc_contents.specs.Contents.{Contents, File, has, taken_off}
 use Rattle.g_disc_contents.specs.Facts.{IsTied, OnlineFacts}
 use Rattle.g_online.specs.declared.change.Change.TheVariants.{Unload}
-use Rattle.g_online.specs.declared.fault.OnlineFault.{OnlineFault}
-use Rattle.g_online.specs.declared.fault.OnlineFault.TheVariants as variants
 use Rattle.g_online.specs.AllowedChanges.{HasNumber, IsAllowed, IsUnjammable, KeepsRules}
 use Rattle.g_online.specs.Change.{changed, with_files}
-use Rattle.g_online.specs.Outcomes.{IsApplied}
 use Rattle.g_online.proofs.KeepLemmas.{rules_of}
 use Rattle.g_online.proofs.OffRuleLemmas.{MayGo, committed_rules, off_rules}
 use Rattle.g_migrate.specs.Invariant.{KeepsStore}
-use Rattle.g_migrate.specs.Migration.{HasMigrated, as_stored, refusal_by, refusal_of}
+use Rattle.g_migrate.specs.Migration.{HasMigrated, refusal_by, refusal_of}
 use Rattle.g_migrate.proofs.KeepsLemmas.{keeps_done, keeps_same, keeps_stopped}
 
 -- THE RULES of the contents, from what ties them to the disc
@@ -95,51 +91,6 @@ refused o number fault other tied = record {
   tied = tied;
   told = refl;
 }
-
--- a disc on which no write failed
-unstopped : (before after : DiscState) (was is : Type 0) → (was → ⊥) → (is → ⊥) → Causes ⊥ was before after → Causes ⊥ is before after
-unstopped before after was is none never causes = Causes-for (λ p. p) (λ p. p) (λ q. absurd (none q)) (λ s. absurd (never s)) causes
-
-other_fault : (o new : OnlineFacts) (number : ℕ) (fault : OnlineFault) → fault ≢ variants.Stopped
-    → (let r : Result (Unit {0}) OnlineFault = Err fault in IsApplied (Unload (number ∷ [])) o new r) → HasMigrated number o new (Err NoMemory)
-other_fault o new number fault other applied = record {
-  ok = tt;
-  stopped = λ is. absurd (let no : ⊥ = cc in no);
-  same = λ _. applied.same other;
-  causes = unstopped o.disc new.disc _ _ (λ is. other (let e : fault ≡ variants.Stopped = cc in e)) (λ is. let no : ⊥ = cc in no) applied.causes;
-  tied = applied.tied;
-  told = applied.told;
-}
-
-pub as_migrated : (o new : OnlineFacts) (number : ℕ) (answer : Result (Unit {0}) OnlineFault) → IsApplied (Unload (number ∷ [])) o new answer → HasMigrated number o new (as_stored answer)
-as_migrated o new number (Ok u) applied = record {
-  ok = applied.ok;
-  stopped = λ is. absurd (let no : ⊥ = cc in no);
-  same = tt;
-  causes = unstopped o.disc new.disc _ _ (λ is. let no : ⊥ = cc in no) (λ is. let no : ⊥ = cc in no) applied.causes;
-  tied = applied.tied;
-  told = applied.told;
-}
-as_migrated o new number (Err variants.Stopped) applied = record {
-  ok = tt;
-  stopped = λ is. applied.stopped refl;
-  same = λ other. absurd (other refl);
-  causes = Causes-for (λ p. p) (λ p. p) (λ _. refl) (λ _. refl) applied.causes;
-  tied = applied.tied;
-  told = applied.told;
-}
-as_migrated o new number (Err (variants.DiscFull need room)) applied = other_fault o new number (variants.DiscFull need room) (λ is. let no : ⊥ = cc in no) applied
-as_migrated o new number (Err variants.ReadFault) applied = other_fault o new number variants.ReadFault (λ is. let no : ⊥ = cc in no) applied
-as_migrated o new number (Err variants.NoFilestore) applied = other_fault o new number variants.NoFilestore (λ is. let no : ⊥ = cc in no) applied
-as_migrated o new number (Err variants.NoMemory) applied = other_fault o new number variants.NoMemory (λ is. let no : ⊥ = cc in no) applied
-
-pub only_two : (answer : Result (Unit {0}) OnlineFault) → OnErr (as_stored answer) ((as_stored answer ≡ Err Stopped) ⊎ (as_stored answer ≡ Err NoMemory))
-only_two (Ok u) = tt
-only_two (Err variants.Stopped) = inl refl
-only_two (Err (variants.DiscFull need room)) = inr refl
-only_two (Err variants.ReadFault) = inr refl
-only_two (Err variants.NoFilestore) = inr refl
-only_two (Err variants.NoMemory) = inr refl
 
 -- WHAT A STORE KEEPS
 keeps_by : (o new : OnlineFacts) (number : ℕ) (fault : StoreFault) → o.live ≡ true

@@ -1,14 +1,14 @@
 -- The first candidates in order of stamp are a plan of unjamming.
-use Rattle.std.proofs.Common.{◌≡◌, ◌≢◌, ℕ, zero, suc, ◌+◌, ◌<◌, ◌≤◌, ◌==◌, Bool, true, false, ◌&&◌, ◌||◌, List, [], ◌∷◌, ◌++◌, ◌*◌, length, get_or, map, filter, take, sum_by, Option, Some, None, refl, sym, ◌∙◌, ap, subst, arith, inl, inr, if◌then◌else◌}
+use Rattle.std.proofs.Common.{◌≡◌, ◌≢◌, ℕ, zero, suc, ◌+◌, ◌<◌, ◌≤◌, ◌==◌, Bool, true, false, ◌&&◌, ◌||◌, List, [], ◌∷◌, ◌*◌, length, get_or, map, filter, take, sum_by, Option, Some, None, refl, sym, ◌∙◌, ap, subst, arith, inl, inr, if◌then◌else◌}
 use Rattle.std.specs.Prelude.{◌⊎◌, All, AllPairs, Contains, is_some, nat_lt}
 use Rattle.std.specs.List.Sorted.{IsNonDecreasingBy, IsPermutation}
 use Rattle.std.proofs.lemmas.Bool.{and_from, and_parts, cases_Bool, cases_lt, cases_order, cond-false, cond-true, eq-eqb, eqb-true, lt-ltb, ltb-true}
-use Rattle.std.proofs.lemmas.List.{get_or-map, get_or-take, get_or_default, length-map, length-take-le, map_more, take-map}
+use Rattle.std.proofs.lemmas.List.{get_or-map, get_or-take, get_or_default, length-map, length-take-le, take-map}
 use Rattle.std.proofs.lemmas.List.Elements.{All-head, All-map, All-tail, Contains-get_or}
 use Rattle.std.proofs.lemmas.List.Folds.{list_any_at}
 use Rattle.std.proofs.lemmas.List.Kept.{AllPairs-filter}
 use Rattle.std.proofs.lemmas.List.Sorted.{Contains-permutation, IsPermutation-map, IsPermutation-sym, sum_by-IsPermutation}
-use Rattle.std.proofs.lemmas.List.Sums.{sum_by-cons, sum_by_more}
+use Rattle.std.proofs.lemmas.List.Sums.{sum_by-cons}
 use Rattle.g_base.specs.Block.{blocks_for}
 use Rattle.g_entry.specs.declared.file_rec.FileRec.{FileRec}
 use Rattle.g_tree.specs.Records.{IsRecords}
@@ -399,32 +399,3 @@ pub record HasTaken (cs : List Candidate) (start need count : ℕ) (taken : List
   pub room_is : room ≡ start + blocks_in (take count cs)
   pub most : room ≤ start + 128 * count
   pub least : (fewer : ℕ) → fewer < count → start + blocks_in (take fewer cs) < need
-
-pub none_yet : (cs : List Candidate) (start need : ℕ) → HasTaken cs start need 0 [] start
-none_yet cs start need = record {
-  numbers = refl;
-  room_is = (let none : blocks_in (take 0 cs) ≡ 0 = refl in omega (arith, none));
-  most = omega arith;
-  least = λ fewer less. absurd (let no : ⊥ = omega (arith, less) in no);
-}
-
-pub one_more : (cs : List Candidate) (start need count : ℕ) (taken : List ℕ) (room : ℕ) (d : Candidate) → HasTaken cs start need count taken room → count < length cs → room < need → (get_or cs count d).blocks ≤ 128
-    → HasTaken cs start need (count + 1) (taken ++ (get_or cs count d).number ∷ []) (room + (get_or cs count d).blocks)
-one_more cs start need count taken room d so inside short small =
-    let room_is = so.room_is in
-    let most = so.most in
-    let more = sum_by_more (λ (c : Candidate). c.blocks) cs count d inside in
-    record {
-      numbers = ap (λ (ns : List ℕ). ns ++ (get_or cs count d).number ∷ []) so.numbers ∙ sym (map_more (λ (c : Candidate). c.number) cs count d inside);
-      room_is = omega (arith, room_is, more);
-      most = omega (arith, most, small);
-      least = λ fewer less. by_order fewer (cases_order fewer count) less;
-    }
-  where
-    by_order : (fewer : ℕ) → (fewer ≡ count) ⊎ ((fewer < count) ⊎ (count < fewer)) → fewer < count + 1 → start + blocks_in (take fewer cs) < need
-    by_order fewer (inl same) less = let room_is = so.room_is in let e = ap (λ (n : ℕ). blocks_in (take n cs)) same in omega (arith, room_is, e, short)
-    by_order fewer (inr (inl before)) less = so.least fewer before
-    by_order fewer (inr (inr behind)) less = let no : ⊥ = omega (arith, behind, less) in absurd no
-
-pub first_enough : (cs : List Candidate) (start need count : ℕ) (taken : List ℕ) (room : ℕ) → HasTaken cs start need count taken room → count ≤ length cs → (need ≤ room) ⊎ (count ≡ length cs) → TakesFirst cs start need taken room
-first_enough cs start need count taken room so within enough = record { count = count; within = within; numbers = so.numbers; room_is = so.room_is; enough = enough; least = so.least }

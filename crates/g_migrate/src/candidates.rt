@@ -30,7 +30,7 @@ pub(crate) fn candidates<D: Disc>(
     let files = online.tree().files();
     let mut candidates = Vec::new(alloc);
     for file in files {
-        add(&mut candidates, candidate_for(online, file.get()))?;
+        add(&mut candidates, candidate_for(online, file))?;
     }
     Ok(candidates)
 }

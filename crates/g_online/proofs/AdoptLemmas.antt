@@ -1,7 +1,7 @@
 -- Files with copies on tape are ready to be written.
-use Rattle.std.proofs.Common.{◌≡◌, ◌≢◌, ◌⊎◌, ℕ, suc, ◌+◌, ◌<◌, ◌==◌, Bool, true, false, List, [], ◌∷◌, ◌++◌, length, get_or, map, drop, Option, Some, None, All, AllPairs, refl, sym, ◌∙◌, ap, subst, arith, drop-cons, add-one, inl, inr}
+use Rattle.std.proofs.Common.{◌≡◌, ◌≢◌, ◌⊎◌, ℕ, ◌+◌, ◌==◌, Bool, true, false, List, [], ◌∷◌, ◌++◌, map, Option, Some, None, All, AllPairs, refl, sym, ◌∙◌, ap, subst, arith, inl, inr}
 use Rattle.std.specs.Prelude.{Contains, IfSome, is_some}
-use Rattle.std.proofs.lemmas.Bool.{cases_Bool, cond-false, cond-true, eq-eqb, ne_eqb}
+use Rattle.std.proofs.lemmas.Bool.{cases_Bool, cond-false, cond-true}
 use Rattle.std.proofs.lemmas.List.Elements.{All-cons, All-head, All-tail}
 use Rattle.g_blocks.specs.Pool.{IsFresh, IsInArea}
 use Rattle.g_copy.specs.declared.copy.DiscCopy.{DiscCopy}
@@ -28,18 +28,6 @@ use Rattle.g_online.proofs.StepLemmas.{IsReady}
 
 abbrev pub Tapes : Type 0
 Tapes = List (ℕ × TapeCopy)
-
--- THE COPY of a stamp, from place to place
-pub copy_step : (cs : Tapes) (i stamp : ℕ) (old : Option TapeCopy) (d : ℕ × TapeCopy) → i < length cs → (get_or cs i d).0 ≢ stamp → copy_of (drop i cs) stamp old ≡ copy_of (drop (i + 1) cs) stamp old
-copy_step cs i stamp old d within other =
-    ap (λ (rest : Tapes). copy_of rest stamp old) (drop-cons cs i d within)
-    ∙ cond-false ((get_or cs i d).0 == stamp) (Some (get_or cs i d).1) (copy_of (drop (suc i) cs) stamp old) (ne_eqb (get_or cs i d).0 stamp other)
-    ∙ ap (λ (k : ℕ). copy_of (drop k cs) stamp old) (sym (add-one i))
-
-pub copy_found : (cs : Tapes) (i stamp : ℕ) (old : Option TapeCopy) (d : ℕ × TapeCopy) → i < length cs → (get_or cs i d).0 ≡ stamp → copy_of (drop i cs) stamp old ≡ Some (get_or cs i d).1
-copy_found cs i stamp old d within same =
-    ap (λ (rest : Tapes). copy_of rest stamp old) (drop-cons cs i d within)
-    ∙ cond-true ((get_or cs i d).0 == stamp) (Some (get_or cs i d).1) (copy_of (drop (suc i) cs) stamp old) (eq-eqb (get_or cs i d).0 stamp same)
 
 -- where there is none now, there was none
 old_none : (copies : Tapes) (stamp : ℕ) (old : Option TapeCopy) → copy_of copies stamp old ≡ None → old ≡ None

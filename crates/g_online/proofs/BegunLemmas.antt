@@ -503,13 +503,6 @@ has_made disc before after side next old new pool head users files online o most
       told = told;
     })
 
--- THE REFUSALS of a directory that is read
-pub refusal_is : (fault : DirsFault) → fault ≢ dirs.Stopped → (refusal_of fault ≡ ReadFault) ⊎ ((refusal_of fault ≡ NoFilestore) ⊎ (refusal_of fault ≡ NoMemory))
-refusal_is dirs.ReadFault other = inl refl
-refusal_is dirs.NoFilestore other = inr (inl refl)
-refusal_is dirs.Stopped other = absurd (other refl)
-refusal_is dirs.NoMemory other = inr (inr refl)
-
 -- numbers that rise, one more
 all_below : (n : ℕ) (xs : List ℕ) → All (λ m. m < n) xs → filter (λ m. nat_lt m n) xs ≡ xs
 all_below n [] below = refl

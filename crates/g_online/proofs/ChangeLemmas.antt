@@ -1,6 +1,5 @@
 -- The contents of the directory that memory is to have behind a change are those that the change makes.
-use Rattle.std.proofs.Common.{◌≡◌, ℕ, ◌+◌, ◌<◌, Bool, true, false, ◌||◌, List, map, Option, None, AllPairs, ◌∙◌, ap, is_some}
-use Rattle.std.specs.Prelude.{Contains}
+use Rattle.std.proofs.Common.{◌≡◌, ℕ, ◌+◌, Bool, true, false, ◌||◌, List, map, Option, None, ◌∙◌, ap, is_some}
 use Rattle.std.specs.Option.{ForSome}
 use Rattle.g_copy.specs.declared.copy.DiscCopy.{DiscCopy}
 use Rattle.g_copy.specs.Copy.{bytes_at}
@@ -10,13 +9,12 @@ use Rattle.g_entry.specs.declared.head.Head.{Head}
 use Rattle.g_entry.specs.declared.user_rec.UserRec.{UserRec}
 use Rattle.g_tree.specs.State.{with_file as tree_with_file, without_file as tree_without_file}
 use Rattle.g_dirs.specs.Directory.{directory_of}
-use Rattle.g_disc_contents.specs.Contents.{Contents, File, committed, contents_of, copied_rec, brought, set_rec, taken_off, with_copies, with_file, without_file}
-use Rattle.g_online.specs.declared.change.Change.{Change}
-use Rattle.g_online.specs.declared.change.Change.TheVariants.{PutFile, SetFile, EraseFile, Unload, Bring, Adopt}
-use Rattle.g_online.specs.Change.{changed, told_bytes, unjammed, unjammed_by}
+use Rattle.g_disc_contents.specs.Contents.{Contents, File, committed, contents_of, copied_rec, brought, taken_off, with_copies, with_file, without_file}
+use Rattle.g_online.specs.declared.change.Change.TheVariants.{PutFile, EraseFile, Unload, Bring, Adopt}
+use Rattle.g_online.specs.Change.{changed, told_bytes}
 use Rattle.g_online.specs.Copies.{with_copy_at, without_copy, without_copies}
 use Rattle.g_online.proofs.CopyLemmas.{Copies}
-use Rattle.g_online.proofs.ContentLemmas.{Told, files_of, erased, put_in, taken_away, brought_back, copies_noted, record_set, bytes_are}
+use Rattle.g_online.proofs.ContentLemmas.{Told, files_of, erased, put_in, taken_away, brought_back, copies_noted, bytes_are}
 
 -- the head of a commit: while versions are pinned it keeps the intent
 abbrev pub committed_head : Bool → Head → Head
@@ -37,12 +35,6 @@ module _ (held : Told) (pinned : Bool) (head : Head) (users : List UserRec) (fil
 
   abbrev behind : Head → List FileRec → Copies → Contents
   behind h fs on = contents_of held (directory_of (committed_head pinned h) users fs on)
-
-  pub set_file_contents : (rec : FileRec) → AllPairs (λ r s. r.number < s.number) files → Contains (map (λ r. r.number) files) rec.number
-      → behind head (tree_with_file rec files) online ≡ changed (is_some held) pinned (SetFile rec) was
-  unfolding changed
-  set_file_contents rec rising there =
-      committed_is pinned head users (files_of held (tree_with_file rec files) online) (set_rec rec (files_of held files online)) (record_set held rec files online rising there)
 
   pub erase_contents : (number : ℕ) → behind head (tree_without_file number files) (without_copy number online) ≡ changed (is_some held) pinned (EraseFile number) was
   unfolding changed
@@ -83,11 +75,3 @@ module _ (held : Told) (pinned : Bool) (head : Head) (users : List UserRec) (fil
       (brought_back held number copy files (without_copies unjam online)
       ∙ ap (λ (b : Option (List ℕ)). brought number b (files_of held files (without_copies unjam online))) (bytes_are held copy bytes told)
       ∙ ap (brought number (told_bytes (is_some held) bytes)) (taken_away held unjam files online))
-
-  -- the first of two commits
-  pub unjammed_contents : (change : Change) → behind head files (without_copies (unjammed_by change) online) ≡ unjammed pinned change was
-  unjammed_contents change = by_pinned pinned
-    where
-      by_pinned : (b : Bool) → contents_of held (directory_of (committed_head b head) users files (without_copies (unjammed_by change) online)) ≡ unjammed b change was
-      by_pinned true = ap (contents_with head users) (taken_away held (unjammed_by change) files online)
-      by_pinned false = ap (contents_with (record head { intent = None }) users) (taken_away held (unjammed_by change) files online)

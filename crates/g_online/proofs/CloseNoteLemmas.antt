@@ -1,5 +1,5 @@
 -- The places on tape that were noted are put into the records one by one.
-use Rattle.std.proofs.Common.{◌≡◌, ◌≢◌, ◌⊎◌, ℕ, suc, ◌+◌, ◌<◌, ◌≤◌, ◌==◌, Bool, true, false, List, [], ◌∷◌, length, get_or, map, drop, nat_lt, Option, Some, None, All, AllPairs, refl, sym, ◌∙◌, ap, subst, arith, inl, inr, drop-cons, add-one, if◌then◌else◌}
+use Rattle.std.proofs.Common.{◌≡◌, ◌≢◌, ◌⊎◌, ℕ, suc, ◌+◌, ◌<◌, ◌≤◌, ◌==◌, Bool, true, false, List, [], ◌∷◌, length, get_or, map, nat_lt, Option, Some, None, All, AllPairs, refl, sym, ◌∙◌, ap, subst, arith, inl, inr, if◌then◌else◌}
 use Rattle.std.specs.Prelude.{Contains}
 use Rattle.std.specs.FinMap as finmap
 use Rattle.std.specs.FinMap.{get-from_entries, nat_cmp-IsAntisymmetric}
@@ -24,27 +24,12 @@ use Rattle.g_tree.proofs.PutLemmas.{number_found}
 use Rattle.g_tree.proofs.RecordLemmas.{names_apart}
 use Rattle.g_tree.proofs.RuleLemmas.{one_of_key}
 use Rattle.g_disc_contents.specs.Contents.{copied_rec, copy_of}
-use Rattle.g_online.specs.declared.pinned.Pinned.{Pinned}
-use Rattle.g_online.specs.DumpedVersions.{noted_at, noted_in}
+use Rattle.g_online.specs.DumpedVersions.{noted_at}
 use Rattle.g_online.proofs.EntryLemmas.{put-set}
 use Rattle.g_online.proofs.VersionLemmas.{put_one}
 
 abbrev pub Tapes : Type 0
 Tapes = List (ℕ × TapeCopy)
-
--- THE COPY of a stamp, from version to version
-pub noted_step : (pins : List Pinned) (k stamp : ℕ) (old : Option TapeCopy) (p : Pinned) → k < length pins → p ≡ get_or pins k p → p.stamp ≢ stamp
-    → copy_of (noted_in (drop k pins)) stamp old ≡ copy_of (noted_in (drop (k + 1) pins)) stamp old
-noted_step pins k stamp old p within is other =
-    ap (λ (rest : List Pinned). copy_of (noted_in rest) stamp old) (drop-cons pins k p within ∙ ap (λ (q : Pinned). q ∷ drop (suc k) pins) (sym is))
-    ∙ cond-false (p.stamp == stamp) (Some p.copy) (copy_of (noted_in (drop (suc k) pins)) stamp old) (ne_eqb p.stamp stamp other)
-    ∙ ap (λ (i : ℕ). copy_of (noted_in (drop i pins)) stamp old) (sym (add-one k))
-
-pub noted_found : (pins : List Pinned) (k stamp : ℕ) (old : Option TapeCopy) (p : Pinned) → k < length pins → p ≡ get_or pins k p → p.stamp ≡ stamp
-    → copy_of (noted_in (drop k pins)) stamp old ≡ Some p.copy
-noted_found pins k stamp old p within is same =
-    ap (λ (rest : List Pinned). copy_of (noted_in rest) stamp old) (drop-cons pins k p within ∙ ap (λ (q : Pinned). q ∷ drop (suc k) pins) (sym is))
-    ∙ cond-true (p.stamp == stamp) (Some p.copy) (copy_of (noted_in (drop (suc k) pins)) stamp old) (eq-eqb p.stamp stamp same)
 
 -- a place that is noted is found whatever there was
 pub noted_some : (copies : Tapes) (stamp : ℕ) (old : Option TapeCopy) (copy : TapeCopy) → Some copy ≡ copy_of copies stamp None → Some copy ≡ copy_of copies stamp old

@@ -30,9 +30,6 @@ pub online_is : (held : Told) (e : FileEntry) → (file_of held e).online ≡ is
 online_is held (rec, None) = refl
 online_is held (rec, Some copy) = refl
 
-number_of : File → ℕ
-number_of f = f.rec.number
-
 number_is : (held : Told) (e : FileEntry) → (file_of held e).rec.number ≡ e.0.number
 number_is held e = ap (λ (s : FileRec). s.number) (rec_is held e)
 

@@ -277,9 +277,6 @@ going_is number before m going =
     } in
     stands_found m.files numbered number k going.file at ∙ ap Some going.there.2
 
-pub number_used : (number : ℕ) (before : DiscState) (m : Memory) (going : IsGoing number before m) → is_some (finmap.get (by_number m.files) number) ≡ true
-number_used number before m going = ap is_some (going_is number before m going)
-
 erase_set_ready : (number : ℕ) (before : DiscState) (m : Memory) (pool : List Bool) (first pages : Remembered) (o : OnlineFacts) → facts_of before m ≡ o → IsKept before m → IsAllowed (EraseFile number) o
     → (going : IsGoing number before m) → IsPooled before.size m.pins (without_entry number (entries_of m.files m.online)) pool
     → first ≡ marked 0 m.pages → StillRemembers m.pages first → CoversBut 0 m.pages first → pages ≡ marked (64 + number) first → StillRemembers first pages → CoversBut (64 + number) first pages

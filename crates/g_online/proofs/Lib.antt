@@ -36,6 +36,7 @@ pub mod CloseMarkLemmas
 pub mod NotedLemmas
 pub mod CloseLemmas
 pub mod AdoptedLemmas
+pub mod WalkLemmas
 pub mod PinPutLemmas
 pub mod PinWaitLemmas
 pub mod PinLemmas

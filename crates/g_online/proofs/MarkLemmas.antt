@@ -1,15 +1,12 @@
 -- In which blocks two directories differ.
-use Rattle.std.proofs.Common.{◌≡◌, ◌≢◌, ℕ, ◌+◌, ◌-◌, ◌<◌, ◌≤◌, ◌==◌, Bool, true, false, List, refl, sym, ap, subst, ◌∙◌, arith, slice_get, if◌then◌else◌}
+use Rattle.std.proofs.Common.{◌≡◌, ◌≢◌, ℕ, ◌+◌, ◌-◌, ◌<◌, ◌≤◌, ◌==◌, Bool, true, false, List, refl, ap, arith, slice_get, if◌then◌else◌}
 use Rattle.std.specs.Prelude.{nat_lt}
 use Rattle.std.proofs.lemmas.Bool.{eqb-true, eq-eqb, ltb-true, ltb-false}
 use Rattle.g_entry.specs.declared.format.Format.TheVariants.{Two}
-use Rattle.g_entry.specs.declared.head.Head.{Head}
 use Rattle.g_entry.specs.declared.user_rec.UserRec.{UserRec}
 use Rattle.g_entry.specs.HeadFields.{head_block}
 use Rattle.g_dirs.specs.Directory.{Directory, FileEntry}
 use Rattle.g_dirs.specs.Image.{block_of, entry_at, file_or_empty, user_or_empty}
-use Rattle.g_dirs.specs.Pages.{Covers, Remembered}
-use Rattle.g_online.specs.Invariant.{CoversHead}
 
 chosen : (b c : Bool) (h k u v f g : List ℕ) → (b ≡ true → h ≡ k) → (b ≡ false → c ≡ true → u ≡ v) → (b ≡ false → c ≡ false → f ≡ g)
     → (if b then h else (if c then u else f)) ≡ (if b then k else (if c then v else g))
@@ -35,11 +32,6 @@ same_block d e j heads users files =
 pub but_head : (d e : Directory) → e.users ≡ d.users → e.files ≡ d.files → (j : ℕ) → j ≢ 0 → block_of Two e j ≡ block_of Two d j
 but_head d e users files j other =
     same_block d e j (λ is. absurd (other is)) (λ low less. ap (λ (us : List UserRec). slice_get us (j - 1)) users) (λ past. ap (λ (fs : List FileEntry). entry_at fs (j - 64)) files)
-
--- a head that stays
-pub covers_kept : (head : Head) (pages : Remembered) → CoversHead head head pages pages
-covers_kept head pages side d e covered before after users files =
-    subst (λ (x : Directory). Covers x side pages) (λ i. record { head = (before ∙ sym after) i; users = (sym users) i; files = (sym files) i }) covered
 
 -- all but that of user n
 pub but_user : (n : ℕ) (d e : Directory) → e.head ≡ d.head → ((i : ℕ) → i ≢ n → slice_get e.users i ≡ slice_get d.users i) → e.files ≡ d.files

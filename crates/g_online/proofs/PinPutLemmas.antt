@@ -1,6 +1,5 @@
 -- The versions that wait are pinned one behind the other, owner by owner.
-use Rattle.std.proofs.Common.{◌≡◌, ℕ, zero, suc, ◌+◌, ◌*◌, ◌<◌, ◌≤◌, ◌==◌, ◌&&◌, ◌^◌, Bool, true, false, List, [], ◌∷◌, ◌++◌, length, get_or, take, All, sym, ◌∙◌, ap, subst, arith, add-one, append_assoc, if◌then◌else◌}
-use Rattle.std.proofs.lemmas.Bool.{cond-false, cond-true}
+use Rattle.std.proofs.Common.{◌≡◌, ℕ, zero, suc, ◌+◌, ◌*◌, ◌<◌, ◌≤◌, ◌==◌, ◌&&◌, ◌^◌, Bool, true, false, List, [], ◌∷◌, ◌++◌, length, get_or, take, drop, All, sym, ◌∙◌, ap, subst, arith, add-one, append_assoc, if◌then◌else◌}
 use Rattle.std.proofs.lemmas.List.{append-nil, length-take-le, take_all, take_more}
 use Rattle.std.proofs.lemmas.List.Elements.{All-head, All-tail, All-take, All-weaker, filter-append}
 use Rattle.g_base.specs.Block.{blocks_for}
@@ -9,6 +8,7 @@ use Rattle.g_entry.specs.declared.file_rec.FileRec.{FileRec}
 use Rattle.g_entry.specs.declared.user_rec.UserRec.{UserRec}
 use Rattle.g_entry.specs.FileFields.{IsFile}
 use Rattle.g_tree.specs.Records.{IsRecords}
+use Rattle.g_online.proofs.WalkLemmas.{IsNext, next_of, none_behind}
 use Rattle.g_online.specs.declared.pinned.Pinned.{Pinned}
 use Rattle.g_online.specs.DumpedVersions.{HasPut, blocks_of, is_waiting, pinned_of, pins_from, waiting_below, waiting_of}
 
@@ -63,13 +63,13 @@ module _ (serial owner : ℕ) (online : List (ℕ × DiscCopy)) (files : List Fi
       ap (waiting_of owner) (take_more files k r within ∙ ap (λ (s : FileRec). take k files ++ s ∷ []) (sym is))
       ∙ filter-append (λ (s : FileRec). (s.owner == owner) && is_waiting s) (take k files) (r ∷ [])
 
-  pub file_more : (p q s : List Pinned) (a b c : ℕ) → HasPut serial online (waiting_of owner (take k files)) p a q b → HasPut serial online (waiting_of owner (r ∷ [])) q b s c
+  file_more : (p q s : List Pinned) (a b c : ℕ) → HasPut serial online (waiting_of owner (take k files)) p a q b → HasPut serial online (waiting_of owner (r ∷ [])) q b s c
       → HasPut serial online (waiting_of owner (take (k + 1) files)) p a s c
   file_more p q s a b c was more =
       subst (λ (rs : List FileRec). HasPut serial online rs p a s c) (sym one_further) (put_then serial online (waiting_of owner (take k files)) (waiting_of owner (r ∷ [])) p q s a b c was more)
 
   -- its places are numbers of 32 bits
-  pub file_fits : (p q : List Pinned) (a b : ℕ) → length files ≤ 1024 → All (λ s. s.len ≤ 65536) files → a + 131072 < 2 ^ 32 → HasPut serial online (waiting_of owner (take k files)) p a q b → b + blocks_for r.len < 2 ^ 32
+  file_fits : (p q : List Pinned) (a b : ℕ) → length files ≤ 1024 → All (λ s. s.len ≤ 65536) files → a + 131072 < 2 ^ 32 → HasPut serial online (waiting_of owner (take k files)) p a q b → b + blocks_for r.len < 2 ^ 32
   file_fits p q a b few all room was =
       let P : FileRec → Type 0 = λ s. s.len ≤ 65536 in
       let front = few_of owner (take k files) (All-take P k files all) in
@@ -79,23 +79,32 @@ module _ (serial owner : ℕ) (online : List (ℕ × DiscCopy)) (files : List Fi
       let at = was.at in
       omega (arith, front, long, one, at, room, few, within)
 
-pub file_none : (serial owner : ℕ) (online : List (ℕ × DiscCopy)) (files : List FileRec) (pins : List Pinned) (at : ℕ) → HasPut serial online (waiting_of owner (take 0 files)) pins at pins at
-file_none serial owner online files pins at = put_none serial online pins at
+-- AMONG THE FILES THAT ARE LEFT
+pub record IsPutting (serial owner : ℕ) (online : List (ℕ × DiscCopy)) (files left : List FileRec) (before : List Pinned) (from : ℕ) (after : List Pinned) (to : ℕ) : Type 0 where
+  pub place : ℕ
+  pub left_is : left ≡ drop place files
+  pub put : HasPut serial online (waiting_of owner (take place files)) before from after to
 
-pub file_all : (serial owner : ℕ) (online : List (ℕ × DiscCopy)) (files : List FileRec) (k : ℕ) (p q : List Pinned) (a b : ℕ) → length files ≤ k → HasPut serial online (waiting_of owner (take k files)) p a q b
-    → HasPut serial online (waiting_of owner files) p a q b
-file_all serial owner online files k p q a b all was = subst (λ (fs : List FileRec). HasPut serial online (waiting_of owner fs) p a q b) (take_all k files all) was
+pub putting_none : (serial owner : ℕ) (online : List (ℕ × DiscCopy)) (files left : List FileRec) (pins : List Pinned) (at : ℕ) → left ≡ files → IsPutting serial owner online files left pins at pins at
+putting_none serial owner online files left pins at is = record { place = 0; left_is = is; put = put_none serial online pins at }
 
--- what pinning one file does
-pub put_not : (serial owner : ℕ) (online : List (ℕ × DiscCopy)) (r : FileRec) (pins : List Pinned) (at : ℕ) → ((r.owner == owner) && is_waiting r) ≡ false → HasPut serial online (waiting_of owner (r ∷ [])) pins at pins at
-put_not serial owner online r pins at isnt =
-    subst (λ (rs : List FileRec). HasPut serial online rs pins at pins at) (sym (cond-false ((r.owner == owner) && is_waiting r) (r ∷ []) [] isnt)) (put_none serial online pins at)
+module _ (serial owner : ℕ) (online : List (ℕ × DiscCopy)) (files left rest : List FileRec) (r : FileRec) (is : left ≡ r ∷ rest) (p q : List Pinned) (a b : ℕ) (was : IsPutting serial owner online files left p a q b) where
+  next_is : IsNext files was.place r rest
+  next_is = next_of files was.place r rest (sym is ∙ was.left_is)
 
-pub put_one_more : (serial owner : ℕ) (online : List (ℕ × DiscCopy)) (r : FileRec) (p q : List Pinned) (a b : ℕ) → ((r.owner == owner) && is_waiting r) ≡ true → q ≡ p ++ pinned_of serial a online r ∷ [] → b ≡ a + blocks_for r.len
-    → HasPut serial online (waiting_of owner (r ∷ [])) p a q b
-put_one_more serial owner online r p q a b is pins at =
-    subst (λ (rs : List FileRec). HasPut serial online rs p a q b) (sym (cond-true ((r.owner == owner) && is_waiting r) (r ∷ []) [] is))
-    (record { pins = pins; at = at ∙ (let same : a + blocks_for r.len ≡ a + (blocks_for r.len + 0) = omega arith in same) })
+  pub putting_more : (s : List Pinned) (c : ℕ) → HasPut serial online (waiting_of owner (r ∷ [])) q b s c → IsPutting serial owner online files rest p a s c
+  putting_more s c more = record {
+    place = was.place + 1;
+    left_is = next_is.behind;
+    put = file_more serial owner online files was.place r next_is.inside next_is.at p q s a b c was.put more;
+  }
+
+  pub putting_fits : length files ≤ 1024 → All (λ s. s.len ≤ 65536) files → a + 131072 < 2 ^ 32 → b + blocks_for r.len < 2 ^ 32
+  putting_fits few all room = file_fits serial owner online files was.place r next_is.inside next_is.at p q a b few all room was.put
+
+pub putting_all : (serial owner : ℕ) (online : List (ℕ × DiscCopy)) (files left : List FileRec) (p q : List Pinned) (a b : ℕ) → left ≡ [] → IsPutting serial owner online files left p a q b → HasPut serial online (waiting_of owner files) p a q b
+putting_all serial owner online files left p q a b is was =
+    subst (λ (fs : List FileRec). HasPut serial online (waiting_of owner fs) p a q b) (take_all was.place files (none_behind files was.place (sym is ∙ was.left_is))) was.put
 
 pub lengths_are : (users : List UserRec) (files : List FileRec) → IsRecords users files → All (λ r. r.len ≤ 65536) files
 lengths_are users files is = All-weaker IsFile (λ (r : FileRec). r.len ≤ 65536) (λ r file. file.len) files is.each_file

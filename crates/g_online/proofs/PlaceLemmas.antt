@@ -2,7 +2,7 @@
 use Rattle.std.proofs.Common.{◌≡◌, ◌≢◌, ℕ, zero, suc, ◌+◌, ◌<◌, ◌≤◌, ◌==◌, Bool, true, false, List, [], ◌∷◌, ◌++◌, filter, not, Option, Some, None, All, AllPairs, refl, sym, ◌∙◌, ap, inl, inr, arith, if◌then◌else◌, cond, ◌||◌, get_or}
 use Rattle.std.specs.Prelude.{Contains, nat_lt, sum_by, IfSome}
 use Rattle.std.specs.List.{flat_map}
-use Rattle.std.proofs.lemmas.Bool.{cases_Bool, cases_eq, cases_order, cond-false, cond-true, eq-eqb, ne_eqb, lt-ltb, le-ltb}
+use Rattle.std.proofs.lemmas.Bool.{cases_eq, cases_order, cond-false, cond-true, eq-eqb, ne_eqb, lt-ltb, le-ltb}
 use Rattle.std.proofs.lemmas.List.Elements.{All-head, All-tail, All-contains, All-weaker}
 use Rattle.std.proofs.lemmas.List.Sums.{sum_by-append, sum_by-cons}
 use Rattle.g_dirs.specs.Directory.{FileEntry, places_of, all_places}
@@ -19,22 +19,6 @@ sum-in h p x xs is = ap (sum_by h) (cond-true (p x) (x ∷ filter p xs) (filter 
 
 sum-out : {X : Type 0} (h : X → ℕ) (p : X → Bool) (x : X) (xs : List X) → p x ≡ false → sum_by h (filter p (x ∷ xs)) ≡ sum_by h (filter p xs)
 sum-out h p x xs is = ap (sum_by h) (cond-false (p x) (x ∷ filter p xs) (filter p xs) is)
-
-sum-agree : {X : Type 0} (g h : X → ℕ) (xs : List X) → All (λ x. g x ≡ h x) xs → sum_by g xs ≡ sum_by h xs
-sum-agree g h [] same = refl
-sum-agree g h (x ∷ xs) same =
-    let first : g x ≡ h x = All-head (λ y. g y ≡ h y) x xs same in
-    omega (arith, sum_by-cons g x xs, sum_by-cons h x xs, first, sum-agree g h xs (All-tail (λ y. g y ≡ h y) x xs same))
-
-sum-filter : {X : Type 0} (h : X → ℕ) (p : X → Bool) (xs : List X) → sum_by h (filter p xs) ≡ sum_by (λ x. if p x then h x else 0) xs
-sum-filter h p [] = refl
-sum-filter h p (x ∷ xs) =
-    let k = sum_by-cons (λ y. if p y then h y else 0) x xs in
-    let rest = sum-filter h p xs in
-    elim (cases_Bool (p x)) as (λ _. sum_by h (filter p (x ∷ xs)) ≡ sum_by (λ y. if p y then h y else 0) (x ∷ xs)) [
-      | inl is ↦ omega (arith, sum-in h p x xs is, k, rest, cond-true (p x) (h x) 0 is)
-      | inr is ↦ omega (arith, sum-out h p x xs is, k, rest, cond-false (p x) (h x) 0 is)
-    ]
 
 -- A FILE AMONG FILES by its number
 abbrev pub without_entry : ℕ → List FileEntry → List FileEntry
@@ -111,21 +95,6 @@ pub places_with : (e : FileEntry) (files : List FileEntry) → SameUse (all_plac
 places_with e files f =
     let h : FileEntry → ℕ = λ g. sum_by f (places_of g) in
     omega (arith, sum-flat_map f places_of (with_entry e files), sum-flat_map f places_of (without_entry e.0.number files), sum_by-append f (places_of e) (all_places (without_entry e.0.number files)), sum_with h e files)
-
--- one file of a number
-pub one_of_number : (e : FileEntry) (files : List FileEntry) → RisingEntries files → Contains files e → All (λ f. f.0.number ≡ e.0.number → f ≡ e) files
-one_of_number e [] rising there k d inside same = let no : ⊥ = omega (arith, inside) in absurd no
-one_of_number e (x ∷ files) rising (zero, within, is) zero d inside same = is
-one_of_number e (x ∷ files) rising (zero, within, is) (suc k) d inside same =
-    let less : x.0.number < (get_or files k d).0.number = first_below x files rising k d (omega (arith, inside)) in
-    let at : x.0.number ≡ e.0.number = ap (λ (f : FileEntry). f.0.number) is in
-    let no : ⊥ = omega (arith, less, at, same) in absurd no
-one_of_number e (x ∷ files) rising (suc j, within, is) zero d inside same =
-    let there : Contains files e = (j, omega (arith, within), is) in
-    let less : x.0.number < e.0.number = All-contains (λ f. x.0.number < f.0.number) files e (first_below x files rising) there in
-    let no : ⊥ = omega (arith, less, same) in absurd no
-one_of_number e (x ∷ files) rising (suc j, within, is) (suc k) d inside same =
-    one_of_number e files (rest_rises x files rising) (j, omega (arith, within), is) k d (omega (arith, inside)) same
 
 -- THE VERSIONS THAT ARE FILES'
 abbrev dated : ℕ → FileEntry → ℕ

@@ -41,9 +41,6 @@ current_same held (e ∷ files) s =
     ap (λ (r : FileRec). r.stamp == s || is_current_file (map (file_of held) files) s) (rec_is held e)
     ∙ ap (λ (b : Bool). e.0.stamp == s || b) (current_same held files s)
 
-pin_blocks : List File → Pin → ℕ
-pin_blocks files p = if is_current_file files p.stamp then 0 else blocks_for p.len
-
 lost_one : (size next : ℕ) (held : Told) (files : List FileEntry) (p : Pinned) (pins : List Pinned) → IsPinned size next files p
     → length (orphans (Some (p ∷ pins)) files) ≡ (if is_current_file (map (file_of held) files) p.stamp then 0 else blocks_for p.len) + length (orphans (Some pins) files)
 lost_one size next held files p pins is = by_current (is_current files p.stamp) ∙ ap (λ (b : Bool). (if b then 0 else blocks_for p.len) + length (orphans (Some pins) files)) (sym (current_same held files p.stamp))

@@ -1,5 +1,5 @@
 -- What callers know of a filestore, from what ties its memory to the disc.
-use Rattle.std.proofs.Common.{◌≡◌, ℕ, List, [], length, map, Option, Some, None, refl, sym, ◌∙◌, ap, subst, arith, option_map}
+use Rattle.std.proofs.Common.{◌≡◌, ℕ, List, [], length, map, Option, Some, None, refl, sym, ◌∙◌, subst, arith, option_map}
 use Rattle.std.specs.Prelude.{All, IfSome, is_some, slice_index_or}
 use Rattle.std.specs.Option.{ForSome}
 use Rattle.std.proofs.lemmas.List.{length-map}
@@ -13,8 +13,8 @@ use Rattle.g_slots.specs.Layout.{GateNames}
 use Rattle.g_dirs.specs.Directory.{Directory, FileEntry, IsDirectory}
 use Rattle.g_dirs.specs.Image.{StandsFor}
 use Rattle.g_dirs.specs.Pages.{Remembered, Remembers}
-use Rattle.g_disc_contents.specs.Contents.{File, contents_of, file_of}
-use Rattle.g_disc_contents.specs.Facts.{IsPinOf, IsTied, OnlineFacts}
+use Rattle.g_disc_contents.specs.Contents.{File, file_of}
+use Rattle.g_disc_contents.specs.Facts.{IsPinOf, IsTied}
 use Rattle.g_online.specs.declared.pinned.Pinned.{Pinned}
 use Rattle.g_online.specs.Invariant.{AreWhole, IsFileOf, IsKept, IsPinned, IsPooled, IsStored, Memory, PinsAre, WaitsFor, directory_in, facts_of, pin_of, pins_of}
 
@@ -120,7 +120,3 @@ kept_still before after m held size kept =
             pins = subst (λ (n : ℕ). PinsAre m.pins n m.head.next_stamp (directory_in m).files m.touched) (sym size) was.pins;
           };
     }
-
-pub facts_still : (before after : DiscState) (m : Memory) → after.held ≡ before.held → facts_of after m ≡ (let was = facts_of before m in record was { disc = after })
-facts_still before after m held =
-    ap (λ (h : Option (List (List ℕ))). let was = facts_of before m in let now : OnlineFacts = record was { disc = after; contents = contents_of h (directory_in m); pins = pins_of h m.pins } in now) held

@@ -5,7 +5,7 @@ use Rattle.std.proofs.lemmas.Bool.{cases_eq, cond-false, cond-true, eq-eqb, ne_e
 use Rattle.std.proofs.lemmas.List.Elements.{All-append, All-contains, Contains-append_left, Contains-append_right, Contains-append_cases, Contains-get_or, All-weaker, All-contains_itself}
 use Rattle.std.proofs.lemmas.List.Sums.{sum_by-append, sum_by-cons}
 use Rattle.std.proofs.lemmas.Option.{slice_get_within}
-use Rattle.g_blocks.specs.Pool.{ChangesOnly, IsInArea, IsFresh, IsFree, IsTaken, HasTaken, HasGiven, free_count}
+use Rattle.g_blocks.specs.Pool.{ChangesOnly, IsInArea, IsFresh, IsFree, IsTaken, HasTaken, HasGiven}
 use Rattle.g_base.specs.Limits.{first_copy_block}
 
 -- THE SAME NUMBERS, each as often, in whatever order
@@ -147,10 +147,6 @@ used_same size xs ys pool same was = record {
   area = same_all (IsInArea size) xs ys same was.area;
   apart = same_apart xs ys same was.apart;
 }
-
--- how many are free
-pub used_count : (size : ℕ) (used : List ℕ) (pool : List Bool) → IsUsed size used pool → free_count pool ≡ size - 2177 - length used
-used_count size used pool is = let c = is.fresh.count in omega (arith, c)
 
 pub contains_or_not : (xs : List ℕ) (k : ℕ) → Contains xs k ⊎ (Contains xs k → ⊥)
 contains_or_not xs k =

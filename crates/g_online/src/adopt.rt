@@ -11,7 +11,8 @@ use crate::records::kept_head;
 use crate::{Online, OnlineFault};
 use g_base::NoMemory;
 use g_disc::Disc;
-use g_entry::{BoxedRec, FileRec, Head, TapeCopy, UserRec};
+use g_entry::{FileRec, Head, TapeCopy, UserRec};
+use g_table::FileTable;
 use g_tree::Tree;
 use std::alloc::Global;
 
@@ -83,14 +84,14 @@ fn copied_users(alloc: Global, users: &[UserRec]) -> Result<Vec<UserRec>, NoMemo
 /// The files with these copies.
 fn copied_files(
     alloc: Global,
-    files: &[BoxedRec],
+    files: &FileTable,
     copies: &[(u64, TapeCopy)],
 ) -> Result<Vec<FileRec>, NoMemory>
     ensures { IfOk result (λ copied. copied.items ≡ map (copied_rec copies.now) files.now) }
 {
     let mut copied = Vec::new(alloc);
     for file in files {
-        match copied.push(with_tape(file.get(), copies)) {
+        match copied.push(with_tape(file, copies)) {
             Ok(()) => {}
             Err(_) => return Err(NoMemory),
         }

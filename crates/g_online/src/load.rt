@@ -24,8 +24,9 @@ use g_base::{BlockWriter, NoMemory};
 use g_blocks::Pool;
 use g_dirs::{BoxedCopy, CopyTable, Dirs, DirsFault, FileCopy, Pages, read_dirs};
 use g_disc::Disc;
-use g_entry::{BoxedRec, Head, UserRec};
+use g_entry::{Head, UserRec};
 use g_slots::Slots;
+use g_table::FileTable;
 use g_tree::Tree;
 use std::alloc::Global;
 
@@ -228,14 +229,14 @@ fn collected(alloc: Global, online: &[FileCopy]) -> Result<Vec<u32>, NoMemory>
 }
 
 /// The copies of the empty files, which have no block.
-fn empty_copies(alloc: Global, files: &[BoxedRec]) -> Result<Vec<FileCopy>, NoMemory>
+fn empty_copies(alloc: Global, files: &FileTable) -> Result<Vec<FileCopy>, NoMemory>
     ensures { IfOk result (λ online. online.items ≡ empty_copies files.now) }
 {
     let mut online = Vec::new(alloc);
     for file in files {
-        if file.get().len == 0 {
+        if file.len == 0 {
             let copy = BoxedCopy::empty(alloc)?;
-            online.push(copy.of_file(file.get().number))?;
+            online.push(copy.of_file(file.number))?;
         }
     }
     Ok(online)

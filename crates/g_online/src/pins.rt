@@ -18,7 +18,8 @@ use g_blocks::Pool;
 use g_copy::DiscCopy;
 use g_dirs::CopyTable;
 use g_disc::Disc;
-use g_entry::{BoxedRec, FileRec, TapeCopy};
+use g_entry::{FileRec, TapeCopy};
+use g_table::FileTable;
 use g_tree::Tree;
 use std::alloc::Global;
 
@@ -117,7 +118,7 @@ fn place_of(pins: &[Pinned], i: usize, part: u32) -> Option<u32>
 }
 
 /// Gives the blocks of those versions back to the pool that no file has any more.
-pub(crate) fn free_orphaned_pins(pool: &mut Pool, pins: &[Pinned], files: &[BoxedRec])
+pub(crate) fn free_orphaned_pins(pool: &mut Pool, pins: &[Pinned], files: &FileTable)
     requires apart { AllPairs (λ j k. j ≢ k) (lost_places files.now pins.now) }
     requires taken { All (IsTaken pool.old) (lost_places files.now pins.now) }
     ensures { HasGiven (lost_places files.now pins.now) pool.old pool.new }
@@ -128,7 +129,7 @@ pub(crate) fn free_orphaned_pins(pool: &mut Pool, pins: &[Pinned], files: &[Boxe
 }
 
 /// The same of one version.
-fn give_one_lost(pool: &mut Pool, pin: &Pinned, files: &[BoxedRec])
+fn give_one_lost(pool: &mut Pool, pin: &Pinned, files: &FileTable)
     requires apart { AllPairs (λ j k. j ≢ k) (lost_of files.now pin.now) }
     requires taken { All (IsTaken pool.old) (lost_of files.now pin.now) }
     ensures { HasGiven (lost_of files.now pin.now) pool.old pool.new }
@@ -141,10 +142,10 @@ fn give_one_lost(pool: &mut Pool, pin: &Pinned, files: &[BoxedRec])
 }
 
 /// Whether the version of this stamp is a file's.
-fn is_stamp_current(files: &[BoxedRec], stamp: u64) -> bool
+fn is_stamp_current(files: &FileTable, stamp: u64) -> bool
     ensures { result ≡ is_stamp_current files.now stamp }
 {
-    files.iter().any(|file| file.get().stamp == stamp)
+    files.iter().any(|file| file.stamp == stamp)
 }
 
 /// The versions that wait, by owner and then by number, with their places on tape end to end from block `first` on.
@@ -177,7 +178,7 @@ fn pin_owner(
     at: &mut u32,
     serial: u32,
     owner: u8,
-    files: &[BoxedRec],
+    files: &FileTable,
     online: &CopyTable,
 ) -> Result<(), NoMemory>
     requires few { length files.now ≤ 1024 }
@@ -187,7 +188,7 @@ fn pin_owner(
         pins.old.items at.old pins.new.items at.new) }
 {
     for file in files {
-        match pin_file(pins, at, serial, owner, file.get(), online) {
+        match pin_file(pins, at, serial, owner, file, online) {
             Ok(()) => {}
             Err(_) => return Err(NoMemory),
         }

@@ -1,10 +1,10 @@
 -- A device is armed, and nothing changes of what the store means; and the devices that are taken out of a store stand for what it stood for.
-use Rattle.std.proofs.Common.{◌≡◌, ℕ, Bool, true, false, List, Option, Some, None, is_some, refl, sym, ap, subst, true≢false}
+use Rattle.std.proofs.Common.{◌≡◌, ℕ, Bool, true, false, List, Option, Some, None, is_some, sym, ap, subst, true≢false}
 use Rattle.std.specs.Prelude.{IfSome}
 use Rattle.std.specs.Option.{ForSome}
 use Rattle.g_base.specs.Fuse.{Arms}
 use Rattle.g_tape.specs.Rack.{Rack}
-use Rattle.g_disc_contents.specs.Facts.{IsTied, OnlineFacts, Pin}
+use Rattle.g_disc_contents.specs.Facts.{OnlineFacts, Pin}
 use Rattle.g_incr.specs.Layout.{Dump}
 use Rattle.g_incr.specs.Plan.{dump_of}
 use Rattle.g_store_model.specs.State.{State}
@@ -14,7 +14,6 @@ use Rattle.g_store_meaning.specs.Meaning.{told_reels}
 use Rattle.g_store_meaning.specs.Reading.{DevicesStandFor, StandsForState}
 use Rattle.g_store_meaning.specs.StoreInvariant.{DumpFacts, IsReady, IsUp, StoreFacts, content_in}
 use Rattle.g_store_meaning.proofs.ViewLemmas.{Stands, back, to}
-use Rattle.g_store_meaning.proofs.StayLemmas.{dump_stays_open}
 use Rattle.g_plain.proofs.Found.{some_of}
 use Rattle.g_store.specs.Arming.{MeansTheSame}
 use Rattle.g_store_calls.proofs.SeenLemmas.{seen}
@@ -29,9 +28,6 @@ module _ (s : StoreFacts) (f g : Option ℕ) (a b : Arms) where
 
   abbrev pub armed : StoreFacts
   armed = record s { online = online; rack = rack }
-
-  pub store_armed : IsTied online → IsStore s → IsStore armed
-  store_armed tied keeps = record { tied = tied; live = keeps.live; open_dump = λ up. dump_stays_open s.dump s.online online s.rack rack refl refl refl refl (keeps.open_dump up); pins = keeps.pins }
 
   ready_armed : (text : ℕ → List ℕ) (shelf : ℕ → List Dump) (dump : Option DumpFacts)
       → IfSome dump (λ d. (pins : List Pin) → s.online.pins ≡ Some pins → ForSome (content_in pins) (λ content. IsReady text shelf (told_reels s.rack) s.online (dump_of d.plan content)))

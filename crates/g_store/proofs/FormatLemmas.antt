@@ -1,5 +1,5 @@
 -- FORMAT: the store that it makes, and what a refusal leaves.
-use Rattle.std.proofs.Common.{◌≡◌, ◌≢◌, ℕ, ◌<◌, Bool, true, false, List, [], ◌∷◌, Option, Some, None, Ok, Err, is_some, refl, sym, ◌∙◌, ap, arith, subst, inl, inr}
+use Rattle.std.proofs.Common.{◌≡◌, ◌≢◌, ℕ, Bool, true, false, List, [], ◌∷◌, Option, Some, None, Ok, Err, is_some, refl, sym, ◌∙◌, ap, arith, subst, inl, inr}
 use Rattle.std.specs.Prelude.{◌⊎◌, All, Contains, map}
 use Rattle.std.proofs.lemmas.List.Elements.{All-nil}
 use Rattle.std.proofs.lemmas.Option.{none-some, same_Some}
@@ -15,12 +15,11 @@ use Rattle.g_plain.specs.PlainTree.{formatted}
 use Rattle.g_plain.specs.PlainStep.{first_fault}
 use Rattle.g_plain.specs.declared.faults.StoreFault.{StoreFault}
 use Rattle.g_plain.specs.declared.faults.StoreFault.TheVariants.{DiscReadFault, NoMemory, RackNotEmpty, Stopped, TapeReadFault}
-use Rattle.g_tree.specs.Records.{IsRecords, tree_of}
+use Rattle.g_tree.specs.Records.{tree_of}
 use Rattle.g_disc_contents.specs.Contents.{Contents, File, Holds, recs_in}
 use Rattle.g_disc_contents.specs.Facts.{IsTied, OnlineFacts}
 use Rattle.g_incr.specs.Layout.{Dump}
 use Rattle.g_shelf.specs.CompletedDumps.{AreShelved, all_dumps}
-use Rattle.g_online.specs.AllowedChanges.{KeepsRules, Lies}
 use Rattle.g_online.specs.Faults.{store_fault_of}
 use Rattle.g_online.specs.declared.fault.OnlineFault.{OnlineFault}
 use Rattle.g_online.specs.declared.fault.OnlineFault.TheVariants as online
@@ -68,15 +67,6 @@ module _ (disc : DiscState) (users : List UserRec) (files : List FileRec) (none 
 
   no_files : (P : File → Type 0) (x : Contents) → x ≡ c → All P x.files
   no_files P x is = subst (All P) (sym (ap (λ (y : Contents). y.files) is ∙ files_none)) (All-nil P)
-
-  -- the rules of what is made
-  pub keeps_rules : IsRecords users files → KeepsRules c
-  keeps_rules rules = record {
-    head = record { least_stamp = omega arith; most_stamp = omega arith; last_dump = omega arith; intent = tt };
-    records = subst (IsRecords users) (sym recs_none) rules;
-    dated = subst (λ (rs : List FileRec). All (λ r. r.stamp < 1) rs) (sym (recs_none ∙ none)) (All-nil (λ (r : FileRec). r.stamp < 1));
-    lie = no_files Lies c refl;
-  }
 
   module _ (rack : Rack) (are : AreReels rack.reels) (empty : first_used rack.reels ≡ None) where
     abbrev reels : List Reel
@@ -267,9 +257,6 @@ nothing_caused disc fault read stop = Causes-none disc read stop
 pub not_empty : (disc : DiscState) (rack : Rack) (n : ℕ) → Some n ≡ first_used rack.reels → RefusesFormat disc rack (RackNotEmpty n) disc rack
 not_empty disc rack n used =
     full_is disc disc rack refl refl n (nothing_caused disc (RackNotEmpty n) (λ e. let no : ⊥ = cc in no) (λ e. let no : ⊥ = cc in no)) (sym used)
-
-pub no_memory : (disc : DiscState) (rack : Rack) → None ≡ first_used rack.reels → RefusesFormat disc rack NoMemory disc rack
-no_memory disc rack empty = memory_is disc disc rack refl refl (nothing_caused disc NoMemory (λ e. let no : ⊥ = cc in no) (λ e. let no : ⊥ = cc in no)) (sym empty)
 
 pub record HasRefused (made : Contents) (disc now : DiscState) (fault : OnlineFault) : Type 0 where
   pub stopped : fault ≡ online.Stopped → Changes (AsBeforeOr made) disc.held now.held

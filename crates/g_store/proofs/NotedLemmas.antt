@@ -48,9 +48,6 @@ user_entry users u = (u.user, user_row_of users u)
 abbrev nothing : UserRow → Unit {0}
 nothing row = tt
 
-abbrev named : UserRec → List ℕ × Unit {0}
-named u = (u.user, tt)
-
 -- a map is made of its entries
 made_again : (m : state.Users) → from_entries (entries m) ≡ m
 made_again m =

@@ -172,9 +172,6 @@ module _ (serial : ℕ) (o : OnlineFacts) (rack : Rack) (on : Reel) (on_is : ree
     serial_is : d.plan.serial ≡ serial
     serial_is = ap (λ (e : DumpFacts). e.plan.serial) begins.dump
 
-    made_by : List (List ℕ) → Dump
-    made_by content = dump_of d.plan content
-
     leads_by : Told before → Belongs before → IsStore before → (text : ℕ → List ℕ) (shelf : ℕ → List Dump) → AreShelved shelf reels → IsUp text shelf before → IsOpenedUp text shelf o new after d
         → (u : state.State) → StandsForState before u → (content : List (List ℕ)) → (ps : List Pin) → new.pins ≡ Some ps → content_in ps ≡ Some content
         → LeadsBy (OpensBy serial) u before (up_with new after (Some d)) (Ok (o.contents.head.last_dump + 1))

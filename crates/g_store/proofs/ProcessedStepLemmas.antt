@@ -33,7 +33,7 @@ use Rattle.g_store_model.specs.CallStep.{Cut, DiscRead, Outcome, Plain, TapeRead
 use Rattle.g_store_model.specs.DumpSteps as steps
 use Rattle.g_store_model.specs.DumpSteps.{with_shelved, with_used}
 use Rattle.g_store_model.specs.Process as step
-use Rattle.g_store_model.specs.Process.{LeftByRead, Marked, Moved, NotYet, ProcessDone, ProcessLeft, ProcessStep, Processes as ProcessesBy, is_released, marked_by, moved, process_dump, process_needs, process_refuses_late, released_before, with_cut, with_intent}
+use Rattle.g_store_model.specs.Process.{Marked, Moved, NotYet, ProcessLeft, ProcessStep, Processes as ProcessesBy, marked_by, moved, process_dump, process_needs, process_refuses_late, released_before, with_cut, with_intent}
 use Rattle.g_store_model.specs.Rising.{fault_from, has_none}
 use Rattle.g_store_meaning.specs.Answers.{Belongs, IsStore, Raised, Told}
 use Rattle.g_store_meaning.specs.Belonging.{KeepsFile, RackBelongs}
@@ -398,9 +398,6 @@ module _ (serial : ℕ) (o : OnlineFacts) (old : Rack) (reels : AreReels old.ree
           (λ f it. record { len = it.len; bytes = it.bytes; tape = λ _. it.tape told }) c.files view_is.files);
     }
 
-    abbrev used : Bool
-    used = used_in (reel serial new.reels)
-
     abbrev begun : state.State
     begun = record s { reels = state.with_reel serial (with_used (used_in (reel serial new.reels))) s.reels; holding = Some (with_intent s serial k) }
 
@@ -489,9 +486,6 @@ module _ (serial : ℕ) (o : OnlineFacts) (old : Rack) (reels : AreReels old.ree
           let ends_is : ends made ≡ process_needs k = omega (arith, long, files, all) in
           ap shelved_by ends_is
 
-      abbrev marks : state.ReelRow → state.ReelRow
-      marks r = with_used true (with_shelved (process_dump k) r)
-
       rows_now : AllZip (IsBesideDump serial) old.reels new.reels → map (row_of with_made) (told_reels new) ≡ state.with_reel serial (λ r. with_used true (with_shelved (process_dump k) r)) s.reels
       rows_now zip = rows_marked serial old new rising apart_new labels shelf made refl (process_dump k) shelved_is zip
 
@@ -509,10 +503,6 @@ module _ (serial : ℕ) (o : OnlineFacts) (old : Rack) (reels : AreReels old.ree
         files = All-weaker (λ (f : File). KeepsFile (text f.rec.stamp) (all_dumps with_made rs) f) (λ (f : File). HasText (AllTold held (told_reels new)) (text f.rec.stamp) (all_dumps with_made rs) f)
             (λ f it. record { len = it.rec.len; bytes = it.bytes; tape = λ _ _. it.rec.copy }) x.files files;
       }
-
-      -- stopped at the mark, or at the commit behind it, which left the intent
-      abbrev marked_end : state.State
-      marked_end = down (record (marked_by s k serial d) { holding = Some (with_intent s serial k) })
 
       marked_stands : (blocks : List (List ℕ)) → o'.disc.held ≡ Some blocks → Holds blocks (intended_by serial o) → AllZip (IsBesideDump serial) old.reels new.reels → AreShelved with_made (told_reels new)
           → StandsForState (spent_with o' new) (down (record (marked_by s k serial d) { holding = Some (with_intent s serial k) }))

@@ -1,14 +1,12 @@
 -- How a store answers a step of its open dump, whichever answer the dumper gave.
-use Rattle.std.proofs.Common.{◌≡◌, ℕ, ◌+◌, ◌<◌, Bool, true, false, List, Option, Some, None, Result, Ok, Err, refl, sym, ◌∙◌, ap, arith, subst, inl, inr}
+use Rattle.std.proofs.Common.{◌≡◌, ℕ, ◌+◌, Bool, true, false, List, Option, Some, None, Result, Ok, Err, refl, sym, ◌∙◌, ap, arith, subst, inl, inr}
 use Rattle.std.specs.Prelude.{◌↔◌, All, IfSome, is_some}
 use Rattle.std.proofs.lemmas.Bool.{false≢true}
-use Rattle.std.proofs.lemmas.Option.{same_Some}
 use Rattle.g_tape.specs.Rack.{AreReels, Rack}
 use Rattle.g_plain.specs.declared.faults.StoreFault.{StoreFault}
 use Rattle.g_plain.specs.declared.faults.StoreFault.TheVariants.{DiscReadFault, Stopped}
 use Rattle.g_disc_contents.specs.Facts.{IsPinOf, OnlineFacts, Pin}
 use Rattle.g_online.specs.Outcomes.{HasClosed}
-use Rattle.g_incr.specs.Plan.{needs}
 use Rattle.g_store_model.specs.State as state
 use Rattle.g_store_model.specs.DumpSteps.{Completed, Going, Stepped}
 use Rattle.g_store_meaning.specs.Answers.{Belongs, IsStore, Told, WroteCommits}
@@ -17,7 +15,7 @@ use Rattle.g_store_meaning.specs.StoreInvariant.{DumpFacts, IsOpen, StoreFacts, 
 use Rattle.g_dumper.specs.Invariant.{KeepsStore, behind_step, spent_with, up_with}
 use Rattle.g_dumper.specs.Steps.{Stepping}
 use Rattle.g_dumper.proofs.KeepLemmas.{content_told}
-use Rattle.g_store.specs.Dumping.{KeepsDumps, LeavesOpen, NoneRose, Progresses, StepsAs, is_stop_at}
+use Rattle.g_store.specs.Dumping.{KeepsDumps, LeavesOpen, is_stop_at}
 use Rattle.g_store.specs.Events.{IsStepOfDump, LeadsBy, StepsBy, StepsDump, WroteBy, commits_of_step}
 use Rattle.g_store.proofs.ShelvesLemmas.{adds}
 use Rattle.g_store.proofs.SteppedLemmas.{abandons, completes, goes, stops, stops_closing}
@@ -113,36 +111,6 @@ behind_same (Ok (Completed n)) d' o' new dump spent left over = λ i. let s : St
 behind_same (Err Stopped) d' o' new dump spent left over = λ i. let s : StoreFacts = record { online = o'; rack = new; dump = sym left i; spent = sym over i } in s
 behind_same (Err fault) d' o' new dump spent left over = λ i. let s : StoreFacts = record { online = o'; rack = new; dump = sym left i; spent = sym over i } in s
 
--- WHERE NO COUNT ROSE
-module _ (d d' : DumpFacts) (o o' : OnlineFacts) (old new : Rack) (dump : Option DumpFacts) (spent : Bool) where
-  abbrev none_rose : Type 0
-  none_rose = NoneRose (up_with o old (Some d)) (record { online = o'; rack = new; dump = dump; spent = spent })
-
-  going_by : (answer : Result Stepped StoreFault) → Stepping d o old answer d' o' new → none_rose → d.done + 1 < needs d.plan → answer ≡ Ok Going
-  going_by (Ok Going) step none less = refl
-  going_by (Ok (Completed n)) (last, number, plan_is, wrote, closing) none less = absurd (let no : ⊥ = omega (arith, last, less) in no)
-  going_by (Err Stopped) (plan_is, inl (failed, same)) none less = absurd (none.tape_writes failed.rose)
-  going_by (Err Stopped) (plan_is, inr (last, wrote, closing)) none less = absurd (none.disc_writes (closing.causes.writes_rose refl))
-  going_by (Err DiscReadFault) (dump_is, same, left) none less = absurd (none.disc_reads left.rose)
-  going_by (Err fault) never none less = absurd never
-
-  last_by : (answer : Result Stepped StoreFault) → Stepping d o old answer d' o' new → none_rose → d.done + 1 ≡ needs d.plan → answer ≡ Ok (Completed d.plan.number)
-  last_by (Ok Going) (less, dump_is, same, wrote) none last = absurd (let no : ⊥ = omega (arith, last, less) in no)
-  last_by (Ok (Completed n)) (last_is, number, plan_is, wrote, closing) none last = ap (λ (m : ℕ). let r : Result Stepped StoreFault = Ok (Completed m) in r) number
-  last_by (Err Stopped) (plan_is, inl (failed, same)) none last = absurd (none.tape_writes failed.rose)
-  last_by (Err Stopped) (plan_is, inr (last_is, wrote, closing)) none last = absurd (none.disc_writes (closing.causes.writes_rose refl))
-  last_by (Err DiscReadFault) (dump_is, same, left) none last = absurd (none.disc_reads left.rose)
-  last_by (Err fault) never none last = absurd never
-
-  progresses : (answer : Result Stepped StoreFault) → Stepping d o old answer d' o' new
-      → (let after : StoreFacts = record { online = o'; rack = new; dump = dump; spent = spent } in Progresses (up_with o old (Some d)) answer after)
-  progresses answer step = record {
-    going = λ e at none less. going_by answer step none (subst (λ (x : DumpFacts). x.done + 1 < needs x.plan) (sym (same_Some d e at)) less);
-    last = λ e at none last.
-        subst (λ (x : DumpFacts). answer ≡ Ok (Completed x.plan.number)) (same_Some d e at)
-        (last_by answer step none (subst (λ (x : DumpFacts). x.done + 1 ≡ needs x.plan) (sym (same_Some d e at)) last));
-  }
-
 -- A STORE THAT TOOK A STEP, by what the dumper said
 module _ (old t : StoreFacts) (same : t ≡ old) (unspent : old.spent ≡ false) (d : DumpFacts) (dump_is : t.dump ≡ Some d) (d' : DumpFacts) (o' : OnlineFacts) (new : Rack)
     (answer : Result Stepped StoreFault) (step : Stepping d t.online t.rack answer d' o' new) (dump : Option DumpFacts) (spent : Bool) (left : LeavesOpen answer d' dump) where
@@ -157,13 +125,6 @@ module _ (old t : StoreFacts) (same : t ≡ old) (unspent : old.spent ≡ false)
       subst (λ (x : StoreFacts). StepsDump x answer after) whole
       (subst (λ (x : StoreFacts). StepsDump (up_with t.online t.rack (Some d)) answer x) (behind_same answer d' o' new dump spent left over)
       (answers d t.online t.rack reels (subst IsStore (same ∙ sym whole) keeps) d' o' new answer step kept))
-
-  pub steps_by : StepsAs old answer after
-  steps_by =
-      subst (λ (x : StoreFacts). StepsAs x answer after) whole (record { dump = d; dump_is = refl; after = d'; stepping = step; left = left })
-
-  pub progress_by : Progresses old answer after
-  progress_by = subst (λ (x : StoreFacts). Progresses x answer after) whole (progresses d d' t.online o' t.rack new dump spent answer step)
 
   dumps_by : (keeps : IsStore (up_with t.online t.rack (Some d))) → AreReels t.rack.reels → KeepsDumps (up_with t.online t.rack (Some d)) answer after
   dumps_by keeps reels told was shelf shelved =

@@ -13,11 +13,12 @@ use crate::making::Refused;
 use crate::store::Store;
 use g_base::NoMemory;
 use g_disc::Disc;
-use g_entry::{BoxedRec, FileRec, Intent, TapeCopy};
+use g_entry::{FileRec, Intent, TapeCopy};
 use g_incr::{DumpDir, DumpNote, read_dump};
 use g_known::KnownReels;
 use g_online::{CopyList, Online, OnlineFault};
 use g_plain::StoreFault;
+use g_table::FileTable;
 use g_tape::Tapes;
 use std::alloc::Global;
 
@@ -156,7 +157,7 @@ fn adopt<D: Disc>(
 }
 
 /// The copies on tape that these records of a dump name, but for those of the stamps that empty files have.
-fn copies_named(alloc: Global, files: &[BoxedRec], dumped: &[FileRec]) -> Result<CopyList, NoMemory>
+fn copies_named(alloc: Global, files: &FileTable, dumped: &[FileRec]) -> Result<CopyList, NoMemory>
     ensures { IfOk result (λ copies. copies ≡ copies_named files.now dumped.now) }
 {
     let mut copies = Vec::new(alloc);
@@ -171,7 +172,7 @@ fn copies_named(alloc: Global, files: &[BoxedRec], dumped: &[FileRec]) -> Result
 
 /// Puts the copy that this record names behind the others.
 fn put_copy(
-    files: &[BoxedRec],
+    files: &FileTable,
     file: &FileRec,
     copies: &mut Vec<(u64, TapeCopy)>,
 ) -> Result<(), NoMemory>
@@ -190,10 +191,10 @@ fn put_copy(
 }
 
 /// Whether an empty file has this stamp.
-fn has_empty(files: &[BoxedRec], stamp: u64) -> bool
+fn has_empty(files: &FileTable, stamp: u64) -> bool
     ensures { result ≡ has_empty files.now stamp }
 {
     files
         .iter()
-        .any(|file| file.get().stamp == stamp && file.get().len == 0)
+        .any(|file| file.stamp == stamp && file.len == 0)
 }

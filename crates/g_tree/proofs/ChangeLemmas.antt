@@ -17,10 +17,10 @@ use Rattle.g_plain.proofs.TextMaps.{full_exact}
 use Rattle.g_entry.specs.FileFields.{IsFile}
 use Rattle.g_entry.specs.Rules.{SameName}
 use Rattle.g_plain.specs.PlainTree.{FileRow}
-use Rattle.g_tree.specs.Records.{IsRecords, full_of, file_row_of, tree_of}
+use Rattle.g_tree.specs.Records.{IsRecords, full_of, file_row_of, name_of_file, tree_of}
 use Rattle.g_tree.specs.State.{without_file, without_number}
 use Rattle.g_tree.specs.Places.{StandsAt}
-use Rattle.g_tree.proofs.PlaceLemmas.{numbered_apart, stands_found}
+use Rattle.g_tree.proofs.PlaceLemmas.{named_there, numbered_apart, stands_at, stands_found}
 use Rattle.g_tree.proofs.MapLemmas.{keyed, AreApart, none_found, find_valued, with_value, made_without}
 use Rattle.g_tree.proofs.ListLemmas.{map_of_map, filter_whole, around}
 use Rattle.g_tree.proofs.RecordLemmas.{names_apart}
@@ -130,3 +130,21 @@ module _ (users : List UserRec) (files : List FileRec) (is : IsRecords users fil
         → tree_of users (remove_at files place) bytes next ≡ record (tree_of users files bytes next) { files = without_number users files number (tree_of users files bytes next).files }
     removed_tree bytes next d =
         ap (λ m. record (tree_of users files bytes next) { files = m }) (removed_map (file_row_of users bytes) d ∙ sym (without_is d (tree_of users files bytes next).files))
+
+-- where the file of a number and a full name stands, and the files without it
+pub record IsPlaced (users : List UserRec) (files : List FileRec) (number : ℕ) (full : Full) (place : ℕ) : Type 0 where
+  pub within : place < length files
+  pub named : (d : FileRec) → full ≡ full_of users (get_or files place d)
+  pub rest : remove_at files place ≡ without_file number files
+
+pub placed : (users : List UserRec) (files : List FileRec) → IsRecords users files → (number : ℕ) (full : Full) → name_of_file users files number ≡ Some full → (place : ℕ) × IsPlaced users files number full place
+placed users files is number full e =
+    let (r, named) = named_there users files number full e in
+    let (place, it) = stands_at files is.numbers number r named.found in (
+      place,
+      record {
+        within = it.at.within;
+        named = λ d. named.named ∙ ap (full_of users) (it.here ∙ get_or_default files place r d it.at.within);
+        rest = removed_list users files is number place it.at r;
+      },
+    )

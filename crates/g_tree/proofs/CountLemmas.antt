@@ -6,7 +6,7 @@ use Rattle.std.specs.List as list
 use Rattle.std.specs.FinMap.{FinMap, empty, get-empty}
 use Rattle.std.proofs.lemmas.Bool.{cases_lt}
 use Rattle.std.proofs.lemmas.Bool.Decides.{nat_tests}
-use Rattle.std.proofs.lemmas.List.{length-set, get_or-set_same, get_or-set_other, set_split, take-append-drop, take_more, append-nil, length-take-le, length-drop, take_all}
+use Rattle.std.proofs.lemmas.List.{length-set, get_or-set_same, get_or-set_other, set_split, take-append-drop, take_more, append-nil, length-take-le}
 use Rattle.std.proofs.lemmas.List.Elements.{All-head, All-tail, All-append, All-take, Contains-append_left, Contains-append_right, Contains-append_cases}
 use Rattle.std.proofs.lemmas.List.Sums.{sum_by-cons, sum_by-append, sum_by-remove, sum_by-insert, sum_by-set, sum_by-le}
 use Rattle.g_base.specs.Block.{blocks_for}
@@ -71,26 +71,6 @@ module _ (users : List UserRec) where
   newest_middle q xs ys r =
       newest_greatest q (xs ++ r ∷ ys) ∙ greatest_middle (λ r. is_version_of q (full_of users r)) (λ r. r.generation) xs ys r
       ∙ ap (λ n. cond (is_version_of q (full_of users r)) (max n r.generation) n) (sym (newest_greatest q (xs ++ ys)))
-
-  pub newest_both : (q : Full) (xs ys : List FileRec) → newest_of users q (xs ++ ys) ≡ max (newest_of users q xs) (newest_of users q ys)
-  newest_both q [] ys = omega arith
-  newest_both q (r ∷ xs) ys =
-      let p = is_version_of q (full_of users r) in
-      newest_middle q [] (xs ++ ys) r
-      ∙ ap (λ n. cond p (max n r.generation) n) (newest_both q xs ys)
-      ∙ elim p as (λ t. cond t (max (max (newest_of users q xs) (newest_of users q ys)) r.generation) (max (newest_of users q xs) (newest_of users q ys))
-      ≡ max (cond t (max (newest_of users q xs) r.generation) (newest_of users q xs)) (newest_of users q ys)) [ true ↦ omega arith | false ↦ refl ]
-      ∙ ap (λ n. max n (newest_of users q ys)) (sym (newest_middle q [] xs r))
-
-  pub newest_around : (q : Full) (files : List FileRec) (place : ℕ) → place < length files
-      → max (newest_of users q (take place files)) (newest_of users q (take (length files - (place + 1)) (drop (place + 1) files))) ≡ newest_of users q (list.remove files place)
-  newest_around q files place within =
-      let on : place + 1 ≡ suc place = omega arith in
-      let len = length-drop (place + 1) files in
-      let whole : take (length files - (place + 1)) (drop (place + 1) files) ≡ drop (suc place) files =
-      take_all (length files - (place + 1)) (drop (place + 1) files) (omega (arith, len)) ∙ ap (λ n. drop n files) on in
-      ap (λ ys. max (newest_of users q (take place files)) (newest_of users q ys)) whole
-      ∙ sym (newest_both q (take place files) (drop (suc place) files))
 
   pub newest_one : (q f : Full) (files : List FileRec) → is_version_of q f ≡ true → newest_of users q files ≡ newest_of users f files
   newest_one q f files e = ap (λ name. newest_of users name files) (one_version q f e)
@@ -168,9 +148,6 @@ blocks_at owner r = cond (r.owner == owner) (blocks_for r.len) 0
 
 nat_same : (n : ℕ) → (n == n) ≡ true
 nat_same n = grind (arith, nat_tests)
-
-nat_apart : (m n : ℕ) → m ≢ n → (m == n) ≡ false
-nat_apart m n apart = grind (arith, nat_tests)
 
 nat_equal : (m n : ℕ) → (m == n) ≡ true → m ≡ n
 nat_equal m n e = grind (arith, nat_tests)
@@ -481,9 +458,6 @@ module _ (users : List UserRec) (files : List FileRec) (is : IsRecords users fil
 
     inside : place < length (set files place file)
     inside = let len = length-set files place file in omega (arith, within, len)
-
-    pub put_owned : file.owner < length users
-    put_owned = subst (λ s. s.owner < length users) there (rules.among_files.owners place file inside)
 
     pub put_owner : file.owner < 63
     put_owner = owner_at users (set files place file) rules place file inside (sym there)

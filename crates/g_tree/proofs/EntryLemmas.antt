@@ -98,10 +98,6 @@ no_newest_at : (o : Option NameEntry) → is_some o ≡ false → newest_at o �
 no_newest_at None none = refl
 no_newest_at (Some e) none = absurd (true≢false none)
 
-no_top_at : (o : Option NameEntry) → is_some o ≡ false → top_at o ≡ None
-no_top_at None none = refl
-no_top_at (Some e) none = absurd (true≢false none)
-
 no_number_at : (o : Option NameEntry) → is_some o ≡ false → number_at o ≡ None
 no_number_at None none = refl
 no_number_at (Some e) none = absurd (true≢false none)

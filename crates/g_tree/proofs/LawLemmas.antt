@@ -1,79 +1,31 @@
 -- How the tree changes with its records, and what users' numbers are.
-use Rattle.std.proofs.Common.{◌≡◌, ◌≢◌, ◌⊎◌, ℕ, zero, suc, ◌<◌, ◌≤◌, ◌==◌, true, false, cond, List, [], ◌∷◌, length, get_or, Option, Some, None, unwrap_or, not, refl, sym, ap, subst, ◌∙◌, arith, inl, inr, true≢false}
-use Rattle.std.specs.List.{AllWithin, Contains}
+use Rattle.std.proofs.Common.{◌≡◌, ◌≢◌, ℕ, ◌<◌, ◌==◌, true, false, cond, List, length, get_or, Option, Some, None, unwrap_or, not, refl, sym, ap, subst, ◌∙◌, arith, inl, inr, true≢false}
+use Rattle.std.specs.List.{Contains}
 use Rattle.std.specs.Option.{option_map}
 use Rattle.std.specs.Ordering.{eq_by_cmp}
 use Rattle.std.specs.Cmp.{eq_by_cmp_equiv}
 use Rattle.std.specs.FinMap.{FinMap, get, insert, remove, from_entries, find, same_map, get-from_entries, get-insert, get-remove}
 use Rattle.std.proofs.lemmas.Bool.{cases_lt}
-use Rattle.std.proofs.lemmas.List.Elements.{All-tail, Contains-get_or}
+use Rattle.std.proofs.lemmas.List.Elements.{Contains-get_or}
 use Rattle.std.proofs.lemmas.Option.{slice_get-get_or}
 use Rattle.g_name.specs.declared.full.Full.{Full}
 use Rattle.g_name.specs.Order.{full_cmp, text_cmp, same_text}
 use Rattle.g_name.proofs.Order.{full_total}
 use Rattle.g_entry.specs.declared.user_rec.UserRec.{UserRec}
 use Rattle.g_entry.specs.declared.file_rec.FileRec.{FileRec}
-use Rattle.g_entry.specs.Rules.{AreNumbered}
 use Rattle.g_plain.specs.PlainTree.{FileRow, Tree, user_row, no_budgets}
 use Rattle.g_plain.proofs.Found.{tied_are}
 use Rattle.g_plain.proofs.TextMaps.{text_total, text_exact, full_exact}
 use Rattle.g_tree.specs.Records.{IsRecords, name_of, full_of, traps_named, user_row_of, file_row_of, tree_of, users_by_name, by_name, number_of, user_number}
 use Rattle.g_tree.specs.State.{with_file, without_file, without_number}
-use Rattle.g_tree.specs.Places.{StandsAt, FitsAt}
-use Rattle.g_tree.proofs.ListLemmas.{pairs_rest, filter_whole}
+use Rattle.g_tree.proofs.ListLemmas.{filter_whole}
 use Rattle.g_tree.proofs.MapLemmas.{keyed, found_one, found_itself, shadowed}
 use Rattle.g_tree.proofs.RecordLemmas.{nobody, name_at, names_apart, numbers_apart, same_user, get_user, get_file}
 use Rattle.g_tree.proofs.RuleLemmas.{one_of_key, superior_below}
 use Rattle.g_tree.proofs.UserLemmas.{map_same_on}
-use Rattle.g_tree.proofs.PlaceLemmas.{fits_none}
+use Rattle.g_tree.proofs.PlaceLemmas.{no_file, place_for, fits_none}
 use Rattle.g_tree.proofs.ChangeLemmas.{other_number, removed_list, removed_tree}
 use Rattle.g_tree.proofs.PutLemmas.{with_new, with_other, tree_new, tree_other, named_found, number_found}
-
-no_file : FileRec
-no_file = record { number = 0; owner = 0; local = []; generation = 0; lang = []; stamp = 0; len = 0; traps = record { owner = 0; others = [] }; tape = None }
-
--- where a number stands, or would stand
-
-below_more : (s : FileRec) (files : List FileRec) (number n : ℕ) → s.number < number → AllWithin (λ r. r.number < number) files 0 n
-    → (k : ℕ) (d : FileRec) → 0 ≤ k → k < suc n → (get_or (s ∷ files) k d).number < number
-below_more s files number n first rest zero d low high = first
-below_more s files number n first rest (suc k) d low high = rest k d (omega arith) (omega arith)
-
-above_more : (s : FileRec) (files : List FileRec) (number n : ℕ) → AllWithin (λ r. number < r.number) files n (length files)
-    → (k : ℕ) (d : FileRec) → suc n ≤ k → k < length (s ∷ files) → number < (get_or (s ∷ files) k d).number
-above_more s files number n rest zero d low high = absurd (omega arith)
-above_more s files number n rest (suc k) d low high = rest k d (omega arith) (omega arith)
-
-above_all : (s : FileRec) (files : List FileRec) (number : ℕ) → AreNumbered (s ∷ files) → number < s.number
-    → (k : ℕ) (d : FileRec) → 0 ≤ k → k < length (s ∷ files) → number < (get_or (s ∷ files) k d).number
-above_all s files number is lower zero d low high = lower
-above_all s files number is lower (suc k) d low high = let rising = is.rising 0 (suc k) d (omega arith) high in omega (arith, rising)
-
-pub place_for : (files : List FileRec) (number : ℕ) → AreNumbered files → (place : ℕ) × (StandsAt files number place ⊎ FitsAt files number place)
-place_for [] number is = (0, inr (record { within = omega arith; below = λ k d low high. absurd (omega arith); above = λ k d low high. absurd (omega arith) }))
-place_for (s ∷ files) number is =
-    elim (cases_lt s.number number) as (λ _. (place : ℕ) × (StandsAt (s ∷ files) number place ⊎ FitsAt (s ∷ files) number place)) [
-      | inl lower ↦
-          let numbered : AreNumbered files = record { rising = pairs_rest (λ r t. r.number < t.number) s files is.rising; below = All-tail (λ r. r.number < 1024) s files is.below } in
-          let (place, there) = place_for files number numbered in (
-            suc place,
-            elim there as (λ _. StandsAt (s ∷ files) number (suc place) ⊎ FitsAt (s ∷ files) number (suc place)) [
-              | inl at ↦ inl (record { within = (let within = at.within in omega arith); has = at.has })
-              | inr fits ↦ inr (record {
-                within = (let within = fits.within in omega arith);
-                below = below_more s files number place lower fits.below;
-                above = above_more s files number place fits.above;
-              })
-            ],
-          )
-      | inr high ↦ (
-        0,
-        elim (cases_lt number s.number) as (λ _. StandsAt (s ∷ files) number 0 ⊎ FitsAt (s ∷ files) number 0) [
-          | inl above ↦ inr (record { within = omega arith; below = λ k d low under. absurd (omega arith); above = above_all s files number is above })
-          | inr same ↦ inl (record { within = omega arith; has = λ d. omega arith })
-        ],
-      )
-    ]
 
 -- the tree with a file put, and with one taken out
 

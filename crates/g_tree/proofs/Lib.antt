@@ -5,7 +5,6 @@ pub mod CountLemmas
 pub mod EntryLemmas
 pub mod FaultLemmas
 pub mod FirstLemmas
-pub mod FreeLemmas
 pub mod GrantLemmas
 pub mod IndexLemmas
 pub mod InUserLemmas

@@ -1,41 +1,71 @@
--- What a search among files in order of number finds.
-use Rattle.std.proofs.Common.{◌≡◌, ℕ, ◌<◌, ◌≤◌, List, length, get_or, Some, None, Result, Ok, Err, IfOk, IfErr, sym, subst, ◌∙◌, arith, inl, inr}
-use Rattle.std.specs.List.Sorted.{IsSearchInRange, IsBinarySearchResult, IsNonDecreasingBy}
-use Rattle.std.specs.Ordering.{nat_cmp, ordering_index}
+-- Where a number stands among files in order of number, or would stand, and what is found there.
+use Rattle.std.proofs.Common.{◌≡◌, ℕ, zero, suc, ◌<◌, ◌≤◌, ◌⊎◌, List, [], ◌∷◌, cond, length, get_or, Some, None, is_some, false, refl, sym, ap, subst, ◌∙◌, arith, inl, inr, true≢false}
+use Rattle.std.specs.List.{AllWithin}
+use Rattle.std.specs.Option.{option_map}
+use Rattle.std.specs.Ordering.{nat_cmp}
+use Rattle.std.specs.Cmp.{eq_by_cmp_equiv, unsigned_tied}
 use Rattle.std.specs.FinMap.{get, find, get-from_entries, nat_cmp-IsAntisymmetric}
 use Rattle.std.proofs.lemmas.Bool.{cases_lt}
-use Rattle.std.proofs.lemmas.Bool.Decides.{nat_tests}
-use Rattle.std.proofs.lemmas.Cmp.{ranked, nat_cmp_total}
-use Rattle.std.proofs.lemmas.List.Elements.{Contains-get_or}
+use Rattle.std.proofs.lemmas.Cmp.{nat_cmp_total}
+use Rattle.std.proofs.lemmas.List.Elements.{All-tail, Contains-get_or}
+use Rattle.g_name.specs.declared.full.Full.{Full}
+use Rattle.g_entry.specs.declared.user_rec.UserRec.{UserRec}
 use Rattle.g_entry.specs.declared.file_rec.FileRec.{FileRec}
 use Rattle.g_entry.specs.Rules.{AreNumbered}
-use Rattle.g_tree.specs.Records.{by_number}
+use Rattle.g_table.specs.Files.{rec_at}
+use Rattle.g_plain.proofs.Found.{same_some}
+use Rattle.g_tree.specs.Records.{by_number, full_of, name_of_file}
 use Rattle.g_tree.specs.Places.{StandsAt, FitsAt}
+use Rattle.g_tree.proofs.ListLemmas.{pairs_rest}
 use Rattle.g_tree.proofs.MapLemmas.{keyed, AreApart, found_itself, none_found}
 
+pub no_file : FileRec
+no_file = record { number = 0; owner = 0; local = []; generation = 0; lang = []; stamp = 0; len = 0; traps = record { owner = 0; others = [] }; tape = None }
+
+-- where a number stands, or would stand
+
+below_more : (s : FileRec) (files : List FileRec) (number n : ℕ) → s.number < number → AllWithin (λ r. r.number < number) files 0 n
+    → (k : ℕ) (d : FileRec) → 0 ≤ k → k < suc n → (get_or (s ∷ files) k d).number < number
+below_more s files number n first rest zero d low high = first
+below_more s files number n first rest (suc k) d low high = rest k d (omega arith) (omega arith)
+
+above_more : (s : FileRec) (files : List FileRec) (number n : ℕ) → AllWithin (λ r. number < r.number) files n (length files)
+    → (k : ℕ) (d : FileRec) → suc n ≤ k → k < length (s ∷ files) → number < (get_or (s ∷ files) k d).number
+above_more s files number n rest zero d low high = absurd (omega arith)
+above_more s files number n rest (suc k) d low high = rest k d (omega arith) (omega arith)
+
+above_all : (s : FileRec) (files : List FileRec) (number : ℕ) → AreNumbered (s ∷ files) → number < s.number
+    → (k : ℕ) (d : FileRec) → 0 ≤ k → k < length (s ∷ files) → number < (get_or (s ∷ files) k d).number
+above_all s files number is lower zero d low high = lower
+above_all s files number is lower (suc k) d low high = let rising = is.rising 0 (suc k) d (omega arith) high in omega (arith, rising)
+
+pub place_for : (files : List FileRec) (number : ℕ) → AreNumbered files → (place : ℕ) × (StandsAt files number place ⊎ FitsAt files number place)
+place_for [] number is = (0, inr (record { within = omega arith; below = λ k d low high. absurd (omega arith); above = λ k d low high. absurd (omega arith) }))
+place_for (s ∷ files) number is =
+    elim (cases_lt s.number number) as (λ _. (place : ℕ) × (StandsAt (s ∷ files) number place ⊎ FitsAt (s ∷ files) number place)) [
+      | inl lower ↦
+          let numbered : AreNumbered files = record { rising = pairs_rest (λ r t. r.number < t.number) s files is.rising; below = All-tail (λ r. r.number < 1024) s files is.below } in
+          let (place, there) = place_for files number numbered in (
+            suc place,
+            elim there as (λ _. StandsAt (s ∷ files) number (suc place) ⊎ FitsAt (s ∷ files) number (suc place)) [
+              | inl at ↦ inl (record { within = (let within = at.within in omega arith); has = at.has })
+              | inr fits ↦ inr (record {
+                within = (let within = fits.within in omega arith);
+                below = below_more s files number place lower fits.below;
+                above = above_more s files number place fits.above;
+              })
+            ],
+          )
+      | inr high ↦ (
+        0,
+        elim (cases_lt number s.number) as (λ _. StandsAt (s ∷ files) number 0 ⊎ FitsAt (s ∷ files) number 0) [
+          | inl above ↦ inr (record { within = omega arith; below = λ k d low under. absurd (omega arith); above = above_all s files number is above })
+          | inr same ↦ inl (record { within = omega arith; has = λ d. omega arith })
+        ],
+      )
+    ]
+
 module _ (files : List FileRec) (is : AreNumbered files) (number : ℕ) where
-  number_rises : (i j : ℕ) (d : FileRec) → i ≤ j → j < length files → (get_or files i d).number ≤ (get_or files j d).number
-  number_rises i j d le within =
-      elim (cases_lt i j) as (λ _. (get_or files i d).number ≤ (get_or files j d).number) [
-        | inl lt ↦ let rising = is.rising i j d lt within in omega (arith, rising)
-        | inr ge ↦ let same : i ≡ j = omega arith in subst (λ k. (get_or files i d).number ≤ (get_or files k d).number) same (omega arith)
-      ]
-
-  compared_rise : IsNonDecreasingBy (λ r. ordering_index (nat_cmp r.number number)) files
-  compared_rise = λ i j d le within. let rises = number_rises i j d le within in grind (arith, nat_tests)
-
-  pub place_found : (r : Result ℕ ℕ) → IsSearchInRange r (length files) → IsBinarySearchResult (λ r. nat_cmp r.number number) files r → IfOk r (StandsAt files number)
-  place_found (Ok place) within equal = record { within = within; has = λ d. ranked _ number _ (sym (equal d)) }
-  place_found (Err place) within parted = tt
-
-  pub place_absent : (r : Result ℕ ℕ) → IsSearchInRange r (length files) → IsBinarySearchResult (λ r. nat_cmp r.number number) files r → IfErr r (FitsAt files number)
-  place_absent (Ok place) within equal = tt
-  place_absent (Err place) within parted = record {
-    within = within;
-    below = λ k d low high. ranked _ number _ (sym ((parted compared_rise).0 k d low high));
-    above = λ k d low high. ranked _ number _ (sym ((parted compared_rise).1 k d low high));
-  }
-
   pub numbered_apart : AreApart (λ r. r.number) files
   numbered_apart = λ i j d lower within e. let rising = is.rising i j d lower within in omega (arith, rising, e)
 
@@ -53,3 +83,55 @@ module _ (files : List FileRec) (is : AreNumbered files) (number : ℕ) where
         | inl lower ↦ let below = at.below k d (omega arith) lower in omega (arith, below, e)
         | inr above ↦ let beyond = at.above k d above within in omega (arith, beyond, e)
       ])
+
+-- the record of a number is that of the map
+rec_by : (files : List FileRec) (number : ℕ) → find nat_cmp number (keyed (λ r. r.number) files) ≡ rec_at files number
+rec_by [] number = refl
+rec_by (r ∷ files) number =
+    let tied = (eq_by_cmp_equiv nat_cmp_total).symm number r.number ∙ unsigned_tied r.number number in
+    let rest = rec_by files number in
+    λ i. cond (tied i) (Some r) (rest i)
+
+pub rec_found : (files : List FileRec) (number : ℕ) → get (by_number files) number ≡ rec_at files number
+rec_found files number = get-from_entries nat_cmp_total (keyed (λ r. r.number) files) number ∙ rec_by files number
+
+-- a file of a number, where it stands
+pub record IsThere (files : List FileRec) (number : ℕ) (r : FileRec) (place : ℕ) : Type 0 where
+  pub at : StandsAt files number place
+  pub here : r ≡ get_or files place r
+
+module _ (files : List FileRec) (is : AreNumbered files) (number : ℕ) where
+  pub stands_at : (r : FileRec) → rec_at files number ≡ Some r → (place : ℕ) × IsThere files number r place
+  stands_at r found =
+      let (place, there) = place_for files number is in
+      let got = sym found ∙ sym (rec_found files number) in
+      elim there as (λ _. (place : ℕ) × IsThere files number r place) [
+        | inl at ↦ (place, record { at = at; here = same_some r (get_or files place r) (got ∙ stands_found files is number place r at) })
+        | inr fits ↦ absurd (true≢false (ap is_some (got ∙ fits_none files is number place fits)))
+      ]
+
+  pub fits_at : is_some (rec_at files number) ≡ false → (place : ℕ) × FitsAt files number place
+  fits_at none =
+      let (place, there) = place_for files number is in
+      elim there as (λ _. (place : ℕ) × FitsAt files number place) [
+        | inl at ↦ absurd (true≢false (ap is_some (sym (stands_found files is number place no_file at) ∙ rec_found files number) ∙ none))
+        | inr fits ↦ (place, fits)
+      ]
+
+pub number_below : (files : List FileRec) → AreNumbered files → (number : ℕ) (r : FileRec) → rec_at files number ≡ Some r → number < 1024
+number_below files is number r found = let (place, it) = stands_at files is number r found in subst (λ n. n < 1024) (it.at.has r) (is.below place r it.at.within)
+
+-- a file that has a number has its full name
+pub record IsNamed (users : List UserRec) (files : List FileRec) (number : ℕ) (full : Full) (r : FileRec) : Type 0 where
+  pub found : rec_at files number ≡ Some r
+  pub named : full ≡ full_of users r
+
+pub named_there : (users : List UserRec) (files : List FileRec) (number : ℕ) (full : Full) → name_of_file users files number ≡ Some full → (r : FileRec) × IsNamed users files number full r
+named_there users files number full e =
+    elim (get (by_number files) number) as (λ o. get (by_number files) number ≡ o → option_map (full_of users) o ≡ Some full → (r : FileRec) × IsNamed users files number full r) [
+      | None ↦ λ there n. absurd (true≢false (sym (ap is_some n)))
+      | Some r ↦ λ there n. (r, record { found = sym (rec_found files number) ∙ there; named = sym (same_some (full_of users r) full n) })
+    ] refl e
+
+pub named_here : (users : List UserRec) (files : List FileRec) (number : ℕ) (r : FileRec) → rec_at files number ≡ Some r → name_of_file users files number ≡ Some (full_of users r)
+named_here users files number r found = ap (option_map (full_of users)) (rec_found files number ∙ found)

@@ -17,6 +17,7 @@ use Rattle.g_entry.specs.declared.user_rec.UserRec.{UserRec}
 use Rattle.g_entry.specs.declared.file_rec.FileRec.{FileRec}
 use Rattle.g_entry.specs.FileFields.{IsFile}
 use Rattle.g_entry.specs.Rules.{AreNumbered}
+use Rattle.g_table.specs.Files.{rec_at}
 use Rattle.g_plain.specs.PlainTree.{FileRow, Tree}
 use Rattle.g_plain.proofs.TextMaps.{full_exact}
 use Rattle.g_plain.proofs.Found.{same_some, tied_are}
@@ -28,7 +29,7 @@ use Rattle.g_tree.specs.Places.{StandsAt, FitsAt}
 use Rattle.g_tree.proofs.ListLemmas.{pairs_first, pairs_rest, contains_first, filter_none, filter_whole, around}
 use Rattle.g_tree.proofs.MapLemmas.{keyed, AreApart, none_found, found_one, found_itself, find_valued, made_middle, made_without}
 use Rattle.g_tree.proofs.RecordLemmas.{valued, names_apart, same_user}
-use Rattle.g_tree.proofs.PlaceLemmas.{numbered_apart, stands_found, fits_none}
+use Rattle.g_tree.proofs.PlaceLemmas.{numbered_apart, stands_at, stands_found, fits_none}
 
 module _ {A : Type 0} where
   pub all_before : (P : A → Type 0) (xs : List A) (n : ℕ) → n ≤ length xs → AllWithin P xs 0 n → All P (take n xs)
@@ -256,3 +257,22 @@ pub owner_there : (users : List UserRec) (files : List FileRec) (file : FileRec)
 owner_there users files file is =
     All-contains (λ r. r.owner < length users) (with_file file files) file is.among_files.owners
     (Contains-append_right (filter (is_lower file) files) (file ∷ filter (is_greater file) files) file (contains_first file (filter (is_greater file) files)))
+
+-- and its number is below 1,024
+pub number_few : (users : List UserRec) (files : List FileRec) (file : FileRec) → IsRecords users (with_file file files) → file.number < 1024
+number_few users files file is =
+    All-contains (λ r. r.number < 1024) (with_file file files) file is.numbers.below
+    (Contains-append_right (filter (is_lower file) files) (file ∷ filter (is_greater file) files) file (contains_first file (filter (is_greater file) files)))
+
+-- a file in the place of the one of its number
+pub record IsSet (users : List UserRec) (files : List FileRec) (file r : FileRec) (place : ℕ) : Type 0 where
+  pub at : StandsAt files file.number place
+  pub here : r ≡ get_or files place r
+  pub put : with_file file files ≡ set files place file
+  pub rules : IsRecords users (set files place file)
+
+pub set_at : (users : List UserRec) (files : List FileRec) → IsRecords users files → (file r : FileRec) → rec_at files file.number ≡ Some r → IsRecords users (with_file file files) → (place : ℕ) × IsSet users files file r place
+set_at users files is file r found rules =
+    let (place, it) = stands_at files is.numbers file.number r found in
+    let put = with_other file files place is.numbers it.at in
+    (place, record { at = it.at; here = it.here; put = put; rules = subst (IsRecords users) put rules })

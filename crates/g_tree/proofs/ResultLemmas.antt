@@ -1,13 +1,9 @@
 -- What follows under a result.
-use Rattle.std.proofs.Common.{◌≡◌, ◌↔◌, Bool, true, false, Option, Some, None, IfSome, Result, Ok, Err, IfOk, IsOk, is_err, refl, sym, true≢false}
+use Rattle.std.proofs.Common.{◌≡◌, ◌↔◌, Bool, true, false, Option, Some, None, IfSome, Result, Ok, Err, IfOk, refl, sym, true≢false}
 
 pub ok_then : {A E : Type 0} (r : Result A E) {P Q : A → Type 0} → ((x : A) → P x → Q x) → IfOk r P → IfOk r Q
 ok_then (Ok x) f p = f x p
 ok_then (Err e) f p = tt
-
-pub ok_is_no_err : {A E : Type 0} (r : Result A E) → IsOk r → is_err r ≡ true → ⊥
-ok_is_no_err (Ok x) ok e = true≢false (sym e)
-ok_is_no_err (Err y) ok e = true≢false (sym ok)
 
 pub some_then : {A : Type 0} (o : Option A) {P Q : A → Type 0} → ((x : A) → P x → Q x) → IfSome o P → IfSome o Q
 some_then (Some x) f p = f x p

@@ -1,5 +1,5 @@
 -- What contracts see of a tree in memory, and how its records change.
-use Rattle.std.specs.Prelude.{◌≡◌, ℕ, ◌==◌, Bool, ◌&&◌, not, nat_lt, is_some, List, [], ◌∷◌, ◌++◌, map, filter, length, sum_by, slice_index_or, codes, Option, Some, None, if◌then◌else◌}
+use Rattle.std.specs.Prelude.{◌≡◌, ℕ, ◌==◌, Bool, ◌&&◌, nat_lt, is_some, List, [], ◌∷◌, map, length, sum_by, slice_index_or, codes, Option, Some, None, if◌then◌else◌}
 use Rattle.std.specs.Ordering.{eq_by_cmp}
 use Rattle.std.specs.FinMap.{FinMap, get, insert, remove, from_entries}
 use Rattle.g_base.specs.Block.{blocks_for}
@@ -7,6 +7,7 @@ use Rattle.g_name.specs.declared.full.Full.{Full}
 use Rattle.g_name.specs.Order.{full_cmp}
 use Rattle.g_entry.specs.declared.user_rec.UserRec.{UserRec}
 use Rattle.g_entry.specs.declared.file_rec.FileRec.{FileRec}
+use Rattle.g_table.specs.Files.{with_rec, without_rec}
 use Rattle.g_plain.specs.PlainTree.{FileRow, is_version_of}
 use Rattle.g_tree.specs.Records.{IsRecords, full_of, by_number}
 use Rattle.g_tree.specs.Answers.{newest_of}
@@ -152,10 +153,10 @@ first_users = first_user 0 (codes "MASTER") ∷ first_user 1 (codes "MACROS") �
 
 -- a file among files in order of number, in the place of one that had its number
 abbrev pub with_file : FileRec → List FileRec → List FileRec
-with_file r files = filter (λ s. nat_lt s.number r.number) files ++ r ∷ filter (λ s. nat_lt r.number s.number) files
+with_file r files = with_rec r files
 
 abbrev pub without_file : ℕ → List FileRec → List FileRec
-without_file number files = filter (λ r. not (r.number == number)) files
+without_file number files = without_rec number files
 
 -- the rows of files without that of the file of a number
 abbrev pub without_number : List UserRec → List FileRec → ℕ → FinMap full_cmp FileRow → FinMap full_cmp FileRow

@@ -1,17 +1,17 @@
 //! What is remembered of files beside their records, so that no call walks over all of them.
-ghost use Rattle.std.specs.Prelude.{◌≡◌, ◌≢◌, ℕ, ◌+◌, ◌-◌, ◌*◌, ◌<◌, ◌≤◌, true, length, max, remove, replicate, OnOk, IfOk, Some, None, is_some, slice_index_or, slice_set};
+ghost use Rattle.std.specs.Prelude.{◌≡◌, ◌≢◌, ℕ, ◌+◌, ◌-◌, ◌*◌, ◌<◌, ◌≤◌, true, length, max, replicate, OnOk, IfOk, Some, None, is_some, slice_index_or, slice_set};
 ghost use Rattle.std.specs.FinMap as finmap;
 ghost use Rattle.g_base.specs.Block.{blocks_for};
-ghost use Rattle.g_entry.specs.declared.file_rec.FileRec.{FileRec};
 ghost use Rattle.g_tree.specs.Answers.{newest_of};
-ghost use Rattle.g_tree.specs.Records.{IsRecords, full_of};
-ghost use Rattle.g_tree.specs.State.{AreIndexed, AreNewest, HasNewest, HasNumber, HasNumbers, HasTop, IsTopped, later, later_top, newest_in, number_in, risen, top_in, versions_of};
+ghost use Rattle.g_tree.specs.Records.{IsRecords, full_of, name_of_file};
+ghost use Rattle.g_tree.specs.State.{AreIndexed, AreNewest, HasNewest, HasNumber, HasNumbers, HasTop, IsTopped, later, later_top, newest_in, number_in, risen, top_in, versions_of, without_file};
 
 use crate::index::{Index, NameEntry, Newest, is_first_of_two, lifted};
 use crate::scan::{full_of, newest_besides};
 use g_base::{NoMemory, blocks_for};
-use g_entry::{BoxedRec, FileRec, UserRec};
+use g_entry::{FileRec, UserRec};
 use g_name::Full;
+use g_table::FileTable;
 use std::alloc::Global;
 
 /// What is known of files by full name, and the blocks of 512 bytes of each owner's files, by the
@@ -23,12 +23,12 @@ pub(crate) struct Counts {
     blocks: Vec<u32>,
 }
 
-/// A file at its place among the others, and the users who own them.
+/// A file by its number among the others, and the users who own them.
 #[derive(Drop)]
 pub(crate) struct Standing<'a> {
     pub users: &'a [UserRec],
-    pub files: &'a [BoxedRec],
-    pub place: usize,
+    pub files: &'a FileTable,
+    pub number: u16,
 }
 
 impl Counts {
@@ -200,19 +200,17 @@ impl Counts {
         self.names.insert(first.copy(), entry);
     }
 
-    /// A file fewer: that at this place.
+    /// A file fewer: that of this number.
     pub fn take_out(&mut self, at: Standing, full: Full)
         requires records { IsRecords at.users.now at.files.now }
         requires index { AreIndexed at.users.now at.files.now self.old.names.entries }
         requires newest { AreNewest at.users.now at.files.now self.old.names.entries }
         requires topped { IsTopped self.old.names.entries }
-        requires there { at.place < length at.files.now }
-        requires named { (d : FileRec) → full
-            ≡ full_of at.users.now (slice_index_or at.files.now at.place d) }
+        requires named { name_of_file at.users.now at.files.now at.number ≡ Some full }
         ensures index { let a = at.entry in
-            AreIndexed a.users.now (remove a.files.now a.place) self.new.names.entries }
+            AreIndexed a.users.now (without_file a.number a.files.now) self.new.names.entries }
         ensures newest { let a = at.entry in
-            AreNewest a.users.now (remove a.files.now a.place) self.new.names.entries }
+            AreNewest a.users.now (without_file a.number a.files.now) self.new.names.entries }
         ensures topped { IsTopped self.new.names.entries }
         ensures blocks { self.new.blocks.items ≡ self.old.blocks.items }
         ensures spare { self.old.names.spare ≤ self.new.names.spare }
@@ -239,20 +237,18 @@ impl Counts {
         self.names.close(full);
     }
 
-    /// A generation behind the first fewer: that at this place.
+    /// A generation behind the first fewer: that of the file of this number.
     fn take_later(&mut self, at: Standing, full: Full)
         requires records { IsRecords at.users.now at.files.now }
         requires index { AreIndexed at.users.now at.files.now self.old.names.entries }
         requires newest { AreNewest at.users.now at.files.now self.old.names.entries }
         requires topped { IsTopped self.old.names.entries }
-        requires there { at.place < length at.files.now }
-        requires named { (d : FileRec) → full
-            ≡ full_of at.users.now (slice_index_or at.files.now at.place d) }
+        requires named { name_of_file at.users.now at.files.now at.number ≡ Some full }
         requires behind { full.generation ≢ 1 }
         ensures numbers { HasNumber self.old.names.entries self.new.names.entries full None }
         ensures newest { let a = at.entry in
             HasNewest self.old.names.entries self.new.names.entries full
-            (newest_of a.users.now full (remove a.files.now a.place)) }
+            (newest_of a.users.now full (without_file a.number a.files.now)) }
         ensures topped { IsTopped self.new.names.entries }
         ensures blocks { self.new.blocks.items ≡ self.old.blocks.items }
         ensures spare { self.old.names.spare ≤ self.new.names.spare }
@@ -291,23 +287,22 @@ impl Counts {
         }
     }
 
-    /// The version of this generation, behind the first, whose name this is, goes: that of the file at
-    /// this place.
+    /// The version of this generation, behind the first, whose name this is, goes: that of the file of
+    /// this number.
     fn lower(&mut self, at: Standing, first: &Full, generation: u16)
         requires records { IsRecords at.users.now at.files.now }
         requires index { AreIndexed at.users.now at.files.now self.old.names.entries }
         requires newest { AreNewest at.users.now at.files.now self.old.names.entries }
         requires topped { IsTopped self.old.names.entries }
-        requires there { at.place < length at.files.now }
-        requires named { (d : FileRec) → record first.now { generation = generation }
-            ≡ full_of at.users.now (slice_index_or at.files.now at.place d) }
+        requires named { name_of_file at.users.now at.files.now at.number
+            ≡ Some (record first.now { generation = generation }) }
         requires first { first.now.generation ≡ 1 }
         requires some { 1 ≤ generation }
         requires behind { generation ≢ 1 }
         ensures numbers { HasNumbers self.old.names.entries self.new.names.entries }
         ensures newest { let a = at.entry in
             HasNewest self.old.names.entries self.new.names.entries first.now
-            (newest_of a.users.now first.now (remove a.files.now a.place)) }
+            (newest_of a.users.now first.now (without_file a.number a.files.now)) }
         ensures topped { IsTopped self.new.names.entries }
         ensures blocks { self.new.blocks.items ≡ self.old.blocks.items }
         ensures spare { self.old.names.spare ≤ self.new.names.spare }
@@ -323,21 +318,20 @@ impl Counts {
         self.settle(first, newest);
     }
 
-    /// The newest of the versions of the file at this place but itself, which has this generation and the
+    /// The newest of the versions of the file of this number but itself, which has this generation and the
     /// first of them this name, where this is known under it.
     fn newest_but(&self, at: Standing, entry: NameEntry, first: &Full, generation: u16) -> Newest
         requires records { IsRecords at.users.now at.files.now }
         requires index { AreIndexed at.users.now at.files.now self.now.names.entries }
         requires newest { AreNewest at.users.now at.files.now self.now.names.entries }
         requires topped { IsTopped self.now.names.entries }
-        requires there { at.place < length at.files.now }
-        requires named { (d : FileRec) → record first.now { generation = generation }
-            ≡ full_of at.users.now (slice_index_or at.files.now at.place d) }
+        requires named { name_of_file at.users.now at.files.now at.number
+            ≡ Some (record first.now { generation = generation }) }
         requires entry { finmap.get self.now.names.entries first.now ≡ Some entry }
         requires first { first.now.generation ≡ 1 }
         requires some { 1 ≤ generation }
         ensures generation { let a = at.entry in
-            result.generation ≡ newest_of a.users.now first.now (remove a.files.now a.place) }
+            result.generation ≡ newest_of a.users.now first.now (without_file a.number a.files.now) }
         ensures number { result.number ≡ number_in self.now.names.entries
             (record first.now { generation = result.generation }) }
     {
@@ -355,7 +349,7 @@ impl Counts {
                 number,
             };
         }
-        let left = newest_besides(at.users, first, at.files, at.place);
+        let left = newest_besides(at.users, first, at.files, at.number);
         let full = Full {
             generation: left,
             ..first.copy()

@@ -1,17 +1,17 @@
 //! What is read off the records of users and files, one after another.
-ghost use Rattle.std.specs.Prelude.{◌≡◌, ◌<◌, ◌==◌, ◌&&◌, map, filter, remove, length, All, IfOk, IfErr};
+ghost use Rattle.std.specs.Prelude.{◌≡◌, ◌<◌, ◌==◌, ◌&&◌, map, filter, length, All, IfOk};
 ghost use Rattle.std.specs.FinMap as finmap;
 ghost use Rattle.g_plain.specs.PlainTree.{is_version_of};
-ghost use Rattle.g_entry.specs.Rules.{AreNumbered};
 ghost use Rattle.g_tree.specs.Records.{full_of};
-ghost use Rattle.g_tree.specs.Places.{StandsAt, FitsAt};
+ghost use Rattle.g_tree.specs.State.{without_file};
 ghost use Rattle.g_tree.specs.Answers.{newest_of};
 ghost use Rattle.g_tree.specs.Names.{name_in, same_name};
 
 use crate::sorted::{Sorted, name_in};
 use g_base::NoMemory;
-use g_entry::{BoxedRec, FileRec, UserRec};
+use g_entry::{FileRec, UserRec};
 use g_name::Full;
+use g_table::FileTable;
 use std::alloc::Global;
 
 /// The full name of a file whose owner is there.
@@ -25,15 +25,6 @@ pub fn full_of(users: &[UserRec], file: &FileRec) -> Full
         generation: file.generation,
         lang: file.lang.copy(),
     }
-}
-
-/// Where the file of a number stands among files in order of number, or where it would stand.
-pub(crate) fn place_of(files: &[BoxedRec], number: u16) -> Result<usize, usize>
-    requires { AreNumbered files.now }
-    ensures found { IfOk result (StandsAt files.now number) }
-    ensures absent { IfErr result (FitsAt files.now number) }
-{
-    g_entry::place_of(files, number)
 }
 
 /// Whether two files have the same full name. No name of a user is looked at.
@@ -54,46 +45,29 @@ fn is_version_of(users: &[UserRec], name: &Full, file: &FileRec) -> bool
         && name.user == users[file.owner as usize].user
 }
 
-/// The greatest generation of the files of this user, local name and language, or 0.
-pub(crate) fn newest_of(users: &[UserRec], name: &Full, files: &[BoxedRec]) -> u16
+/// The greatest generation of the versions of a file among the files but the one of this number.
+pub(crate) fn newest_besides(users: &[UserRec], name: &Full, files: &FileTable, number: u16) -> u16
     requires { All (λ r. r.owner < length users.now) files.now }
-    ensures { result ≡ newest_of users.now name.now files.now }
+    ensures { result ≡ newest_of users.now name.now (without_file number files.now) }
 {
     let mut newest = 0;
     for file in files {
-        if is_version_of(users, name, file.get()) {
-            newest = newest.max(file.get().generation);
+        if file.number != number && is_version_of(users, name, file) {
+            newest = newest.max(file.generation);
         }
     }
     newest
 }
 
-/// The greatest generation of the versions of a file among the files but the one at this place.
-pub(crate) fn newest_besides(
-    users: &[UserRec],
-    name: &Full,
-    files: &[BoxedRec],
-    place: usize,
-) -> u16
-    requires owners { All (λ r. r.owner < length users.now) files.now }
-    requires there { place < length files.now }
-    ensures { result ≡ newest_of users.now name.now (remove files.now place) }
-{
-    let before = newest_of(users, name, &files[..place]);
-    before.max(newest_of(users, name, &files[place + 1..]))
-}
-
 /// The numbers of an owner's files by name.
-pub(crate) fn sorted_of(alloc: Global, owner: u8, files: &[BoxedRec]) -> Result<Sorted, NoMemory>
+pub(crate) fn sorted_of(alloc: Global, owner: u8, files: &FileTable) -> Result<Sorted, NoMemory>
     ensures { IfOk result (λ sorted. sorted
         ≡ finmap.from_entries (map (λ r. (name_in r, r.number))
         (filter (λ r. r.owner == owner) files.now))) }
 {
     let mut sorted = Sorted::new(alloc);
-    let mut left = files.len();
-    while left > 0 {
-        left -= 1;
-        let file = files[left].get();
+    let mut left = files.iter();
+    while let Some(file) = left.next_back() {
         if file.owner == owner {
             sorted.insert(name_in(file), file.number)?;
         }

@@ -12,22 +12,23 @@ mod rights;
 
 use crate::counts::{Counts, versions_of};
 use crate::index::Newest;
-use crate::scan::{place_of, sorted_of};
+use crate::scan::sorted_of;
 use crate::{NumberList, Output};
 use g_base::NoMemory;
 use g_entry::{BoxedRec, FileRec, UserRec};
 use g_name::{Full, Lang, Path, User};
+use g_table::FileTable;
 use std::alloc::Global;
 use std::marker::Model;
 
-/// Users in order of number, at most 63, and files in order of number, at most 1,024. A user's number
-/// is the place among users; the first two are `MASTER` and `MACROS`. Contracts see the records, and
+/// Users in order of number, at most 63, and files by number, at most 1,024. A user's number is the
+/// place among users; the first two are `MASTER` and `MACROS`. Contracts see the records, and
 /// beside them how many more users and files fit without taking memory. The rules of records are those
 /// of docs/FORMATS.md.
 #[derive(Drop)]
 pub struct Tree {
     users: Vec<UserRec>,
-    files: Vec<BoxedRec>,
+    files: FileTable,
     counts: Counts,
 
     // A box for the next file, so that putting it in takes no memory.
@@ -44,13 +45,12 @@ impl Model for Tree {
 
     ghost view = { λ t. record {
       users = t.users.items;
-      files = t.files.items;
+      files = t.files;
       spare = min (vec_capacity t.users - vec_len t.users)
-          (min (vec_capacity t.files - vec_len t.files)
-          (min (t.counts.names.spare - 1) (room_of t.room)));
+          (min (t.counts.names.spare - 1) (room_of t.room));
     } };
 
-    ghost invariant = { λ t. IsKept t.users.items t.files.items t.counts.names.entries
+    ghost invariant = { λ t. IsKept t.users.items t.files t.counts.names.entries
         t.counts.blocks.items };
 }
 
@@ -112,10 +112,7 @@ impl Tree {
         ensures value { option_copied result ≡ finmap.get (by_number self.now.files) number }
         ensures records { IsRecords self.now.users self.now.files }
     {
-        match place_of(self.files.as_slice(), number) {
-            Ok(place) => Some(self.files[place].get()),
-            Err(_) => None,
-        }
+        self.files.get(number)
     }
 
     /// All users in order of number.
@@ -127,11 +124,11 @@ impl Tree {
     }
 
     /// All files in order of number.
-    pub fn files(&self) -> &[BoxedRec]
+    pub fn files(&self) -> &FileTable
         ensures value { result.now ≡ self.now.files }
         ensures records { IsRecords self.now.users self.now.files }
     {
-        self.files.as_slice()
+        &self.files
     }
 
     /// The number of the file that a path names for input, where an absent user is the owner of this
@@ -203,7 +200,7 @@ impl Tree {
         ensures { IfOk result (λ list. ForTree self.now.users self.now.files
             (λ t. list ≡ listed self.now.users self.now.files (name_of self.now.users owner) t)) }
     {
-        let sorted = sorted_of(alloc, owner, self.files.as_slice())?;
+        let sorted = sorted_of(alloc, owner, &self.files)?;
         sorted.numbers(alloc)
     }
 

@@ -1,19 +1,17 @@
 //! Trees from records, and how records change.
-ghost use Rattle.std.specs.Prelude.{◌≡◌, ◌⊎◌, ℕ, ◌+◌, ◌<◌, ◌≤◌, true, List, [], ◌∷◌, ◌++◌, OnOk, OnErr, IfOk, IfSome, IfNone, Some, None, length, slice_set, slice_index_or, is_some, vec_len};
-ghost use Rattle.std.specs.Vec.{vec_capacity};
-ghost use Rattle.std.specs.List.{insert};
+ghost use Rattle.std.specs.Prelude.{◌≡◌, ◌⊎◌, ℕ, ◌+◌, ◌<◌, ◌≤◌, true, List, [], ◌∷◌, ◌++◌, OnOk, OnErr, IfOk, IfSome, IfNone, Some, None, length, slice_set, is_some};
 ghost use Rattle.std.specs.FinMap as finmap;
-ghost use Rattle.g_entry.specs.Rules.{AreNumbered};
-ghost use Rattle.g_tree.specs.Records.{IsRecords, name_of, full_of, user_row_of, file_row_of, tree_of, by_number, number_of};
-ghost use Rattle.g_tree.specs.Places.{StandsAt};
+ghost use Rattle.g_table.specs.Files.{rec_at};
+ghost use Rattle.g_tree.specs.Records.{IsRecords, name_of, name_of_file, full_of, user_row_of, file_row_of, tree_of, by_number, number_of};
 ghost use Rattle.g_tree.specs.State.{AreIndexed, AreNewest, AreUsed, IsTopped, room_of, with_file, without_file, without_number};
 
 use crate::counts::{Counts, Standing};
-use crate::scan::{full_of, has_same_name, place_of};
+use crate::scan::{full_of, has_same_name};
 use crate::tree::Tree;
 use g_base::NoMemory;
-use g_entry::{BoxedRec, FileRec, UserRec, boxed};
+use g_entry::{BoxedRec, FileRec, UserRec};
 use g_name::{Full, Lang, Local};
+use g_table::FileTable;
 use g_trap::Traps;
 use std::alloc::Global;
 
@@ -29,7 +27,7 @@ impl Tree {
         ensures files { IfOk result (λ t. t.files ≡ files.items) }
     {
         let counts = counts_of(alloc, users.as_slice(), files.as_slice())?;
-        let files = boxed(alloc, files.as_slice())?;
+        let files = FileTable::of(alloc, files.as_slice())?;
         Ok(Tree {
             users,
             files,
@@ -48,7 +46,6 @@ impl Tree {
         ensures spare { self.old.spare ≤ self.new.spare }
     {
         self.users.reserve(1)?;
-        self.files.reserve(1)?;
         self.counts.reserve(1)?;
         make_room(self.alloc, &mut self.room)
     }
@@ -93,7 +90,7 @@ impl Tree {
         self.users[place] = user;
     }
 
-    /// Puts a file in its place in order of number, or in that of the file of the same number.
+    /// Puts a file at the place of its number, where there may be one already. No other moves.
     pub fn put(&mut self, file: FileRec)
         requires room { (1 ≤ self.old.spare) ⊎
             (number_of self.old.users self.old.files (full_of self.old.users file)
@@ -113,76 +110,79 @@ impl Tree {
                   (full_of self.old.users file) (file_row_of self.old.users bytes file);
             } }
     {
-        match place_of(self.files.as_slice(), file.number) {
-            Ok(place) => self.replace(place, file),
-            Err(place) => {
+        match self.files.get(file.number) {
+            Some(_) => self.replace(file),
+            None => {
                 self.counts.put(self.users.as_slice(), &file);
                 self.counts.take(file.owner, file.len);
-                put_between(&mut self.files, &mut self.room, place, file);
+                put_new(&mut self.files, &mut self.room, file);
             }
         }
     }
 
     /// Puts a file in the place of the one of its number, whatever its full name is.
-    fn replace(&mut self, place: usize, file: FileRec)
-        requires at { StandsAt self.old.files file.number place }
+    fn replace(&mut self, file: FileRec)
+        requires there { is_some (rec_at self.old.files file.number) ≡ true }
         requires room { (1 ≤ self.old.spare) ⊎
             (number_of self.old.users self.old.files (full_of self.old.users file)
             ≡ Some file.number) }
-        requires rules { IsRecords self.old.users (slice_set self.old.files place file) }
+        requires rules { IsRecords self.old.users (with_file file self.old.files) }
         ensures users { self.new.users ≡ self.old.users }
-        ensures files { self.new.files ≡ slice_set self.old.files place file }
+        ensures files { self.new.files ≡ with_file file self.old.files }
         ensures spare { self.old.spare ≤ self.new.spare + 1 }
         ensures same_name { number_of self.old.users self.old.files (full_of self.old.users file)
             ≡ Some file.number → self.new.spare ≡ self.old.spare }
     {
-        let old = self.files[place].get();
+        let Some(old) = self.files.get(file.number) else {
+            unreachable!()
+        };
         if has_same_name(old, &file) {
-            self.renew(place, file);
+            self.renew(file);
         } else {
             let was = full_of(self.users.as_slice(), old);
-            self.rename(place, was, file);
+            self.rename(was, file);
         }
     }
 
     /// Puts a file in the place of the one of its number, which has the same full name.
-    fn renew(&mut self, place: usize, file: FileRec)
-        requires at { StandsAt self.old.files file.number place }
-        requires name { (d : FileRec) → full_of self.old.users (slice_index_or self.old.files place d)
-            ≡ full_of self.old.users file }
-        requires rules { IsRecords self.old.users (slice_set self.old.files place file) }
+    fn renew(&mut self, file: FileRec)
+        requires name { name_of_file self.old.users self.old.files file.number
+            ≡ Some (full_of self.old.users file) }
+        requires rules { IsRecords self.old.users (with_file file self.old.files) }
         ensures users { self.new.users ≡ self.old.users }
-        ensures files { self.new.files ≡ slice_set self.old.files place file }
+        ensures files { self.new.files ≡ with_file file self.old.files }
         ensures spare { self.new.spare ≡ self.old.spare }
     {
-        let old = self.files[place].get();
+        let Some(old) = self.files.get(file.number) else {
+            unreachable!()
+        };
         self.counts.give(old.owner, old.len);
         self.counts.take(file.owner, file.len);
-        self.files[place].set(file);
+        self.files.set(file);
     }
 
     /// Puts a file in the place of the one of its number, whose full name is another.
-    fn rename(&mut self, place: usize, old: Full, file: FileRec)
-        requires at { StandsAt self.old.files file.number place }
-        requires was { (d : FileRec) → old
-            ≡ full_of self.old.users (slice_index_or self.old.files place d) }
+    fn rename(&mut self, old: Full, file: FileRec)
+        requires was { name_of_file self.old.users self.old.files file.number ≡ Some old }
         requires room { 1 ≤ self.old.spare }
-        requires rules { IsRecords self.old.users (slice_set self.old.files place file) }
+        requires rules { IsRecords self.old.users (with_file file self.old.files) }
         ensures users { self.new.users ≡ self.old.users }
-        ensures files { self.new.files ≡ slice_set self.old.files place file }
+        ensures files { self.new.files ≡ with_file file self.old.files }
         ensures spare { self.old.spare ≤ self.new.spare + 1 }
     {
         let at = Standing {
             users: self.users.as_slice(),
-            files: self.files.as_slice(),
-            place,
+            files: &self.files,
+            number: file.number,
         };
         self.counts.take_out(at, old);
-        let was = self.files[place].get();
+        let Some(was) = self.files.get(file.number) else {
+            unreachable!()
+        };
         self.counts.put(self.users.as_slice(), &file);
         self.counts.give(was.owner, was.len);
         self.counts.take(file.owner, file.len);
-        self.files[place].set(file);
+        self.files.set(file);
     }
 
     /// Takes the file of this number out.
@@ -197,22 +197,22 @@ impl Tree {
             tree_of self.new.users self.new.files bytes next
             ≡ record t { files = without_number self.old.users self.old.files number t.files } }
     {
-        match place_of(self.files.as_slice(), number) {
-            Ok(place) => {
-                let full = full_of(self.users.as_slice(), self.files[place].get());
-                let at = Standing {
-                    users: self.users.as_slice(),
-                    files: self.files.as_slice(),
-                    place,
-                };
-                self.counts.take_out(at, full);
-                let boxed = self.files.remove(place);
-                let file = boxed.get();
-                self.counts.give(file.owner, file.len);
-                keep_room(&mut self.room, boxed);
-            }
-            Err(_) => unreachable!(),
-        }
+        let Some(file) = self.files.get(number) else {
+            unreachable!()
+        };
+        let full = full_of(self.users.as_slice(), file);
+        let at = Standing {
+            users: self.users.as_slice(),
+            files: &self.files,
+            number,
+        };
+        self.counts.take_out(at, full);
+        let Some(boxed) = self.files.take(number) else {
+            unreachable!()
+        };
+        let file = boxed.get();
+        self.counts.give(file.owner, file.len);
+        keep_room(&mut self.room, boxed);
     }
 
     /// The least unused number of a user, where there is one below 63.
@@ -235,7 +235,7 @@ impl Tree {
             → is_some (finmap.get (by_number self.now.files) lower) ≡ true) }
         ensures none { IfNone result (length self.now.files ≡ 1024) }
     {
-        free_in(self.files.as_slice())
+        self.files.free()
     }
 }
 
@@ -276,20 +276,17 @@ fn no_file() -> FileRec {
     }
 }
 
-/// Puts a file between others, in the box that is there for it.
-fn put_between(files: &mut Vec<BoxedRec>, room: &mut Option<BoxedRec>, place: usize, file: FileRec)
-    requires place { place ≤ vec_len files.old }
-    requires places { vec_len files.old < vec_capacity files.old }
+/// Puts a file whose number is below 1,024 at its place, in the box that is there for it.
+fn put_new(files: &mut FileTable, room: &mut Option<BoxedRec>, file: FileRec)
+    requires number { file.number < 1024 }
     requires room { 1 ≤ room_of room.old }
-    ensures { files.new.items ≡ insert files.old.items place file }
+    ensures { files.new ≡ with_file file files.old }
 {
     let Some(mut boxed) = room.take() else {
         unreachable!()
     };
     boxed.set(file);
-    if files.insert(place, boxed).is_err() {
-        unreachable!()
-    }
+    files.put(boxed);
 }
 
 /// What is remembered of files, with room for their names.
@@ -307,27 +304,4 @@ fn counts_of(alloc: Global, users: &[UserRec], files: &[FileRec]) -> Result<Coun
         counts.take(file.owner, file.len);
     }
     Ok(counts)
-}
-
-/// The least number that no file has. Numbers rise from place to place, so a file in front of the gap
-/// has the number of its place, and one behind it a greater one.
-fn free_in(files: &[BoxedRec]) -> Option<u16>
-    requires { AreNumbered files.now }
-    ensures unused { IfSome result (λ number. (number < 1024)
-        × (finmap.get (by_number files.now) number ≡ None)) }
-    ensures least { IfSome result (λ number. (lower : ℕ) → lower < number
-        → is_some (finmap.get (by_number files.now) lower) ≡ true) }
-    ensures none { IfNone result (length files.now ≡ 1024) }
-{
-    let mut gap = 0;
-    let mut end = files.len();
-    while gap < end {
-        let middle = gap + (end - gap) / 2;
-        if files[middle].get().number as usize == middle {
-            gap = middle + 1;
-        } else {
-            end = middle;
-        }
-    }
-    if gap < 1024 { Some(gap as u16) } else { None }
 }

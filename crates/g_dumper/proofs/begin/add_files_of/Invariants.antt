@@ -1,6 +1,7 @@
-use Rattle.std.proofs.Common.{◌≡◌, ◌++◌, take}
+-- The files so far, and behind them those of this user that are left.
+use Rattle.std.proofs.Common.{◌≡◌, ◌++◌}
 use Rattle.g_store_meaning.specs.Meaning.{files_of}
 use Rattle.g_dumper.proofs.begin.add_files_of.Given as goal
 
 abbrev pub invariant-loop-file : goal.invariant-loop-file
-invariant-loop-file l = l.all.items ≡ l.fn.all.items ++ files_of l.owner (take l.file-index l.files)
+invariant-loop-file l = l.all.items ++ files_of l.owner l.file-iterator ≡ l.fn.all.items ++ files_of l.owner l.files

@@ -1,6 +1,6 @@
-use Rattle.std.proofs.Common.{◌≡◌, take}
-use Rattle.g_migrate.specs.Candidates.{candidates_in}
+-- The candidates among the files so far, and the records that are left stand behind these.
+use Rattle.g_migrate.proofs.CandidateLemmas.{IsListed}
 use Rattle.g_migrate.proofs.candidates.candidates.Given as goal
 
 abbrev pub invariant-loop-file : goal.invariant-loop-file
-invariant-loop-file g l = l.candidates.items ≡ candidates_in (take l.file-index l.online.contents.files)
+invariant-loop-file g l = IsListed l.online.contents.files l.file-iterator l.candidates.items

@@ -1,6 +1,7 @@
-use Rattle.std.proofs.Common.{◌≡◌, map, take}
+-- The files so far, and behind them those that are left.
+use Rattle.std.proofs.Common.{◌≡◌, ◌++◌, map}
 use Rattle.g_disc_contents.specs.Contents.{copied_rec}
 use Rattle.g_online.proofs.adopt.copied_files.Given as goal
 
 abbrev pub invariant-loop-file : goal.invariant-loop-file
-invariant-loop-file l = l.copied.items ≡ map (copied_rec l.copies) (take l.file-index l.files)
+invariant-loop-file l = l.copied.items ++ map (copied_rec l.copies) l.file-iterator ≡ map (copied_rec l.copies) l.files

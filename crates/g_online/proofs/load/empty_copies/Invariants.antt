@@ -1,6 +1,7 @@
-use Rattle.std.proofs.Common.{◌≡◌, take}
+-- The copies so far, and behind them those of the files that are left.
+use Rattle.std.proofs.Common.{◌≡◌, ◌++◌}
 use Rattle.g_online.specs.Beginning.{empty_copies}
 use Rattle.g_online.proofs.load.empty_copies.Given as goal
 
 abbrev pub invariant-loop-file : goal.invariant-loop-file
-invariant-loop-file l = l.online.items ≡ empty_copies (take l.file-index l.files)
+invariant-loop-file l = l.online.items ++ empty_copies l.file-iterator ≡ empty_copies l.files

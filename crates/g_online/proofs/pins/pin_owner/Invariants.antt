@@ -1,6 +1,6 @@
-use Rattle.std.proofs.Common.{take}
-use Rattle.g_online.specs.DumpedVersions.{HasPut, waiting_of}
+-- The versions of the files so far were put, and the files that are left stand behind these.
+use Rattle.g_online.proofs.PinPutLemmas.{IsPutting}
 use Rattle.g_online.proofs.pins.pin_owner.Given as goal
 
 abbrev pub invariant-loop-file : goal.invariant-loop-file
-invariant-loop-file l = HasPut l.serial l.online (waiting_of l.owner (take l.file-index l.files)) l.fn.pins.items l.fn.at l.pins.items l.at
+invariant-loop-file l = IsPutting l.serial l.owner l.online l.files l.file-iterator l.fn.pins.items l.fn.at l.pins.items l.at

@@ -1,5 +1,5 @@
 -- Nothing is known of any block.
-use Rattle.std.proofs.Common.{◌≡◌, Bool, List, ℕ, None, Option, false, replicate, ap, ◌∙◌}
+use Rattle.std.proofs.Common.{◌≡◌, Bool, List, false, replicate, ap, ◌∙◌}
 use Rattle.g_dirs.specs.KnownBlocks.{seen}
 use Rattle.g_dirs.proofs.KnownLemmas.{seen_nothing}
 use Rattle.g_dirs.proofs.known.RememberedBlocks.nothing.Goals as goal

@@ -7,4 +7,4 @@ use Rattle.g_tree.proofs.asked.RecordsQuestions.files.Goals as goal
 pub returns : goal.returns
 returns c =
     let s = c.args.self.now in
-    ap length c.files.ensures.value ∙ sym (count_files s.tree.now.users s.tree.now.files zeros s.next c.files.ensures.records)
+    c.len.ensures ∙ ap length c.files.ensures.value ∙ sym (count_files s.tree.now.users s.tree.now.files zeros s.next c.files.ensures.records)

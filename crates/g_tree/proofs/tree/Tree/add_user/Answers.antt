@@ -8,7 +8,7 @@ use Rattle.g_tree.proofs.tree.Tree.add_user.Goals as goal
 pub invariant_of-self : goal.invariant_of-self
 invariant_of-self c =
     let users = c.self.inside.users.items in
-    let files = c.self.inside.files.items in
+    let files = c.self.inside.files in
     let items : c.push.new.self.items ≡ users ++ c.args.user ∷ [] = c.push.ensures.items ∙ ap (λ b. cond b (users ++ c.args.user ∷ []) users) (c.is_err.ensures.negation ∙ ap not c.if-is_err.false) in
     subst (λ us. IsKept us files c.self.inside.counts.names.entries c.self.inside.counts.blocks.items) (sym items)
     (kept_more users files c.args.user c.self.invariant.records c.self.inside.counts.names.entries c.self.inside.counts.blocks.items c.self.invariant (subst (λ s. IsRecords (s.users ++ c.args.user ∷ []) s.files) (sym c.self.view_is) c.requires.rules))

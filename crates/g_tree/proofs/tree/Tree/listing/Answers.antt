@@ -1,5 +1,5 @@
 -- The owner's numbers in the order of names are those of the tree's entries.
-use Rattle.std.proofs.Common.{◌≡◌, ◌==◌, map, filter, ap, subst, ◌∙◌}
+use Rattle.std.proofs.Common.{◌==◌, map, filter, ap, subst, ◌∙◌}
 use Rattle.std.specs.FinMap.{entries, from_entries}
 use Rattle.g_tree.specs.Names.{name_cmp, name_in}
 use Rattle.g_tree.specs.Records.{IsRecords}
@@ -10,8 +10,7 @@ use Rattle.g_tree.proofs.tree.Tree.listing.Goals as goal
 
 pub returns : goal.returns
 returns c =
-    let files : c.as_slice.result.now ≡ c.args.self.now.files = c.as_slice.ensures.value ∙ ap (λ s. s.files) c.self.view_is in
-    let sorted = c.in_ok-sorted.ensures ∙ (λ i. from_entries {R = name_cmp} (map (λ r. (name_in r, r.number)) (filter (λ r. r.owner == c.args.owner) (files i)))) in
+    let sorted = c.in_ok-sorted.ensures ∙ ap (λ s. from_entries {R = name_cmp} (map (λ r. (name_in r, r.number)) (filter (λ r. r.owner == c.args.owner) s.files))) c.self.view_is in
     ok_then c.numbers.result
     (λ list is bytes next. is ∙ ap (λ m. map (λ e. e.1) (entries m)) sorted
     ∙ names_listed c.args.self.now.users c.args.owner c.args.self.now.files

@@ -16,8 +16,8 @@ returns-clause-number c =
     let entries = c.self.inside.counts.names.entries in
     let full = at_generation first c.newest.result.generation in
     c.newest.ensures.number ∙ c.self.invariant.topped first ∙ ap (λ n. number_in entries (at_generation first n)) (sym c.newest.ensures.generation)
-    ∙ indexed_number c.self.inside.users.items c.self.inside.files.items entries full c.self.invariant.index ∙ ap (λ s. number_of s.users s.files full) c.self.view_is
+    ∙ indexed_number c.self.inside.users.items c.self.inside.files entries full c.self.invariant.index ∙ ap (λ s. number_of s.users s.files full) c.self.view_is
 
 pub returns-clause-few : goal.returns-clause-few
 returns-clause-few c =
-    subst (λ n. n ≤ 4095) (sym (c.newest.ensures.generation ∙ c.self.invariant.newest c.args.first.now)) (newest_few c.self.inside.users.items c.self.inside.files.items c.args.first.now c.self.invariant.records)
+    subst (λ n. n ≤ 4095) (sym (c.newest.ensures.generation ∙ c.self.invariant.newest c.args.first.now)) (newest_few c.self.inside.users.items c.self.inside.files c.args.first.now c.self.invariant.records)

@@ -8,7 +8,7 @@ use Rattle.g_tree.proofs.tree.Tree.number_of.Goals as goal
 pub returns-clause-number : goal.returns-clause-number
 returns-clause-number c =
     c.find.ensures ∙ c.self.invariant.index c.args.full.now
-    ∙ get_file c.self.inside.users.items c.self.inside.files.items (λ r. r.number) c.args.full.now
+    ∙ get_file c.self.inside.users.items c.self.inside.files (λ r. r.number) c.args.full.now
     ∙ ap (λ s. number_of s.users s.files c.args.full.now) c.self.view_is
 
 pub returns-clause-named : goal.returns-clause-named

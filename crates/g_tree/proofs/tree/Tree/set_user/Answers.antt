@@ -7,7 +7,7 @@ use Rattle.g_tree.proofs.tree.Tree.set_user.Goals as goal
 
 pub invariant_of-self : goal.invariant_of-self
 invariant_of-self c =
-    kept_set c.self.inside.users.items c.self.inside.files.items c.args.user.number c.args.user (ap (λ s. name_of s.users c.args.user.number) c.self.view_is ∙ c.requires.name) c.self.inside.counts.names.entries c.self.inside.counts.blocks.items c.self.invariant
+    kept_set c.self.inside.users.items c.self.inside.files c.args.user.number c.args.user (ap (λ s. name_of s.users c.args.user.number) c.self.view_is ∙ c.requires.name) c.self.inside.counts.names.entries c.self.inside.counts.blocks.items c.self.invariant
     (subst (λ s. IsRecords (set s.users c.args.user.number c.args.user) s.files) (sym c.self.view_is) c.requires.rules)
 
 pub returns-clause-tree : goal.returns-clause-tree

@@ -12,4 +12,4 @@ returns-clause-used c = λ bytes next lengths.
     ∙ used_is c.args.self.now.users c.args.self.now.files bytes next c.args.owner (subst (λ s. IsRecords s.users s.files) c.self.view_is c.self.invariant.records) lengths
 
 pub returns-clause-few : goal.returns-clause-few
-returns-clause-few c = subst (λ n. n ≤ 131072) (sym c.used.ensures) (used_few c.self.inside.users.items c.self.inside.files.items c.self.invariant.records c.self.inside.counts.blocks.items c.args.owner c.self.invariant.used)
+returns-clause-few c = subst (λ n. n ≤ 131072) (sym c.used.ensures) (used_few c.self.inside.users.items c.self.inside.files c.self.invariant.records c.self.inside.counts.blocks.items c.args.owner c.self.invariant.used)

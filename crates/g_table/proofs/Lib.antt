@@ -1,0 +1,3 @@
+pub mod TableLemmas
+pub mod PlaceLemmas
+pub mod FileLemmas

@@ -1,0 +1,19 @@
+-- Records of files in order of number.
+use Rattle.std.specs.Prelude.{◌≡◌, ℕ, ◌==◌, nat_lt, not, List, ◌∷◌, ◌++◌, filter, find, Option}
+use Rattle.std.specs.List.{AllByRecursion}
+use Rattle.g_entry.specs.declared.file_rec.FileRec.{FileRec}
+
+-- each record stands at the place of its number
+abbrev pub HaveNumbers : List (ℕ × FileRec) → Type 0
+HaveNumbers items = AllByRecursion (λ c. c.0 ≡ c.1.number) items
+
+-- the record of a number
+abbrev pub rec_at : List FileRec → ℕ → Option FileRec
+rec_at files number = find (λ r. r.number == number) files
+
+-- a record among records in order of number, in the place of the one that had its number
+abbrev pub with_rec : FileRec → List FileRec → List FileRec
+with_rec r files = filter (λ s. nat_lt s.number r.number) files ++ r ∷ filter (λ s. nat_lt r.number s.number) files
+
+abbrev pub without_rec : ℕ → List FileRec → List FileRec
+without_rec number files = filter (λ r. not (r.number == number)) files
