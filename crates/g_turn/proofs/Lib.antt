@@ -7,6 +7,7 @@ pub mod HonestLemmas
 pub mod KeptLemmas
 pub mod OrderLemmas
 pub mod PlainLemmas
+pub mod RanLemmas
 pub mod ReadyLemmas
 pub mod ReleaseLemmas
 pub mod RunBounds

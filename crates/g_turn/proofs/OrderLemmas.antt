@@ -73,9 +73,6 @@ run_on room w v few is over =
     run_next room w few ∙ order_goes room (run_orders room (63 - w.orders)) w.desk.program w v is
     ∙ ap (λ (b : Bool). if b then v else run_orders room (63 - w.orders) v) over ∙ ap (λ (n : ℕ). run_orders room n v) left
 
-pub run_counts : (room : ℕ) (w v : Work) → next_order room w.desk.program w ≡ Goes v → v.orders ≡ w.orders + 1
-run_counts room w v is = next_orders room w.desk.program w v is
-
 -- the next order of the program was done
 pub stepped : (w old : Work) (p p' : Machine) (units' : Held) (event : OrderEvent) → w ≡ old → w.desk.program ≡ Some p
     → order_with w.desk.units p ≡ record { units = units'; machine = p'; event = event }

@@ -1,6 +1,5 @@
 -- Lines that are put behind the text and then ended are lines that are said.
 use Rattle.std.proofs.Common.{◌≡◌, ℕ, ◌+◌, ◌≤◌, Bool, true, false, true≢false, List, [], ◌∷◌, ◌++◌, length, length-append, take, drop, append_assoc, nat_lt, if◌then◌else◌, refl, sym, ap, subst, ◌∙◌}
-use Rattle.std.proofs.Math.Seq.{take-append_seam, drop-append_seam}
 use Rattle.std.proofs.lemmas.List.{take-append-drop, take-append-le}
 use Rattle.g_turn.specs.Outcomes.{error_said, is_over, refused, say, say_all, stopped}
 use Rattle.g_turn.specs.State.{Full, Work}
@@ -28,20 +27,6 @@ line_ended room start w within =
     ap (λ (kept : List ℕ). settled room (w.text ++ 10 ∷ []) kept w) front
     ∙ ap (λ (text : List ℕ). settled room (text ++ 10 ∷ []) (take start w.text) w) (sym parts)
     ∙ by_parts room (take start w.text) (drop start w.text) w
-
--- a line that was put behind the text
-pub line_said : (room : ℕ) (line : List ℕ) (w : Work)
-    → say room (drop (length w.text) (w.text ++ line)) (record w { text = take (length w.text) (w.text ++ line) }) ≡ say room line w
-line_said room line w =
-    ap (λ (text : List ℕ). say room (drop (length w.text) (w.text ++ line)) (record w { text = text })) (take-append_seam w.text line)
-    ∙ ap (λ (text : List ℕ). say room text w) (drop-append_seam w.text line)
-
--- one of two parts
-pub parts_said : (room : ℕ) (first second : List ℕ) (w : Work)
-    → say room (drop (length w.text) ((w.text ++ first) ++ second)) (record w { text = take (length w.text) ((w.text ++ first) ++ second) }) ≡ say room (first ++ second) w
-parts_said room first second w =
-    ap (λ (text : List ℕ). say room (drop (length w.text) text) (record w { text = take (length w.text) text })) (append_assoc w.text first second)
-    ∙ line_said room (first ++ second) w
 
 -- a refusal that is printed
 pub refused_said : (room : ℕ) (w : Work) (refusal : StoreFault) → IsPrinted refusal → error_said room (fault_line refusal) w ≡ refused room refusal w

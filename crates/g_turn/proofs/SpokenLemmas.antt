@@ -53,13 +53,6 @@ not_blank (Goto label) is room who by w = refl
 not_blank (Whenever cond text) is room who by w = refl
 not_blank (Verb name rest) is room who by w = refl
 
-pub inner_spoken : (inner : Command) → IsSpoken (said_inside inner) → IfSome (command_said inner) IsSpoken
-inner_spoken Blank is = absurd is
-inner_spoken (If' cond p inner) is = is
-inner_spoken (Goto label) is = is
-inner_spoken (Whenever cond text) is = is
-inner_spoken (Verb name rest) is = is
-
 -- the condition holds
 pub met_holds : (whole : Command) (inner : Command) (cond : Cond) (w : Work) (r : Option Command) → command_said whole ≡ Some (SaidIf cond (said_inside inner))
     → IsSpoken (said_inside inner) → holds w.desk.levels cond w.desk.outcome ≡ true → Met inner w r → Met whole w r

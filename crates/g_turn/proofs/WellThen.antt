@@ -4,7 +4,7 @@ use Rattle.g_turn.specs.Bounds.{AlwaysGives, MayAnswer}
 use Rattle.g_turn.specs.Outcomes.{is_over}
 use Rattle.g_turn.specs.State.{Work}
 use Rattle.g_turn.specs.Steps.{RanWell}
-use Rattle.g_plain.proofs.AskLemmas.{RanInPart-first, RanInPart-none, RanInPart-then}
+use Rattle.g_plain.proofs.AskLemmas.{RanInPart-first, RanInPart-then}
 use Rattle.g_plain.specs.Programs.{Answer, Asks, Call, Gives, IsAnswer, Ran, RanInPart, and_then}
 use Rattle.g_plain.specs.declared.calls.StoreCall.{StoreCall}
 use Rattle.g_plain.specs.declared.faults.StoreFault.TheVariants as fault
@@ -48,10 +48,6 @@ module _ {S : Type 0} (answers : S → List ℕ → StoreCall → Answer → S �
   pub part_then : (p : Asks Work) (next : Work → Asks Work) (old mid new : S) (w : Work) → Well old p w mid → is_over w ≡ false → Part mid (next w) new
       → Part old (and_then is_over p next) new
   part_then p next old mid new w r go later = RanInPart-then answers who is_over p next old mid new w (ran p old w mid r) go later
-
-  -- nothing was asked yet
-  pub part_none : (p : Asks Work) (old : S) → Part old p old
-  part_none p old = RanInPart-none answers who p old
 
   -- it ran whole
   pub part_whole : (p : Asks Work) (old : S) (given : Work) (new : S) → Well old p given new → Part old p new

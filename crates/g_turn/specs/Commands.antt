@@ -3,6 +3,7 @@ use Rattle.std.specs.Prelude.{Bool, Err, List, None, Ok, Option, Result, Some, c
 use Rattle.g_turn.specs.Actions.{act}
 use Rattle.g_turn.specs.Outcomes.{in_error, with_levels}
 use Rattle.g_turn.specs.State.{Work}
+use Rattle.g_lang.specs.LineReader.{params_read}
 use Rattle.g_lang.specs.Lines.{Said, SaidGoto, SaidIf, SaidVerb, SaidWhenever}
 use Rattle.g_lang.specs.declared.line.Cond.{Cond}
 use Rattle.g_macro.specs.Levels.{current, document_passed, gone_to, holds, is_full_for, line_of_label, with_whenever}
@@ -32,6 +33,10 @@ module _ (room : ℕ) (who : List ℕ) (by : Bool) where
   abbrev pub acted : List ℕ → Result Action ℕ → Work → Asks Work
   acted name (Ok action) w = act room who by action w
   acted name (Err index) w = Gives (in_error room (errors.BadParameter index) (passes_document name w))
+
+  -- a verb's line, by its name and the text in which its parameters stand
+  abbrev pub verb_line : List ℕ → List ℕ → Work → Asks Work
+  verb_line name rest w = acted name (action_read name (params_read rest) rest) w
 
   -- ONE COMMAND of the user `who`; `by` tells that a WHENEVER does it. An IF whose condition doesn't hold does nothing
   abbrev pub command : Said → Work → Asks Work

@@ -1,16 +1,14 @@
 //! One command of a line: GOTO, IF, WHENEVER, or a verb.
-ghost use Rattle.std.specs.Prelude.{◌≡◌, ◌≤◌, ◌+◌, ◌<◌, ℕ, Some, false, length, IfSome, OnErr, OnOk};
+ghost use Rattle.std.specs.Prelude.{◌≡◌, ◌<◌, Some, length, IfSome, OnOk};
 ghost use Rattle.g_turn.specs.Commands as commands;
 ghost use Rattle.g_turn.specs.LineMeaning.{IsBare, IsSpoken, Met};
+ghost use Rattle.g_turn.specs.LineWork.{TakesCommand};
 ghost use Rattle.g_turn.specs.Outcomes as said;
-ghost use Rattle.g_turn.specs.Steps.{RanWell};
-ghost use Rattle.g_lang.specs.LineReader.{params_read};
+ghost use Rattle.g_turn.specs.Steps.{HasRun};
 ghost use Rattle.g_lang.specs.Lines.{IsCommandText};
 ghost use Rattle.g_lang.specs.Meaning.{command_said};
 ghost use Rattle.g_macro.specs.Levels.{current, line_of_label};
-ghost use Rattle.g_plain.specs.Programs.{RanInPart};
 ghost use Rattle.g_monitor.specs.declared.errors.CommandError.TheVariants as errors;
-ghost use Rattle.g_verbs.specs.VerbReader.{action_read};
 ghost use Rattle.g_verbs.specs.Verbs.{verb_of};
 ghost use Rattle.g_verbs.specs.declared.verb.Verb.TheVariants as verb;
 
@@ -37,6 +35,7 @@ struct VerbLine {
 impl Work {
     /// Does what a text says, for the user `who`; `by` tells that a WHENEVER does it. Nothing is done of a blank line,
     /// of a label alone, and behind an IF whose condition doesn't hold.
+    #[tactic(auto, using(crate::proofs::RanLemmas::gives_alone))]
     pub(crate) fn do_command<S: Filestore>(
         &mut self,
         store: &mut S,
@@ -44,18 +43,10 @@ impl Work {
         by: bool,
         command: Command,
     ) -> Result<(), NoMemory>
-        requires running { S.is_spent store.old ≡ false }
-        requires open { said.is_over self.old ≡ false }
-        requires few { self.old.blocks ≤ 2048 }
-        requires level { 0 < length self.old.desk.levels.levels }
+        requires open { TakesCommand (S.is_spent store.old) self.old }
         requires spoken { IfSome (command_said command) IsSpoken }
-        ensures ok { OnOk result (RanWell S.answers S.is_spent S.can_wait asker.now.who.now store.old
-            (commands.done_if asker.now.room asker.now.who.now by (command_said command) self.old) self.new store.new) }
-        ensures err { OnErr result (RanInPart S.answers asker.now.who.now store.old
-            (commands.done_if asker.now.room asker.now.who.now by (command_said command) self.old) store.new) }
-        ensures live { OnOk result (said.is_over self.new ≡ false → S.is_spent store.new ≡ false) }
-        ensures same_waits { (s : ℕ) → S.can_wait store.new s ≡ S.can_wait store.old s }
-        ensures blocks { OnOk result (self.new.blocks ≤ self.old.blocks + 2048) }
+        ensures { HasRun S.answers S.is_spent S.can_wait asker.now.who.now
+            (commands.done_if asker.now.room asker.now.who.now by (command_said command) self.old) 2048 store.old self.old result self.new store.new }
     {
         // A command is large: so the parts of most are moved on by themselves.
         match command {
@@ -73,18 +64,10 @@ impl Work {
         by: bool,
         command: Command,
     ) -> Result<(), NoMemory>
-        requires running { S.is_spent store.old ≡ false }
-        requires open { said.is_over self.old ≡ false }
-        requires few { self.old.blocks ≤ 2048 }
-        requires level { 0 < length self.old.desk.levels.levels }
+        requires open { TakesCommand (S.is_spent store.old) self.old }
         requires spoken { IfSome (command_said command) IsSpoken }
-        ensures ok { OnOk result (RanWell S.answers S.is_spent S.can_wait asker.now.who.now store.old
-            (commands.done_if asker.now.room asker.now.who.now by (command_said command) self.old) self.new store.new) }
-        ensures err { OnErr result (RanInPart S.answers asker.now.who.now store.old
-            (commands.done_if asker.now.room asker.now.who.now by (command_said command) self.old) store.new) }
-        ensures live { OnOk result (said.is_over self.new ≡ false → S.is_spent store.new ≡ false) }
-        ensures same_waits { (s : ℕ) → S.can_wait store.new s ≡ S.can_wait store.old s }
-        ensures blocks { OnOk result (self.new.blocks ≤ self.old.blocks + 2048) }
+        ensures { HasRun S.answers S.is_spent S.can_wait asker.now.who.now
+            (commands.done_if asker.now.room asker.now.who.now by (command_said command) self.old) 2048 store.old self.old result self.new store.new }
     {
         match self.behind_conditions(command) {
             Some(command) => self.command(store, asker, by, command),
@@ -113,6 +96,7 @@ impl Work {
     }
 
     /// Does a command that stands behind no condition.
+    #[tactic(auto, using(crate::proofs::RanLemmas::gives_alone))]
     fn command<S: Filestore>(
         &mut self,
         store: &mut S,
@@ -120,19 +104,11 @@ impl Work {
         by: bool,
         command: Command,
     ) -> Result<(), NoMemory>
-        requires running { S.is_spent store.old ≡ false }
-        requires open { said.is_over self.old ≡ false }
-        requires few { self.old.blocks ≤ 2048 }
-        requires level { 0 < length self.old.desk.levels.levels }
+        requires open { TakesCommand (S.is_spent store.old) self.old }
         requires spoken { IfSome (command_said command) IsSpoken }
         requires bare { IsBare command }
-        ensures ok { OnOk result (RanWell S.answers S.is_spent S.can_wait asker.now.who.now store.old
-            (commands.done_if asker.now.room asker.now.who.now by (command_said command) self.old) self.new store.new) }
-        ensures err { OnErr result (RanInPart S.answers asker.now.who.now store.old
-            (commands.done_if asker.now.room asker.now.who.now by (command_said command) self.old) store.new) }
-        ensures live { OnOk result (said.is_over self.new ≡ false → S.is_spent store.new ≡ false) }
-        ensures same_waits { (s : ℕ) → S.can_wait store.new s ≡ S.can_wait store.old s }
-        ensures blocks { OnOk result (self.new.blocks ≤ self.old.blocks + 2048) }
+        ensures { HasRun S.answers S.is_spent S.can_wait asker.now.who.now
+            (commands.done_if asker.now.room asker.now.who.now by (command_said command) self.old) 2048 store.old self.old result self.new store.new }
     {
         match command {
             Command::Goto(label) => self.go_to(asker.alloc, asker.room, &label),
@@ -197,19 +173,9 @@ impl Work {
         by: bool,
         line: VerbLine,
     ) -> Result<(), NoMemory>
-        requires running { S.is_spent store.old ≡ false }
-        requires open { said.is_over self.old ≡ false }
-        requires few { self.old.blocks ≤ 2048 }
-        requires level { 0 < length self.old.desk.levels.levels }
-        ensures ok { OnOk result (RanWell S.answers S.is_spent S.can_wait asker.now.who.now store.old
-            (commands.acted asker.now.room asker.now.who.now by line.name (action_read line.name (params_read line.rest) line.rest) self.old)
-            self.new store.new) }
-        ensures err { OnErr result (RanInPart S.answers asker.now.who.now store.old
-            (commands.acted asker.now.room asker.now.who.now by line.name (action_read line.name (params_read line.rest) line.rest) self.old)
-            store.new) }
-        ensures live { OnOk result (said.is_over self.new ≡ false → S.is_spent store.new ≡ false) }
-        ensures same_waits { (s : ℕ) → S.can_wait store.new s ≡ S.can_wait store.old s }
-        ensures blocks { OnOk result (self.new.blocks ≤ self.old.blocks + 2048) }
+        requires open { TakesCommand (S.is_spent store.old) self.old }
+        ensures { HasRun S.answers S.is_spent S.can_wait asker.now.who.now
+            (commands.verb_line asker.now.room asker.now.who.now by line.name line.rest self.old) 2048 store.old self.old result self.new store.new }
     {
         match Verb::of(line.name.as_slice()) {
             Some(Verb::Input) => self.input_line(store, asker, by, line),
@@ -228,20 +194,10 @@ impl Work {
         by: bool,
         line: VerbLine,
     ) -> Result<(), NoMemory>
-        requires running { S.is_spent store.old ≡ false }
-        requires open { said.is_over self.old ≡ false }
-        requires few { self.old.blocks ≤ 2048 }
-        requires level { 0 < length self.old.desk.levels.levels }
+        requires open { TakesCommand (S.is_spent store.old) self.old }
         requires verb { verb_of line.name ≡ Some verb.Input }
-        ensures ok { OnOk result (RanWell S.answers S.is_spent S.can_wait asker.now.who.now store.old
-            (commands.acted asker.now.room asker.now.who.now by line.name (action_read line.name (params_read line.rest) line.rest) self.old)
-            self.new store.new) }
-        ensures err { OnErr result (RanInPart S.answers asker.now.who.now store.old
-            (commands.acted asker.now.room asker.now.who.now by line.name (action_read line.name (params_read line.rest) line.rest) self.old)
-            store.new) }
-        ensures live { OnOk result (said.is_over self.new ≡ false → S.is_spent store.new ≡ false) }
-        ensures same_waits { (s : ℕ) → S.can_wait store.new s ≡ S.can_wait store.old s }
-        ensures blocks { OnOk result (self.new.blocks ≤ self.old.blocks + 2048) }
+        ensures { HasRun S.answers S.is_spent S.can_wait asker.now.who.now
+            (commands.verb_line asker.now.room asker.now.who.now by line.name line.rest self.old) 2048 store.old self.old result self.new store.new }
     {
         // It is known from here that the name is a word.
         let _word = line.name.as_slice();
@@ -259,20 +215,10 @@ impl Work {
         by: bool,
         line: VerbLine,
     ) -> Result<(), NoMemory>
-        requires running { S.is_spent store.old ≡ false }
-        requires open { said.is_over self.old ≡ false }
-        requires few { self.old.blocks ≤ 2048 }
-        requires level { 0 < length self.old.desk.levels.levels }
+        requires open { TakesCommand (S.is_spent store.old) self.old }
         requires verb { verb_of line.name ≡ Some verb.Erase }
-        ensures ok { OnOk result (RanWell S.answers S.is_spent S.can_wait asker.now.who.now store.old
-            (commands.acted asker.now.room asker.now.who.now by line.name (action_read line.name (params_read line.rest) line.rest) self.old)
-            self.new store.new) }
-        ensures err { OnErr result (RanInPart S.answers asker.now.who.now store.old
-            (commands.acted asker.now.room asker.now.who.now by line.name (action_read line.name (params_read line.rest) line.rest) self.old)
-            store.new) }
-        ensures live { OnOk result (said.is_over self.new ≡ false → S.is_spent store.new ≡ false) }
-        ensures same_waits { (s : ℕ) → S.can_wait store.new s ≡ S.can_wait store.old s }
-        ensures blocks { OnOk result (self.new.blocks ≤ self.old.blocks + 2048) }
+        ensures { HasRun S.answers S.is_spent S.can_wait asker.now.who.now
+            (commands.verb_line asker.now.room asker.now.who.now by line.name line.rest self.old) 2048 store.old self.old result self.new store.new }
     {
         // It is known from here that the name is a word.
         let _word = line.name.as_slice();
@@ -293,20 +239,10 @@ impl Work {
         by: bool,
         line: VerbLine,
     ) -> Result<(), NoMemory>
-        requires running { S.is_spent store.old ≡ false }
-        requires open { said.is_over self.old ≡ false }
-        requires few { self.old.blocks ≤ 2048 }
-        requires level { 0 < length self.old.desk.levels.levels }
+        requires open { TakesCommand (S.is_spent store.old) self.old }
         requires verb { verb_of line.name ≡ Some verb.ListFile }
-        ensures ok { OnOk result (RanWell S.answers S.is_spent S.can_wait asker.now.who.now store.old
-            (commands.acted asker.now.room asker.now.who.now by line.name (action_read line.name (params_read line.rest) line.rest) self.old)
-            self.new store.new) }
-        ensures err { OnErr result (RanInPart S.answers asker.now.who.now store.old
-            (commands.acted asker.now.room asker.now.who.now by line.name (action_read line.name (params_read line.rest) line.rest) self.old)
-            store.new) }
-        ensures live { OnOk result (said.is_over self.new ≡ false → S.is_spent store.new ≡ false) }
-        ensures same_waits { (s : ℕ) → S.can_wait store.new s ≡ S.can_wait store.old s }
-        ensures blocks { OnOk result (self.new.blocks ≤ self.old.blocks + 2048) }
+        ensures { HasRun S.answers S.is_spent S.can_wait asker.now.who.now
+            (commands.verb_line asker.now.room asker.now.who.now by line.name line.rest self.old) 2048 store.old self.old result self.new store.new }
     {
         // It is known from here that the name is a word.
         let _word = line.name.as_slice();
@@ -324,20 +260,10 @@ impl Work {
         by: bool,
         line: VerbLine,
     ) -> Result<(), NoMemory>
-        requires running { S.is_spent store.old ≡ false }
-        requires open { said.is_over self.old ≡ false }
-        requires few { self.old.blocks ≤ 2048 }
-        requires level { 0 < length self.old.desk.levels.levels }
+        requires open { TakesCommand (S.is_spent store.old) self.old }
         requires verb { verb_of line.name ≡ Some verb.Display }
-        ensures ok { OnOk result (RanWell S.answers S.is_spent S.can_wait asker.now.who.now store.old
-            (commands.acted asker.now.room asker.now.who.now by line.name (action_read line.name (params_read line.rest) line.rest) self.old)
-            self.new store.new) }
-        ensures err { OnErr result (RanInPart S.answers asker.now.who.now store.old
-            (commands.acted asker.now.room asker.now.who.now by line.name (action_read line.name (params_read line.rest) line.rest) self.old)
-            store.new) }
-        ensures live { OnOk result (said.is_over self.new ≡ false → S.is_spent store.new ≡ false) }
-        ensures same_waits { (s : ℕ) → S.can_wait store.new s ≡ S.can_wait store.old s }
-        ensures blocks { OnOk result (self.new.blocks ≤ self.old.blocks + 2048) }
+        ensures { HasRun S.answers S.is_spent S.can_wait asker.now.who.now
+            (commands.verb_line asker.now.room asker.now.who.now by line.name line.rest self.old) 2048 store.old self.old result self.new store.new }
     {
         // It is known from here that the name is a word.
         let _word = line.name.as_slice();
@@ -356,20 +282,10 @@ impl Work {
         verb: Option<Verb>,
         line: VerbLine,
     ) -> Result<(), NoMemory>
-        requires running { S.is_spent store.old ≡ false }
-        requires open { said.is_over self.old ≡ false }
-        requires few { self.old.blocks ≤ 2048 }
-        requires level { 0 < length self.old.desk.levels.levels }
+        requires open { TakesCommand (S.is_spent store.old) self.old }
         requires verb { verb ≡ verb_of line.name }
-        ensures ok { OnOk result (RanWell S.answers S.is_spent S.can_wait asker.now.who.now store.old
-            (commands.acted asker.now.room asker.now.who.now by line.name (action_read line.name (params_read line.rest) line.rest) self.old)
-            self.new store.new) }
-        ensures err { OnErr result (RanInPart S.answers asker.now.who.now store.old
-            (commands.acted asker.now.room asker.now.who.now by line.name (action_read line.name (params_read line.rest) line.rest) self.old)
-            store.new) }
-        ensures live { OnOk result (said.is_over self.new ≡ false → S.is_spent store.new ≡ false) }
-        ensures same_waits { (s : ℕ) → S.can_wait store.new s ≡ S.can_wait store.old s }
-        ensures blocks { OnOk result (self.new.blocks ≤ self.old.blocks + 2048) }
+        ensures { HasRun S.answers S.is_spent S.can_wait asker.now.who.now
+            (commands.verb_line asker.now.room asker.now.who.now by line.name line.rest self.old) 2048 store.old self.old result self.new store.new }
     {
         let VerbLine { name, rest } = line;
         match read_known(verb, &name, rest) {

@@ -1,23 +1,21 @@
-use Rattle.std.proofs.Common.{Some, ap, refl, subst, sym}
-use Rattle.std.specs.Prelude.{OnErr, OnOk}
-use Rattle.g_plain.specs.Programs.{RanInPart}
-use Rattle.g_turn.specs.Commands.{acted}
-use Rattle.g_turn.specs.Steps.{RanWell}
+use Rattle.std.proofs.Common.{Ok, Some, ap, arith, refl, sym}
+use Rattle.std.proofs.lemmas.Result.{on_ok_weaker}
+use Rattle.g_turn.proofs.RanLemmas.{line_ran}
 use Rattle.g_verbs.proofs.AloneLemmas.{file-read}
 use Rattle.g_verbs.specs.declared.action.Action.TheVariants as action
 use Rattle.g_verbs.specs.declared.verb.Verb.TheVariants as verb
 use Rattle.g_turn.proofs.work.Work.input_line.Goals as goal
 
-pub returns-in-Some-clause-ok : goal.returns-in-Some-clause-ok
-returns-in-Some-clause-ok g c =
-    let read = file-read c.args.line.name c.args.line.rest c.as_slice.result.now (Some verb.Input) c.in-Some.file (action.Input c.in-Some.file) (sym c.requires.verb)
-    c.as_slice-word.ensures.word refl c.as_slice.ensures c.in-Some.ensures (λ params is. ap action.Input is) in
-    subst (λ asked. OnOk c.input.result (RanWell g.S.Filestore.answers g.S.Filestore.is_spent g.S.Filestore.can_wait c.args.asker.now.who.now c.args.store.now
-    (acted c.args.asker.now.room c.args.asker.now.who.now c.args.by c.args.line.name asked c.args.self.now) c.input.new.self c.input.new.store)) (sym read) c.input.ensures.ok
-
-pub returns-in-Some-clause-err : goal.returns-in-Some-clause-err
-returns-in-Some-clause-err g c =
-    let read = file-read c.args.line.name c.args.line.rest c.as_slice.result.now (Some verb.Input) c.in-Some.file (action.Input c.in-Some.file) (sym c.requires.verb)
-    c.as_slice-word.ensures.word refl c.as_slice.ensures c.in-Some.ensures (λ params is. ap action.Input is) in
-    subst (λ asked. OnErr c.input.result (RanInPart g.S.Filestore.answers c.args.asker.now.who.now c.args.store.now
-    (acted c.args.asker.now.room c.args.asker.now.who.now c.args.by c.args.line.name asked c.args.self.now) c.input.new.store)) (sym read) c.input.ensures.err
+pub returns-in-Some : goal.returns-in-Some
+returns-in-Some g c =
+    line_ran g.S.Filestore.answers g.S.Filestore.is_spent g.S.Filestore.can_wait c.args.asker.now.who.now c.args.asker.now.room c.args.by c.args.line.name c.args.line.rest (Ok (action.Input c.in-Some.file)) 2048
+    c.args.store.now c.args.self.now c.input.result c.input.new.self c.input.new.store
+    (file-read c.args.line.name c.args.line.rest c.as_slice.result.now (Some verb.Input) c.in-Some.file (action.Input c.in-Some.file) (sym c.requires.verb)
+    c.as_slice-word.ensures.word refl c.as_slice.ensures c.in-Some.ensures (λ params is. ap action.Input is))
+    (record {
+      ok = c.input.ensures.ok;
+      err = c.input.ensures.err;
+      live = c.input.ensures.live;
+      same_waits = c.input.ensures.same_waits;
+      blocks = on_ok_weaker c.input.result (λ blocks. omega (arith, blocks)) c.input.ensures.blocks;
+    })
