@@ -1,8 +1,6 @@
 -- Blocks that are known to be absent, when one is asked for, kept or written.
 use Rattle.std.proofs.Common.{◌≡◌, ◌≢◌, ◌⊎◌, ◌∙◌, ℕ, zero, suc, ◌%◌, ◌==◌, Bool, true, false, cond, List, [], ◌∷◌, take, replicate, get_or, Option, Some, None, is_some, refl, sym, ap, subst, inl, inr, arith, nat_eq, true≢false}
-use Rattle.std.proofs.Math.ListN.{set}
 use Rattle.std.proofs.lemmas.Bool.Decides.{nat_tests}
-use Rattle.std.proofs.lemmas.List.{get_or-set_other}
 use Rattle.std.specs.Map.{remove_entry}
 use Rattle.g_cache.specs.Absent.{AreAbsent, is_noted}
 use Rattle.g_cache.specs.CachedDisc.{kept_block, without_block}
@@ -12,12 +10,6 @@ Kept = List (ℕ × List ℕ)
 
 nat_apart : (m n : ℕ) → m ≢ n → nat_eq m n ≡ false
 nat_apart m n apart = grind (arith, nat_tests)
-
-nat_same : (m n : ℕ) → nat_eq m n ≡ true → m ≡ n
-nat_same m n e = grind (arith, nat_tests)
-
-nat_other : (m n : ℕ) → nat_eq m n ≡ false → m ≢ n
-nat_other m n e = grind (arith, nat_tests)
 
 -- WHAT IS NOT FOUND
 
@@ -67,38 +59,6 @@ none_at (suc n) (suc p) = none_at n p
 
 pub none_noted : (n k : ℕ) → is_noted (replicate {A = Option ℕ} n None) k ≡ false
 none_noted n k = ap (λ (o : Option ℕ). told o k) (none_at n (k % 67))
-
-set_either : (numbers : List (Option ℕ)) (p : ℕ) (x : Option ℕ) → (get_or (set numbers p x) p None ≡ x) ⊎ (get_or (set numbers p x) p None ≡ None)
-set_either [] p x = inr refl
-set_either (y ∷ numbers) zero x = inl refl
-set_either (y ∷ numbers) (suc p) x = set_either numbers p x
-
-noted_at : (numbers : List (Option ℕ)) (k j : ℕ) (x : Option ℕ) → is_noted (set numbers (k % 67) x) j ≡ true → (told x j ≡ true) ⊎ ((k % 67 ≢ j % 67) × (is_noted numbers j ≡ true))
-noted_at numbers k j x noted =
-    elim (nat_eq (k % 67) (j % 67)) as (λ t. nat_eq (k % 67) (j % 67) ≡ t → (told x j ≡ true) ⊎ ((k % 67 ≢ j % 67) × (is_noted numbers j ≡ true))) [
-      | true ↦ λ e.
-          let same = nat_same (k % 67) (j % 67) e in
-          let here : told (get_or (set numbers (k % 67) x) (k % 67) None) j ≡ true = subst (λ p. told (get_or (set numbers (k % 67) x) p None) j ≡ true) (sym same) noted in
-          elim (set_either numbers (k % 67) x) as (λ _. (told x j ≡ true) ⊎ ((k % 67 ≢ j % 67) × (is_noted numbers j ≡ true))) [
-            | inl is ↦ inl (subst (λ (o : Option ℕ). told o j ≡ true) is here)
-            | inr none ↦ absurd (true≢false (sym (subst (λ (o : Option ℕ). told o j ≡ true) none here)))
-          ]
-      | false ↦ λ e.
-          let other = nat_other (k % 67) (j % 67) e in
-          inr (other, ap (λ (o : Option ℕ). told o j) (sym (get_or-set_other numbers (k % 67) (j % 67) x None (λ s. other (sym s)))) ∙ noted)
-    ] refl
-
-pub noted_one : (numbers : List (Option ℕ)) (k j : ℕ) → is_noted (set numbers (k % 67) (Some k)) j ≡ true → (j ≡ k) ⊎ (is_noted numbers j ≡ true)
-noted_one numbers k j noted = elim (noted_at numbers k j (Some k) noted) [
-  | inl is ↦ inl (sym (nat_same k j is))
-  | inr other ↦ inr other.1
-]
-
-pub noted_fewer : (numbers : List (Option ℕ)) (k j : ℕ) → is_noted (set numbers (k % 67) None) j ≡ true → (j ≢ k) × (is_noted numbers j ≡ true)
-noted_fewer numbers k j noted = elim (noted_at numbers k j None noted) [
-  | inl is ↦ absurd (true≢false (sym is))
-  | inr other ↦ (λ same. other.0 (ap (λ i. i % 67) (sym same)), other.1)
-]
 
 -- WHAT IS ABSENT
 

@@ -1,12 +1,9 @@
 -- What is kept behind a cache, when a block is asked for, kept or written.
-use Rattle.std.proofs.Common.{◌≡◌, ◌≢◌, ◌⊎◌, ◌∙◌, ℕ, Bool, cond, List, ◌∷◌, take, length, Contains, Option, Some, None, Ok, Err, refl, sym, ap, subst, inl, inr, nat_eq, eqb-true, true≢false, length-set, slice_get}
+use Rattle.std.proofs.Common.{◌≡◌, ◌≢◌, ◌⊎◌, ◌∙◌, ℕ, List, ◌∷◌, take, length, Contains, Option, Some, None, Ok, Err, refl, sym, ap, subst, inl, inr, nat_eq, eqb-true, true≢false, length-set, slice_get}
 use Rattle.std.proofs.Math.ListN.{set}
 use Rattle.std.proofs.lemmas.List.{get_or-set_other}
-use Rattle.std.proofs.lemmas.Map.{lookup-remove_entry}
 use Rattle.std.proofs.lemmas.Option.{get_or_from_slice_get, slice_get_read, slice_get_within}
 use Rattle.std.specs.Cmp.{nat_eq_equiv}
-use Rattle.std.specs.List.{IsDistinct}
-use Rattle.std.specs.Map.{keys_of, lookup}
 use Rattle.std.specs.Option.{ForSome}
 use Rattle.std.specs.Prelude.{Result}
 use Rattle.lru.proofs.CallerLemmas.{Contains-lookup, Contains-remove_entry, Contains-take}
@@ -18,12 +15,6 @@ use Rattle.g_disc.specs.Disc.{DiscState, Writes}
 use Rattle.g_cache.specs.CachedDisc.{Agrees, Cached, CachedReads, cached_with, kept_block, without_block}
 
 -- THE CACHE
-
--- taking one out
-pub kept_block-without_block : (k : ℕ) (kept : List (ℕ × List ℕ)) → IsDistinct nat_eq (keys_of kept) → kept_block k (without_block k kept) ≡ None
-kept_block-without_block k kept distinct =
-    lookup-remove_entry nat_eq_equiv (nat_eq k) (λ x y t. nat_eq_equiv.congr k x y t) k kept distinct
-    ∙ ap (λ (b : Bool). cond b None (lookup (nat_eq k) kept)) (nat_eq_equiv.refl k)
 
 Contains-kept_block : (k : ℕ) (kept : List (ℕ × List ℕ)) (block : List ℕ) → kept_block k kept ≡ Some block → Contains kept (k, block)
 Contains-kept_block k kept block is =

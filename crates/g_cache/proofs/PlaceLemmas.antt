@@ -1,5 +1,5 @@
 -- Blocks at places: which is found, taken out and put in, and which places stay free.
-use Rattle.std.proofs.Common.{◌≡◌, ◌≢◌, ◌∙◌, ℕ, zero, suc, ◌+◌, ◌-◌, ◌<◌, ◌≤◌, Bool, true, false, cond, List, [], ◌∷◌, ◌++◌, take, length, get_or, Option, Some, None, is_some, Result, Ok, Err, is_ok, is_err, refl, sym, ap, subst, arith, inl, inr, nat_eq, eqb-true, true≢false, slice_get}
+use Rattle.std.proofs.Common.{◌≡◌, ◌≢◌, ◌∙◌, ℕ, zero, suc, ◌+◌, ◌-◌, ◌<◌, ◌≤◌, Bool, true, false, cond, List, [], ◌∷◌, ◌++◌, take, length, get_or, Option, Some, None, is_some, Result, Ok, Err, is_ok, is_err, refl, sym, ap, subst, arith, nat_eq, eqb-true, true≢false, slice_get}
 use Rattle.std.proofs.Math.ListN.{set}
 use Rattle.std.proofs.lemmas.Map.{lookup-remove_entry}
 use Rattle.std.specs.Cmp.{nat_eq_equiv}
@@ -9,7 +9,6 @@ use Rattle.std.specs.Map.{keys_of, lookup, lookup_entry, remove_entry}
 use Rattle.std.specs.Option.{option_map, option_map_or}
 use Rattle.std.proofs.lemmas.List.{length-set, get_or-set_same, get_or-set_other, length-take-le, get_or-take, length-append, get_or_append_left, get_or_push, take_all}
 use Rattle.std.proofs.lemmas.List.Elements.{All-head, All-tail, All-cons, All-nil, All-take, All-append, All-weaker}
-use Rattle.std.proofs.lemmas.Bool.{cases_lt}
 use Rattle.std.proofs.lemmas.List.Kept.{AllPairs-cons}
 use Rattle.std.proofs.lemmas.List.Quantifiers.{all_pairs_push}
 use Rattle.std.proofs.lemmas.Option.{get_or_from_slice_get, slice_get-get_or}
@@ -246,22 +245,6 @@ module _ (cap : ℕ) (es : List (ℕ × ℕ)) (free : List ℕ) (blocks : List (
           unused = λ i d within. let e = ap length none in absurd (omega (arith, e, within));
         }
 
--- all places are free at first
-pub first_places : (free : List ℕ) (blocks : List (List ℕ)) → length free ≡ 64 → ((k d : ℕ) → k < 64 → get_or free k d ≡ k) → length blocks ≡ 64 → ArePlaces 64 [] free blocks
-first_places free blocks count each size = record {
-  room = refl;
-  size = size;
-  counted = omega (arith, count);
-  apart = λ i j d lower within. absurd (omega arith);
-  within = All-nil (λ e. e.1 < 64);
-  distinct = λ i j d lower within same.
-      let a = each i d (omega (arith, lower, within, count)) in
-      let b = each j d (omega (arith, within, count)) in
-      omega (arith, a, b, same, lower);
-  below = λ i d within. let a = each i d (omega (arith, within, count)) in omega (arith, a, within, count);
-  unused = λ i d within. All-nil (λ e. e.1 ≢ get_or free i d);
-}
-
 -- the calls
 
 entry_found : (k p : ℕ) (es : List (ℕ × ℕ)) → lookup (nat_eq k) es ≡ Some p → lookup_entry (nat_eq k) es ≡ Some (k, p)
@@ -307,14 +290,6 @@ module _ (c after : LruCache ℕ ℕ) (free : List ℕ) (blocks : List (List ℕ
   put_places rest so =
       subst (λ es. ArePlaces after.cap es rest (set blocks p block)) (sym put_entries_are)
       (subst (λ n. ArePlaces n ((k, p) ∷ take 63 c.entries) rest (set blocks p block)) (sym (ap (λ (d : LruCache ℕ ℕ). d.cap) done)) so)
-
--- one place more
-pub one_more_place : (xs : List ℕ) (n : ℕ) → length xs ≡ n → ((k d : ℕ) → k < n → get_or xs k d ≡ k) → (k d : ℕ) → k < n + 1 → get_or (xs ++ n ∷ []) k d ≡ k
-one_more_place xs n len each k d lt =
-    elim (cases_lt k n) as (λ _. get_or (xs ++ n ∷ []) k d ≡ k) [
-      | inl less ↦ get_or_append_left xs (n ∷ []) d k (omega (arith, less, len)) ∙ each k d less
-      | inr more ↦ let same : n ≡ k = omega arith in ap (λ j. get_or (xs ++ n ∷ []) j d) (sym same) ∙ get_or_push xs n d n len ∙ same
-    ]
 
 -- asking for a block
 

@@ -44,12 +44,14 @@ impl BlockCache {
         })
     }
 
-    /// Whether block k is kept; then it is copied, and is the one asked for last.
+    /// Whether block k is kept; then it is copied, and is the one asked for last. Where it isn't, all
+    /// stays as it was, `into` too.
     pub fn recall(&mut self, k: u32, into: &mut Block) -> bool
         ensures found { result ≡ is_some (kept_block k self.old) }
         ensures block { result ≡ true → kept_block k self.old ≡ Some into.new }
         ensures first { result ≡ true → self.new ≡ (k, into.new) ∷ without_block k self.old }
         ensures missed { result ≡ false → self.new ≡ self.old }
+        ensures untouched { result ≡ false → into.new ≡ into.old }
     {
         match self.places.get(&k).copied() {
             Some(place) => {

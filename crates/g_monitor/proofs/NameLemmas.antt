@@ -1,10 +1,6 @@
 -- A full name that is put behind a text, piece by piece.
-use Rattle.std.proofs.Common.{◌≡◌, ℕ, List, [], ◌∷◌, ◌++◌, Result, Ok, Err, append_assoc, ap, refl, ◌∙◌}
-use Rattle.std.specs.Prelude.{OnOk, codes}
-
-pub ok_so : {A E P Q : Type 0} (r : Result A E) → (P → Q) → OnOk r P → OnOk r Q
-ok_so (Ok x) so is = so is
-ok_so (Err e) so is = tt
+use Rattle.std.proofs.Common.{◌≡◌, ℕ, List, [], ◌∷◌, ◌++◌, append_assoc, ap, refl, ◌∙◌}
+use Rattle.std.specs.Prelude.{codes}
 
 -- one piece more
 more : (old front piece text new : List ℕ) → text ≡ old ++ front → new ≡ text ++ piece → new ≡ old ++ (front ++ piece)

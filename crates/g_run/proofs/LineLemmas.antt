@@ -1,5 +1,5 @@
 -- A line behind the ticks that come before it, and lines one behind the other.
-use Rattle.std.proofs.Common.{◌≡◌, ◌⊎◌, ◌≤◌, ◌++◌, ℕ, Bool, true, false, List, [], ◌∷◌, Option, Some, None, length, drop, is_some, append_assoc, append-nil, refl, sym, ◌∙◌, ap, subst, inl, inr, arith}
+use Rattle.std.proofs.Common.{◌≡◌, ◌⊎◌, ◌≤◌, ◌++◌, ℕ, Bool, true, false, List, [], ◌∷◌, Option, Some, None, is_some, append_assoc, append-nil, refl, sym, ◌∙◌, subst, inl, inr, arith}
 use Rattle.std.proofs.lemmas.Option.{none-some}
 use Rattle.std.proofs.lemmas.List.Elements.{All-cons, All-head, All-nil, All-pop}
 use Rattle.std.specs.Fn.{Shared}
@@ -421,13 +421,6 @@ module _ {F U : Type 0} (tariffs : Shared F (Bor Usage × Unit {0}) Charge) (tar
       }))
       by (inl (inr took)) = inl (inr (λ w m between is. took [] w m between (is ∙ sym (append-nil lines))))
       by (inr missed) = inr (λ w m between is. missed [] w m between (is ∙ sym (append-nil lines)))
-
--- A QUEUE OF LINES from which none came is empty
-pub none_popped : (was now : List Timed) → was ≡ now → now ≡ drop 1 was → was ≡ []
-none_popped [] now same rest = refl
-none_popped (next ∷ was) now same rest =
-    let long : length (next ∷ was) ≡ length was = ap length (same ∙ rest) in
-    absurd (let no : ⊥ = omega (arith, long) in no)
 
 pub none_of : (failure : Option Failure) → is_some failure ≡ false → failure ≡ None
 none_of None is = refl

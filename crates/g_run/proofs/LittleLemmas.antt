@@ -1,16 +1,13 @@
 -- How much there may be left to do, and that the count has room for it.
-use Rattle.std.proofs.Common.{◌≡◌, ◌+◌, ◌*◌, ◌-◌, ◌<◌, ◌≤◌, ℕ, Bool, true, false, All, List, [], ◌∷◌, Option, Some, None, length, suc, sum_by, refl, arith, if◌then◌else◌}
-use Rattle.std.specs.Prelude.{option_map, unwrap_or}
+use Rattle.std.proofs.Common.{◌≡◌, ◌+◌, ◌*◌, ◌-◌, ◌<◌, ◌≤◌, ℕ, Bool, true, false, All, List, [], ◌∷◌, length, suc, sum_by, refl, arith, if◌then◌else◌}
 use Rattle.std.proofs.lemmas.List.Elements.{All-head, All-tail}
 use Rattle.std.proofs.lemmas.List.Sums.{sum_by-cons}
-use Rattle.g_incr.specs.Plan.{needs}
 use Rattle.g_job.specs.State.{JobState}
-use Rattle.g_store_meaning.specs.StoreInvariant.{DumpFacts, StoreFacts}
 use Rattle.g_tape.specs.Rack.{Rack}
 use Rattle.g_job_table.specs.Crew.{CrewState}
 use Rattle.g_job_table.specs.Numbers.{AreJobs, IsAllowed}
 use Rattle.g_operator.specs.Parts.{seen}
-use Rattle.g_operator.specs.System.{SystemFacts, Up, devices_in}
+use Rattle.g_operator.specs.System.{SystemFacts, devices_in}
 use Rattle.g_run.specs.Tick.{dump_left, left, may_step, share_in}
 
 -- of a job
@@ -27,18 +24,6 @@ shares rack (j ∷ jobs) are =
     let sum : sum_by (share_in rack) (j ∷ jobs) ≡ share_in rack j + sum_by (share_in rack) jobs = sum_by-cons (share_in rack) j jobs in
     let long : length (j ∷ jobs) ≡ suc (length jobs) = refl in
     omega (arith, one, rest, sum, long)
-
--- of an open dump
-short_by : (dump : Option DumpFacts) (blocks : ℕ) → blocks ≡ unwrap_or (option_map (λ (d : DumpFacts). needs d.plan) dump) 0 → blocks < 4294967296
-    → (elim dump [ None ↦ 0 | Some d ↦ needs d.plan - d.done + 1 ]) ≤ 4294967296
-short_by None blocks is short = omega arith
-short_by (Some d) blocks is short = by_needs (needs d.plan) d.done (omega (arith, is, short))
-  where
-    by_needs : (n done : ℕ) → n < 4294967296 → n - done + 1 ≤ 4294967296
-    by_needs n done less = omega (arith, less)
-
-pub dump_short : (s : StoreFacts) (blocks : ℕ) → blocks ≡ unwrap_or (option_map (λ (d : DumpFacts). needs d.plan) s.dump) 0 → blocks < 4294967296 → dump_left (Up s) ≤ 4294967296
-dump_short s blocks is short = short_by s.dump blocks is short
 
 -- OF ALL
 pub little : (f : SystemFacts) (c : CrewState) (count : ℕ) → AreJobs c.jobs c.next_job → dump_left f ≤ 4294967296 → left (seen f c count) ≤ 4358967360

@@ -8,7 +8,7 @@ use Rattle.g_sched.specs.declared.rule.Standing.{Standing}
 use Rattle.g_operator.specs.declared.progress.Failure.{Failure}
 use Rattle.g_operator.specs.Parts.{Seen}
 use Rattle.g_run.specs.Parts.{Anything, DidTicks}
-use Rattle.g_run.specs.Tick.{DidDump, DidTick, DidTurn, left}
+use Rattle.g_run.specs.Tick.{DidDump, DidTurn, left}
 
 pub same_dump : {old new new' : Seen} {failure : Option Failure} {before after : Option (List ℕ)} {faults faults' : ℕ} → new' ≡ new → DidDump old failure new before after faults faults'
     → DidDump old failure new' before after faults faults'
@@ -21,19 +21,8 @@ module _ {F U : Type 0} (tariffs : Shared F (Bor Usage × Unit {0}) Charge) (tar
   same_turn {old = old} {failure = failure} before after {faults = faults} {faults' = faults'} is did =
       subst (λ (s : Seen). DidTurn tariffs tariff rules rule old failure s before after faults faults') (sym is) did
 
-  pub same_tick : {old new new' : Seen} {failure : Option Failure} (before after : Option (List ℕ)) {faults faults' : ℕ} → new' ≡ new → DidTick tariffs tariff rules rule old failure new before after faults faults'
-      → DidTick tariffs tariff rules rule old failure new' before after faults faults'
-  same_tick {old = old} {failure = failure} before after {faults = faults} {faults' = faults'} is did =
-      subst (λ (s : Seen). DidTick tariffs tariff rules rule old failure s before after faults faults') (sym is) did
-
   -- ONE TICK: the count is one more, and less is left to do
   pub record DidOne (limit : Option ℕ) (old : Seen) (failure : Option Failure) (new : Seen) (before after : Option (List ℕ)) (faults faults' : ℕ) : Type 0 where
     pub did : DidTicks tariffs tariff rules rule Anything limit old failure new before after faults faults'
     pub counts : failure ≡ None → new.count ≡ old.count + 1
     pub falls : failure ≡ None → left new + 1 ≤ left old
-
-  pub same_one : {limit : Option ℕ} {old old' new new' : Seen} {failure : Option Failure} {before after : Option (List ℕ)} {faults faults' : ℕ} → old ≡ old' → new' ≡ new
-      → DidOne limit old failure new before after faults faults' → DidOne limit old' failure new' before after faults faults'
-  same_one {limit = limit} {old = old} {new' = new'} {failure = failure} {before = before} {after = after} {faults = faults} {faults' = faults'} opens ends did =
-      subst (λ (s : Seen). DidOne limit s failure new' before after faults faults') opens
-      (subst (λ (s : Seen). DidOne limit old failure s before after faults faults') (sym ends) did)

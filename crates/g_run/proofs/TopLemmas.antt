@@ -1,9 +1,8 @@
 -- A run that was ended, whole or cut short, as its status tells.
-use Rattle.std.proofs.Common.{◌≡◌, ◌⊎◌, ◌<◌, ◌∙◌, ℕ, List, [], ◌∷◌, codes, Option, Some, None, length, refl, sym, ap, subst, inl, inr, arith}
+use Rattle.std.proofs.Common.{◌≡◌, ◌⊎◌, ◌<◌, ◌∙◌, ℕ, List, Option, Some, None, length, refl, sym, ap, subst, inl, inr, arith}
 use Rattle.std.specs.Fn.{Shared}
 use denote.Ref.{Bor}
 use Rattle.std.proofs.lemmas.List.{take_all}
-use Rattle.g_base.proofs.FuseLemmas.{within_none}
 use Rattle.g_budget.specs.declared.tariff.Charge.{Charge}
 use Rattle.g_budget.specs.declared.tariff.Usage.{Usage}
 use Rattle.g_sched.specs.declared.rule.Standing.{Standing}
@@ -13,12 +12,10 @@ use Rattle.g_script.specs.Script.{IsParsed}
 use Rattle.g_script.specs.declared.operator.Timed.{Timed}
 use Rattle.g_script.proofs.OneReading.{reading_unique}
 use Rattle.g_laws_store.proofs.StateLemmas.{have_states}
-use Rattle.g_store_model.specs.State.{State}
 use Rattle.g_store_model.specs.CallStep.{down}
 use Rattle.g_run_model.proofs.StandLemmas.{read_as}
 use Rattle.g_run_model.specs.Devices.{Devices}
-use Rattle.g_run_model.specs.Lines.{disc_arms, tape_arms}
-use Rattle.g_run_model.specs.Top.{AreArmings, IsCutWords, numbers_of, words_line}
+use Rattle.g_run_model.specs.Top.{AreArmings, IsCutWords, words_line}
 use Rattle.g_laws_runs.specs.BeginningAnew.{AreBlank, BeginAnew, with_new_disc}
 use Rattle.g_laws_runs.proofs.FreshLemmas.{emptied_stand}
 use Rattle.g_operator.specs.declared.progress.Failure.{Failure}
@@ -28,7 +25,6 @@ use Rattle.g_demo.specs.declared.demonstration.Demonstration.{Demonstration}
 use Rattle.g_demo.specs.declared.words.Asked.TheVariants as asked
 use Rattle.g_demo.proofs.WordLemmas.{one_reading}
 use Rattle.g_operator.specs.Puts.{PutsBy}
-use Rattle.g_run_model.proofs.ArmLemmas.{in_none}
 use Rattle.g_operator.specs.System.{BelongTogether}
 use Rattle.g_run.specs.declared.status.Status.{Status}
 use Rattle.g_run.specs.declared.status.Status.TheVariants.{NoMemory, ScriptFault, TooLong}
@@ -43,17 +39,6 @@ module _ {F U : Type 0} (tariffs : Shared F (Bor Usage × Unit {0}) Charge) (tar
   ends_as bad (Some failures.Memory) left lines old new before after parsed ends = inr (lines, bad, parsed, ends)
   ends_as (Some line) None left lines old new before after parsed ends = (lines, parsed, ends)
   ends_as None None left lines old new before after parsed ends = (lines, parsed, ends)
-
--- nothing was armed where nothing was done
-pub none_armed : (status : Status) (lines : List Timed) (d : Devices) → (IsThrough status → ⊥) → AreArmings lines (IsThrough status) d d
-none_armed status lines d cut = record {
-  disc = within_none (numbers_of disc_arms lines) d.disc.arms d.disc.arms refl;
-  tape = within_none (numbers_of tape_arms lines) d.rack.arms d.rack.arms refl;
-  all_disc = λ went. absurd (cut went);
-  all_tape = λ went. absurd (cut went);
-  disc_since = in_none d.disc.writes d.disc.writes d.disc.arms d.disc.arms refl;
-  tape_since = in_none d.rack.write_faults d.rack.write_faults d.rack.arms d.rack.arms refl;
-}
 
 went_through : (bad : Option ℕ) (failure : Option Failure) → IsThrough (status_of bad failure) → failure ≡ None
 went_through bad None went = refl
@@ -143,20 +128,12 @@ of_words None isnt is = let no : ⊥ = cc in no
 of_words (Some failures.Output) isnt is = let no : ⊥ = cc in no
 of_words (Some failures.Memory) isnt is = isnt refl
 
-pub words_cut : (failure : Option Failure) → IsThrough (words_status failure) → ⊥
-words_cut None went = went
-words_cut (Some failures.Output) went = went
-words_cut (Some failures.Memory) went = went
-
 -- A DEMONSTRATION: the words tell which, and how it ended
 pub one_demo : (one other : Demonstration) → IsDemonstration one → IsDemonstration other → demo_words one ≡ demo_words other → one ≡ other
 one_demo one other is is_other same = by (one_reading (asked.Demo one) (asked.Demo other) is is_other same)
   where
     by : asked.Demo one ≡ asked.Demo other → one ≡ other
     by e = cc
-
-pub run_no_demo : (demo : Demonstration) → codes "run" ∷ [] ≡ demo_words demo → ⊥
-run_no_demo demo e = cc
 
 module _ {F U : Type 0} (tariffs : Shared F (Bor Usage × Unit {0}) Charge) (tariff : F) (rules : Shared U (Bor Standing × Unit {0}) ℕ) (rule : U) where
   pub demo_ends : (failure : Option Failure) (demo : Demonstration) (before after : Option (List ℕ)) → PutsDemo tariffs tariff rules rule failure demo before after

@@ -1,5 +1,5 @@
 //! Ticks, as long as something can step and no line is due.
-ghost use Rattle.std.specs.Prelude.{◌≡◌, ◌⊎◌, ◌+◌, ◌<◌, ℕ, None, true, false};
+ghost use Rattle.std.specs.Prelude.{◌≡◌, ◌⊎◌, ◌+◌, ◌<◌, ℕ, None, is_some, true, false};
 ghost use Rattle.g_budget.specs.Tariff.{IsTariff};
 ghost use Rattle.g_operator.specs.Parts.{IsReady, seen};
 ghost use Rattle.g_operator.specs.System as system;
@@ -179,7 +179,8 @@ fn job_steps<D: Disc, T: Tapes>(store: &Watched<D, T>, crew: &Crew) -> bool
 /// The count behind a tick: one more, and where the tick failed what it was.
 fn counted(count: u64, failure: Option<Failure>) -> u64
     requires room { count < 18446744073709551615 }
-    ensures { failure ≡ None → result ≡ count + 1 }
+    ensures done { failure ≡ None → result ≡ count + 1 }
+    ensures failed { is_some failure ≡ true → result ≡ count }
 {
     if failure.is_none() {
         count + 1

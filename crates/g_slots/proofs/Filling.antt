@@ -1,13 +1,13 @@
 -- The slot that isn't current, filled block by block.
-use Rattle.std.proofs.Common.{◌≡◌, ℕ, ◌+◌, ◌<◌, ◌≤◌, List, [], ◌∷◌, ◌++◌, length, get_or, take, drop, Some, Ok, refl, sym, ◌∙◌, ap, arith}
+use Rattle.std.proofs.Common.{◌≡◌, ℕ, ◌+◌, ◌<◌, ◌≤◌, List, [], ◌∷◌, ◌++◌, length, get_or, take, drop, Some, Ok, sym, ◌∙◌, ap, arith}
 use Rattle.std.proofs.Math.Seq.{take-length}
 use Rattle.std.proofs.lemmas.List.{take-take, take_more, take_more_set}
 use Rattle.g_base.specs.Counts.{RoseBy}
 use Rattle.g_base.specs.ToldContent.{Changes}
-use Rattle.g_base.proofs.CountLemmas.{RoseBy-none, RoseBy-then}
-use Rattle.g_base.proofs.ToldLemmas.{Changes-none, Changes-then}
+use Rattle.g_base.proofs.CountLemmas.{RoseBy-then}
+use Rattle.g_base.proofs.ToldLemmas.{Changes-then}
 use Rattle.g_disc.specs.Disc.{DiscState, WritesOnly}
-use Rattle.g_disc.proofs.CallLemmas.{stands_later, then_later}
+use Rattle.g_disc.proofs.CallLemmas.{then_later}
 use Rattle.g_slots.specs.declared.side.Side.{Side}
 use Rattle.g_slots.specs.declared.fault.SlotFault.{SlotFault}
 use Rattle.g_slots.specs.Layout.{other, start_of, slot}
@@ -28,17 +28,6 @@ pub record Filled (side : Side) (n : ℕ) (image : List (List ℕ)) (before afte
   pub arms : after.arms ≡ before.arms
   pub writes : RoseBy n before.writes after.writes
   pub later : before.writes ≤ after.writes
-
-pub filled_none : (side : Side) (image : List (List ℕ)) (disc : DiscState) → Filled side 0 image disc disc
-filled_none side image disc = record {
-  content = Changes-none (FillsTo side 0 image) disc.held disc.held refl (λ b was. record { kept = record { size = refl; gate = refl; kept = refl; copies = refl }; so_far = refl });
-  size = refl;
-  read_faults = refl;
-  write_faults = refl;
-  arms = refl;
-  writes = RoseBy-none refl;
-  later = stands_later refl;
-}
 
 fills_more : (side : Side) (k : ℕ) (image a b c : List (List ℕ)) → k < 1088 → k < length image → 2177 ≤ length a → FillsTo side k image a b → Prepares side k (get_or image k []) b c → FillsTo side (k + 1) image a c
 fills_more side k image a b c below within long so_far step = record {

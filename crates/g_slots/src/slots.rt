@@ -52,7 +52,7 @@ impl Slots {
         self.current
     }
 
-    /// Reads block `k` of the current slot.
+    /// Reads block `k` of the current slot. Where it answers `ReadFault`, nothing is known of `into`.
     pub fn read<D: Disc>(&self, disc: &mut D, k: u32, into: &mut Block) -> Result<(), SlotFault>
         requires place { k < 1088 }
         requires size { 2177 < (D.state disc.old).size }

@@ -1,5 +1,5 @@
 -- Verbs that are read without their list of parameters: those of one file and of two, RENAME, and DISPLAY.
-use Rattle.std.proofs.Common.{Err, IfOk, IfSome, List, None, Ok, Option, Result, Some, [], ap, arith, length, refl, subst, suc, sym, true, zero, ℕ, ◌≤◌, ◌∙◌, ◌∷◌, ◌≡◌}
+use Rattle.std.proofs.Common.{Err, IfOk, List, MatchOption, None, Ok, Option, Result, Some, [], ap, arith, length, refl, subst, suc, sym, true, zero, ℕ, ◌-◌, ◌≤◌, ◌∙◌, ◌∷◌, ◌≡◌, ◌≢◌}
 use Rattle.std.specs.List.{slice_get}
 use Rattle.g_lang.proofs.ParseLemmas.{params-some}
 use Rattle.g_lang.specs.LineReader.{params_read}
@@ -7,7 +7,7 @@ use Rattle.g_name.specs.Grammar.{is_word}
 use Rattle.g_name.specs.declared.path.Path.{Path}
 use Rattle.g_verbs.proofs.ReadLemmas.{read-asked, reading-right, said-sound}
 use Rattle.g_verbs.proofs.WalkLemmas.{Walked, walked}
-use Rattle.g_verbs.specs.Forms.{AreGood, Forms, IsGoodPlace, just}
+use Rattle.g_verbs.specs.Forms.{AreGood, Forms, IsFirstWrong, IsGoodPlace, just}
 use Rattle.g_verbs.specs.Tables.{is_display, is_of_one_file, is_of_two_files, is_rename}
 use Rattle.g_verbs.specs.VerbReader.{action_of, action_read, asked, file_of, file_read, first_wrong, is_of, local_of, local_read, param}
 use Rattle.g_verbs.specs.Verbs.{IsActionRead, IsRead, IsSound, Reads, forms_with, verb_forms, verb_of}
@@ -28,9 +28,21 @@ good_alone text path read =
 file_alone : (text : List ℕ) (path : Path) → file_read text ≡ Some path → path ≡ file_of (param (text ∷ []) 0)
 file_alone text path read = rw read refl
 
+-- where one is wrong not all are good
+not_good : (f : Forms) (params : List (List ℕ)) (index : ℕ) → first_wrong f params ≡ Some index → AreGood f params → ⊥
+not_good f params index is good = let first : IsFirstWrong f params index = subst (Walked f params) is (walked f params) in first.wrong (good (index - 1))
+
+no_file : (text : List ℕ) → file_read text ≡ None → AreGood (just (form.File ∷ [])) (text ∷ []) → ⊥
+no_file text none = not_good (just (form.File ∷ [])) (text ∷ []) 1 (rw none refl)
+
+pub not-alone : (params : List (List ℕ)) → length params ≢ 1 → AreGood (just (form.File ∷ [])) params → ⊥
+not-alone [] other good = let some = good 0 in omega (arith, some)
+not-alone (text ∷ []) other good = other refl
+not-alone (text ∷ next ∷ texts) other good = good 1
+
 pub only-file : (params : List (List ℕ)) (text : List ℕ) (o : Option Path) → params ≡ text ∷ [] → o ≡ file_read text
-    → IfSome o (λ path. AreGood (just (form.File ∷ [])) params × (path ≡ file_of (param params 0)))
-only-file params text None same read = tt
+    → MatchOption o (AreGood (just (form.File ∷ [])) params → ⊥) (λ path. AreGood (just (form.File ∷ [])) params × (path ≡ file_of (param params 0)))
+only-file params text None same read = subst (λ (ps : List (List ℕ)). AreGood (just (form.File ∷ [])) ps → ⊥) (sym same) (no_file text (sym read))
 only-file params text (Some path) same read =
     subst (λ (ps : List (List ℕ)). AreGood (just (form.File ∷ [])) ps × (path ≡ file_of (param ps 0))) (sym same) (good_alone text path (sym read), file_alone text path (sym read))
 

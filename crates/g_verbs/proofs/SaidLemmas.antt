@@ -24,10 +24,6 @@ use Rattle.g_verbs.specs.declared.form.Form.TheVariants as form
 use Rattle.g_verbs.specs.declared.verb.Verb.{Verb}
 use Rattle.g_verbs.specs.declared.verb.Verb.TheVariants as verb
 
--- the value of a parameter that is of its form
-value_of : {A : Type 0} (o : Option A) (x d : A) → o ≡ Some x → unwrap_or o d ≡ x
-value_of o x d is = ap (λ p. unwrap_or p d) is
-
 pub file_of-is : (path : Path) (text : List ℕ) → IsFile path text → file_of text ≡ path
 file_of-is path text is = ap (λ (o : Option Path). unwrap_or o no_path) (file-complete path text is)
 

@@ -1,5 +1,5 @@
 //! From a verb and its parameters to what it asks for.
-ghost use Rattle.std.specs.Prelude.{◌≡◌, ◌∷◌, ℕ, [], true, List, IfOk, IfSome};
+ghost use Rattle.std.specs.Prelude.{◌≡◌, ◌∷◌, ℕ, [], true, List, IfOk, IfSome, MatchOption};
 ghost use Rattle.g_lang.specs.LineReader.{params_read};
 ghost use Rattle.g_verbs.specs.Forms.{AreGood, just};
 ghost use Rattle.g_verbs.specs.VerbReader as how;
@@ -140,7 +140,8 @@ fn is_of_one_file(verb: Option<Verb>) -> bool
 /// The file that the only parameter of those that stand in a text names, if there is one alone: it is what a verb of one
 /// file asks for. It takes no memory.
 pub fn only_file(rest: &[u8]) -> Option<Path>
-    ensures { IfSome result (λ path. AreGood (just (form.File ∷ [])) (params_read rest.now)
+    ensures { MatchOption result (AreGood (just (form.File ∷ [])) (params_read rest.now) → ⊥)
+        (λ path. AreGood (just (form.File ∷ [])) (params_read rest.now)
         × (path ≡ how.file_of (how.param (params_read rest.now) 0))) }
 {
     match only_param(rest) {

@@ -53,7 +53,7 @@ ticks-preserved g c =
     let so_far = rw yes.0 at c.ticks.invariant.did in
     let one = one_here g.F.Fn c.args.rules.now.tariff.now g.U.Fn c.args.rules.now.weigh.now c.args.limit up.store.running up.crew up.count yes.2 (c.ticks.invariant.did.keeps.ready yes.0).0 yes.1 yes.3 (left_of new.store.running) new.crew
     (g.K.Sink.written c.ticks.out) (g.K.Sink.written c.tick-failure.new.out) (g.K.Sink.faults c.ticks.out) (g.K.Sink.faults c.tick-failure.new.out)
-    c.tick-failure.result c.tick-failure.ensures.did c.counted.result (λ none. c.counted.ensures none ∙ ap (λ (n : ℕ). n + 1) c.tick-failure.ensures.count) in record {
+    c.tick-failure.result c.tick-failure.ensures.did c.counted.result (λ none. c.counted.ensures.done none ∙ ap (λ (n : ℕ). n + 1) c.tick-failure.ensures.count) in record {
       did = ticks_more g.F.Fn c.args.rules.now.tariff.now g.U.Fn c.args.rules.now.weigh.now c.args.limit _ _ _ _ _ _ _ _ _ _ so_far one;
       room = λ none. room_then c.args.limit _ _ (c.ticks.invariant.room yes.0) (one.counts none) (one.falls none);
       weighed = c.tick-failure.ensures.weighed;
@@ -67,7 +67,7 @@ ticks-smaller g c =
     let new = c.tick-failure.new.up in
     let one = one_here g.F.Fn c.args.rules.now.tariff.now g.U.Fn c.args.rules.now.weigh.now c.args.limit up.store.running up.crew up.count yes.2 (c.ticks.invariant.did.keeps.ready yes.0).0 yes.1 yes.3 (left_of new.store.running) new.crew
     (g.K.Sink.written c.ticks.out) (g.K.Sink.written c.tick-failure.new.out) (g.K.Sink.faults c.ticks.out) (g.K.Sink.faults c.tick-failure.new.out)
-    c.tick-failure.result c.tick-failure.ensures.did c.counted.result (λ none. c.counted.ensures none ∙ ap (λ (n : ℕ). n + 1) c.tick-failure.ensures.count) in
+    c.tick-failure.result c.tick-failure.ensures.did c.counted.result (λ none. c.counted.ensures.done none ∙ ap (λ (n : ℕ). n + 1) c.tick-failure.ensures.count) in
     ticks_fall c.ticks.failure c.tick-failure.result _ _ yes.0 one.falls
 
 pub returns : goal.returns
