@@ -41,17 +41,6 @@ burnt_some k more = ap (λ (b : Bool). let left : Option ℕ = if b then None el
 burnt_last : (k : ℕ) → k ≤ 1 → burnt (Some k) ≡ None
 burnt_last k last = ap (λ (b : Bool). let left : Option ℕ = if b then None else Some (k - 1) in left) (le-leb k 1 last)
 
-burnt_more : (n : ℕ) (fuse : Option ℕ) → burnt (burnt_by n fuse) ≡ burnt_by (n + 1) fuse
-burnt_more n None = refl
-burnt_more n (Some k) = by (cases_lt n k) (cases_lt (n + 1) k)
-  where
-    by : (n < k) ⊎ (k ≤ n) → (n + 1 < k) ⊎ (k ≤ n + 1) → burnt (burnt_by n (Some k)) ≡ burnt_by (n + 1) (Some k)
-    by (inl less) (inl more) =
-        let one : k - n - 1 ≡ k - (n + 1) = omega arith in
-        ap burnt (burnt_left n k less) ∙ burnt_some (k - n) (omega (arith, more)) ∙ ap (λ (j : ℕ). Some j) one ∙ sym (burnt_left (n + 1) k more)
-    by (inl less) (inr end) = ap burnt (burnt_left n k less) ∙ burnt_last (k - n) (omega (arith, end)) ∙ sym (burnt_out (n + 1) k end)
-    by (inr spent) later = ap burnt (burnt_out n k spent) ∙ sym (burnt_out (n + 1) k (omega (arith, spent)))
-
 -- by some writes, and by some more
 pub burnt_both : (m n : ℕ) (fuse : Option ℕ) → burnt_by n (burnt_by m fuse) ≡ burnt_by (m + n) fuse
 burnt_both m n None = refl
@@ -72,24 +61,6 @@ pub fused_never : (writes : ℕ) (arms : Arms) (fuse : Option ℕ) → arms ≡ 
 fused_never writes arms fuse is none =
     subst (λ (a : Arms). BurnsByWrites writes a fuse) (sym is) (subst (BurnsByWrites writes never) (sym none) (burns_never writes))
 
-pub burns_armed : (k writes : ℕ) (arms : Arms) → 1 ≤ k → BurnsByWrites writes (armed_with k writes arms) (Some k)
-burns_armed k writes arms one = record {
-  later = omega arith;
-  left = λ room.
-      let none : writes - writes ≡ 0 = omega arith in
-      let all : k - 0 ≡ k = omega arith in
-      sym (ap (λ (n : ℕ). burnt_by n (Some k)) none ∙ burnt_left 0 k (omega (arith, one)) ∙ ap (λ (j : ℕ). Some j) all);
-}
-
-pub burns_write : (writes : ℕ) (arms : Arms) (fuse : Option ℕ) → BurnsByWrites writes arms fuse → BurnsByWrites (one_more writes) arms (burnt fuse)
-burns_write writes arms fuse is = record {
-  later = let was : arms.since ≤ writes = is.later in omega (arith, was);
-  left = λ room.
-      let was : arms.since ≤ writes = is.later in
-      let more : writes - arms.since + 1 ≡ one_more writes - arms.since = omega (arith, was, room) in
-      ap burnt (is.left (omega (arith, room))) ∙ burnt_more (writes - arms.since) arms.number ∙ ap (λ (n : ℕ). burnt_by n arms.number) more;
-}
-
 -- THE FUSE OF A RACK: never armed, armed, and after a good write and a failed one
 fails_never : (failed : ℕ) → BurnsByFailures failed never None
 fails_never failed = record { later = omega arith; left = λ j e. absurd (let no : ⊥ = cc in no); spent = λ e k is. absurd (let no : ⊥ = cc in no) }
@@ -97,13 +68,6 @@ fails_never failed = record { later = omega arith; left = λ j e. absurd (let no
 pub unfailed_never : (failed : ℕ) (arms : Arms) (fuse : Option ℕ) → arms ≡ never → fuse ≡ None → BurnsByFailures failed arms fuse
 unfailed_never failed arms fuse is none =
     subst (λ (a : Arms). BurnsByFailures failed a fuse) (sym is) (subst (BurnsByFailures failed never) (sym none) (fails_never failed))
-
-pub fails_armed : (k failed : ℕ) (arms : Arms) → 1 ≤ k → BurnsByFailures failed (armed_with k failed arms) (Some k)
-fails_armed k failed arms one = record {
-  later = omega arith;
-  left = λ j e. let same : k ≡ j = cc in (omega (arith, one, same), omega (arith, same));
-  spent = λ e. absurd (let no : ⊥ = cc in no);
-}
 
 pub fails_good : (failed : ℕ) (arms : Arms) (fuse : Option ℕ) → (fuse ≡ Some 1 → ⊥) → BurnsByFailures failed arms fuse → BurnsByFailures failed arms (burnt fuse)
 fails_good failed arms None apart is = is

@@ -1,10 +1,10 @@
 -- Groups of flags that are noted as full: what keeps the notes true, and what they tell.
-use Rattle.std.proofs.Common.{◌≡◌, ◌≢◌, ℕ, ◌+◌, ◌-◌, ◌/◌, ◌*◌, ◌<◌, ◌≤◌, List, Bool, true, false, Some, length, slice_get, get_or, min, replicate, sym, ◌∙◌, ap, subst, inl, inr, arith, length-set}
+use Rattle.std.proofs.Common.{◌≡◌, ◌≢◌, ℕ, ◌+◌, ◌-◌, ◌/◌, ◌<◌, ◌≤◌, List, Bool, true, false, Some, length, slice_get, get_or, replicate, sym, ◌∙◌, ap, subst, inl, inr, arith, length-set}
 use Rattle.std.specs.Prelude.{◌⊎◌}
 use Rattle.std.proofs.Math.ListN.{set}
-use Rattle.std.proofs.lemmas.Bool.{cases_eq, cases_lt}
+use Rattle.std.proofs.lemmas.Bool.{cases_eq}
 use Rattle.std.proofs.lemmas.List.{get_or-replicate, length-replicate}
-use Rattle.std.proofs.lemmas.Option.{slice_get-get_or, get_or_from_slice_get, slice_get_within}
+use Rattle.std.proofs.lemmas.Option.{get_or_from_slice_get, slice_get_within}
 use Rattle.g_blocks.specs.Flags.{AreFull, AreSetBefore, free_flags}
 use Rattle.g_blocks.proofs.Marks.{count-given, count-taken, flag-kept, slice_get-set_other, slice_get-set_same}
 
@@ -46,24 +46,6 @@ full-none full flags n is size = record {
       let on : get_or full (i / 128) false ≡ true = get_or_from_slice_get full (i / 128) true false noted in
       let no : ⊥ = cc in absurd no;
 }
-
--- behind a group that is noted as full all flags are set so far
-pub set-behind : (full flags : List Bool) (place : ℕ) → AreFull full flags → AreSetBefore place flags → place < length flags → place ≡ place / 128 * 128 → get_or full (place / 128) false ≡ true
-    → AreSetBefore (min (place + 128) (length flags)) flags
-set-behind full flags place are before within first noted =
-    let there : place / 128 < length full = let size = are.size in omega (arith, within, size) in
-    let is : slice_get full (place / 128) ≡ Some true = slice_get-get_or full (place / 128) false there ∙ ap Some noted in
-    record {
-      within = omega arith;
-      each = λ j less.
-          elim (cases_lt j place) [
-            | inl front ↦ before.each j front
-            | inr back ↦
-                let inside : j < length flags = omega (arith, less) in
-                let same : j / 128 ≡ place / 128 = omega (arith, less, back, first) in
-                are.each j inside (subst (λ (g : ℕ). slice_get full g ≡ Some true) (sym same) is)
-          ];
-    }
 
 -- groups in front of a place before which all flags are set are full
 pub full-noted : (full now flags : List Bool) (low : ℕ) → AreFull full flags → AreSetBefore low flags → length now ≡ length full

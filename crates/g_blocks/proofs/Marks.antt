@@ -1,11 +1,11 @@
 -- One flag after another: what a loop that marks blocks has changed so far.
 use Rattle.std.proofs.Common.{◌≡◌, ◌≢◌, ℕ, zero, suc, ◌+◌, ◌-◌, ◌*◌, ◌<◌, ◌≤◌, List, [], ◌∷◌, ◌++◌, Bool, true, false, not, cond, Some, length, take, drop, All, AllPairs, Contains, slice_get, get_or, replicate, refl, sym, ◌∙◌, ap, subst, inl, inr, arith, length-set, length-take, length-drop}
 use Rattle.std.proofs.Math.ListN.{set}
-use Rattle.std.proofs.lemmas.List.{take_all, take_more, get_or-set_same, get_or-take, get_or-drop, get_or_default, get_or-replicate, length-replicate}
+use Rattle.std.proofs.lemmas.List.{take_all, take_more, get_or-set_same, get_or-take, get_or_default, get_or-replicate, length-replicate}
 use Rattle.std.proofs.lemmas.List.Folds.{sum_by-replicate}
 use Rattle.std.proofs.lemmas.List.Elements.{All-more, Contains-append_left, Contains-push}
 use Rattle.std.specs.List.Sorted.{IsStrictlyIncreasing}
-use Rattle.std.proofs.lemmas.Bool.{cases_eq, cases_lt}
+use Rattle.std.proofs.lemmas.Bool.{cases_eq}
 use Rattle.std.proofs.lemmas.List.Kept.{AllPairs-from_increasing}
 use Rattle.std.proofs.lemmas.List.Sums.{sum_by-set}
 use Rattle.std.proofs.lemmas.Option.{slice_get-get_or, get_or_from_slice_get, slice_get_within}
@@ -132,45 +132,8 @@ AreSetBefore-cleared low now flags i lower none before = record {
 pub AreSetBefore-none : (flags : List Bool) → AreSetBefore 0 flags
 AreSetBefore-none flags = record { within = omega arith; each = λ j h. absurd (omega (arith, h)) }
 
-pub AreSetBefore-more : (place : ℕ) (flags : List Bool) → AreSetBefore place flags → place < length flags
-    → get_or flags place false ≡ true → AreSetBefore (place + 1) flags
-AreSetBefore-more place flags before within is = record {
-  within = omega arith;
-  each = λ j h.
-      elim (cases_eq j place) [
-        | inl same ↦ subst (λ k. slice_get flags k ≡ Some true) (sym same) (slice_get-get_or flags place false within ∙ ap Some is)
-        | inr apart ↦ before.each j (omega (arith, h, apart))
-      ];
-}
-
-AreSetBefore-then : (low more : ℕ) (flags : List Bool) → AreSetBefore low flags → AreSetBefore more (drop low flags) → AreSetBefore (low + more) flags
-AreSetBefore-then low more flags before behind =
-    let long = length-drop low flags in
-    record {
-      within = omega (arith, long, before.within, behind.within);
-      each = λ j h.
-          elim (cases_lt j low) [
-            | inl front ↦ before.each j front
-            | inr back ↦
-                let k = j - low in
-                let number : low + k ≡ j = omega arith in
-                let within : low + k < length flags = omega (arith, h, long, before.within, behind.within) in
-                let there : get_or (drop low flags) k false ≡ true = get_or_from_slice_get (drop low flags) k true false (behind.each k (omega (arith, h))) in
-                let same = get_or-drop low flags k false in
-                let here : slice_get flags (low + k) ≡ Some true =
-                slice_get-get_or flags (low + k) false within ∙ ap Some (sym same ∙ there) in
-                subst (λ i. slice_get flags i ≡ Some true) number here
-          ];
-    }
-
 pub slice_from : {X : Type 0} (n : ℕ) (xs : List X) → take (length xs - n) (drop n xs) ≡ drop n xs
 slice_from n xs = take_all (length xs - n) (drop n xs) (omega (arith, length-drop n xs))
-
-pub AreSetBefore-behind : (low more : ℕ) (flags slice : List Bool) → slice ≡ flags → AreSetBefore low flags
-    → AreSetBefore more (take (length slice - low) (drop low slice)) → AreSetBefore (low + more) flags
-AreSetBefore-behind low more flags slice same before behind =
-    let there : AreSetBefore more (drop low slice) = subst (AreSetBefore more) (slice_from low slice) behind in
-    AreSetBefore-then low more flags before (subst (λ (fs : List Bool). AreSetBefore more (drop low fs)) same there)
 
 -- The count beside the flags, when the flag of a free block is set, and when that of a taken one is cleared.
 pub count-taken : (free low : ℕ) (flags pool : List Bool) (i : ℕ) → flags ≡ pool → slice_get pool i ≡ Some false

@@ -1,10 +1,10 @@
 -- Blocks that are read one behind the other from those of given numbers.
-use Rattle.std.proofs.Common.{◌≡◌, ℕ, ◌+◌, ◌-◌, ◌*◌, ◌<◌, ◌≤◌, min, List, [], ◌++◌, length, take, get_or, Some, Ok, Err, sym, ap, ◌∙◌, arith, length-append}
+use Rattle.std.proofs.Common.{◌≡◌, ℕ, ◌+◌, ◌-◌, ◌*◌, ◌<◌, ◌≤◌, min, List, [], ◌++◌, length, take, get_or, Some, Ok, sym, ap, ◌∙◌, arith, length-append}
 use Rattle.std.specs.Prelude.{slice_index_or}
 use Rattle.std.proofs.lemmas.List.{length-take, take_all, take_min}
 use Rattle.std.proofs.lemmas.Option.{get_or_from_slice_get}
 use Rattle.g_disc.specs.Disc.{DiscState, Reads, ReadsByCause}
-use Rattle.g_disc.proofs.CallLemmas.{ReadsByCause-Reads_err, ReadsByCause-Reads_ok, ReadsByCause-for, ReadsByCause-none, ReadsByCause-then}
+use Rattle.g_disc.proofs.CallLemmas.{ReadsByCause-Reads_ok, ReadsByCause-none, ReadsByCause-then}
 use Rattle.g_copy.specs.Copy.{blocks_at, bytes_at}
 use Rattle.g_copy.proofs.Blocks.{take-append, blocks_at-more}
 
@@ -22,14 +22,6 @@ has_read_none places len s = record {
   long = omega arith;
   text = λ b told. sym (take_all len [] (omega arith));
 }
-
--- one read more, which failed
-pub reads_failed : {T E : Type 0} (P : Type 0) (k : ℕ) (into : List ℕ) (before mid after : DiscState) (e : E) → P → ReadsByCause ⊥ before mid → Reads {T = T} {E = E} k into mid after (Err e) → ReadsByCause P before after
-reads_failed P k into before mid after e is was read = ReadsByCause-then (λ never. never) was (ReadsByCause-Reads_err is read)
-
--- no read failed, whatever the call answers
-pub reads_kept : (P : Type 0) (before after : DiscState) → (P → ⊥) → ReadsByCause ⊥ before after → ReadsByCause P before after
-reads_kept P before after none was = ReadsByCause-for (λ never. absurd never) none was
 
 -- the next block was read, as far as the text goes
 pub has_read_more : {T E : Type 0} (n : ℕ) (places : List ℕ) (len : ℕ) (bytes block : List ℕ) (before mid after : DiscState) (x : T) → n < length places → length block ≡ 512 → HasRead n places len bytes before mid

@@ -1,9 +1,8 @@
 -- How the calls on a disc follow each other, and what they are the cause of.
-use Rattle.std.proofs.Common.{◌≡◌, ◌≤◌, ℕ, ◌+◌, List, Ok, Err, refl, subst, ◌∙◌, arith}
+use Rattle.std.proofs.Common.{◌≡◌, ◌≤◌, ℕ, List, Ok, Err, refl, subst, ◌∙◌, arith}
 use Rattle.std.specs.Prelude.{Result}
 use Rattle.g_base.specs.Counts.{Rose, one_more}
-use Rattle.g_base.proofs.CountLemmas.{RoseBy-one, RoseBy-then}
-use Rattle.g_disc.specs.Disc.{DiscState, Reads, Writes, ReadsOnly, ReadsByCause, WritesOnly, Causes}
+use Rattle.g_disc.specs.Disc.{DiscState, Reads, ReadsOnly, ReadsByCause, WritesOnly, Causes}
 
 rose_then : {a b c : ℕ} → b ≡ a → Rose b c → Rose a c
 rose_then {c = c} same rose = subst (λ (n : ℕ). Rose n c) same rose
@@ -40,10 +39,6 @@ pub ReadsByCause-Reads_ok : {T E P : Type 0} {k : ℕ} {into : List ℕ} {x y : 
     → Reads {T = T} {E = E} k into x y (Ok t) → ReadsByCause P x y
 ReadsByCause-Reads_ok none read = reads_by (untouched_read read) (λ no. read.kept) (λ is. absurd (none is))
 
-pub ReadsByCause-Reads_err : {T E P : Type 0} {k : ℕ} {into : List ℕ} {x y : DiscState} {e : E} → P
-    → Reads {T = T} {E = E} k into x y (Err e) → ReadsByCause P x y
-ReadsByCause-Reads_err is read = reads_by (untouched_read read) (λ no. absurd (no is)) (λ p. read.rose)
-
 -- the same of calls that read and do nothing else
 untouched_only : {T E : Type 0} {x y : DiscState} {result : Result T E} → ReadsOnly x y result → IsUntouched x y
 untouched_only reads = (reads.held, reads.size, reads.write_faults, reads.writes, reads.fuse, reads.arms)
@@ -69,50 +64,6 @@ ReadsByCause-for there back reads =
     reads_by (reads.held, reads.size, reads.write_faults, reads.writes, reads.fuse, reads.arms) (λ no. reads.kept (λ p. no (there p))) (λ q. reads.rose (back q))
 
 -- WRITES
-
--- one write
-pub WritesOnly-Writes : {T E : Type 0} {k : ℕ} {from : List ℕ} {x y : DiscState} (result : Result T E)
-    → Writes k from x y result → WritesOnly 1 x y result
-WritesOnly-Writes (Ok t) write = record {
-  size = write.size;
-  read_faults = write.read_faults;
-  arms = write.arms;
-  writes = RoseBy-one write.writes;
-  later = more_later write.writes;
-  kept = write.kept;
-  rose = tt;
-}
-WritesOnly-Writes (Err e) write = record {
-  size = write.size;
-  read_faults = write.read_faults;
-  arms = write.arms;
-  writes = tt;
-  later = more_later write.writes;
-  kept = tt;
-  rose = write.rose;
-}
-
--- two in a row, of which the first went well
-pub WritesOnly-then : {T E U F : Type 0} {m n : ℕ} {x y z : DiscState} {t : T} (result : Result U F) → WritesOnly {T = T} {E = E} m x y (Ok t)
-    → WritesOnly n y z result → WritesOnly (m + n) x z result
-WritesOnly-then (Ok u) first second = record {
-  size = second.size ∙ first.size;
-  read_faults = second.read_faults ∙ first.read_faults;
-  arms = second.arms ∙ first.arms;
-  writes = RoseBy-then first.writes second.writes;
-  later = then_later first.later second.later;
-  kept = second.kept ∙ first.kept;
-  rose = tt;
-}
-WritesOnly-then (Err f) first second = record {
-  size = second.size ∙ first.size;
-  read_faults = second.read_faults ∙ first.read_faults;
-  arms = second.arms ∙ first.arms;
-  writes = tt;
-  later = then_later first.later second.later;
-  kept = tt;
-  rose = rose_then first.kept second.rose;
-}
 
 -- CAUSES
 

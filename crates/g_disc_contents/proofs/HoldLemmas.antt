@@ -13,9 +13,6 @@ use Rattle.g_dirs.proofs.QuietLemmas.{quiet_bytes, quiet_copy, quiet_slot}
 use Rattle.g_disc_contents.specs.Contents.{Contents, File, Holds, contents_of, file_of}
 use Rattle.g_disc_contents.specs.QuietWrites.{HoldsOne, QuietHoldsCopy, QuietHoldsSlot}
 
-with_files : List File → Contents → Contents
-with_files files c = record c { files = files }
-
 same_file : (blocks : List (List ℕ)) (place : ℕ) (left : List ℕ) (f : FileEntry) → (Contains (places_of f) place → ⊥) → file_of (Some blocks) f ≡ file_of (Some (slice_set blocks place left)) f
 same_file blocks place left (rec, None) away = refl
 same_file blocks place left (rec, Some copy) away =

@@ -1,5 +1,5 @@
 -- Reels of two racks that are compared block by block.
-use Rattle.std.proofs.Common.{◌≡◌, ◌⊎◌, ◌↔◌, ℕ, zero, suc, ◌+◌, ◌<◌, ◌≤◌, List, [], ◌∷◌, Bool, true, false, ◌&&◌, nat_lt, Option, Some, None, IsTrue, option_map, Result, Ok, Err, if◌then◌else◌, length, take, refl, sym, subst, ap, ◌∙◌, inl, inr, arith}
+use Rattle.std.proofs.Common.{◌≡◌, ℕ, zero, suc, ◌<◌, ◌≤◌, List, [], ◌∷◌, Bool, true, false, ◌&&◌, Option, Some, None, option_map, Ok, Err, if◌then◌else◌, length, take, refl, sym, ap, ◌∙◌, arith}
 use Rattle.std.specs.Option.{ForSome}
 use Rattle.std.specs.Prelude.{slice_get}
 use Rattle.std.proofs.lemmas.Bool.{lt-ltb}
@@ -7,14 +7,13 @@ use Rattle.std.proofs.lemmas.List.{take_all}
 use Rattle.g_base.specs.Counts.{Rose}
 use Rattle.g_tape.specs.declared.fault.TapeFault.{TapeFault}
 use Rattle.g_tape.specs.declared.fault.TapeFault.TheVariants as tape
-use Rattle.g_tape.specs.Reel.{IsReel, Reel}
+use Rattle.g_tape.specs.Reel.{Reel}
 use Rattle.g_tape.specs.Rack.{AreReels, Rack, Reading, reel, refuses_read}
 use Rattle.g_tape.specs.Reads.{OnlyReads, blocks_in, blocks_of, unread}
 use Rattle.g_tape.proofs.ReadLemmas.{blocks_after_reads, is_reel, more_reads, nothing_read, reel_after_reads}
-use Rattle.g_duplex.specs.Copying.{BothReels, BothTold, SameBlock, SameReel}
+use Rattle.g_duplex.specs.Copying.{BothTold, SameBlock, SameReel}
 use Rattle.g_duplex.specs.Rebuild.{refuses_both}
-use Rattle.g_duplex.specs.declared.fault.DuplexFault.{DuplexFault}
-use Rattle.g_duplex.specs.declared.fault.DuplexFault.TheVariants.{NoTape, NotMounted, NotEmptied, ReadFailed, WriteFailed}
+use Rattle.g_duplex.specs.declared.fault.DuplexFault.TheVariants.{NoTape, NotMounted, ReadFailed, WriteFailed}
 use Rattle.g_duplex.proofs.ReadLemmas.{first_of, reads_free, second_of}
 
 abbrev Blocks : Type 0
@@ -42,15 +41,6 @@ pub read_block : (s k : ℕ) (p p' : Rack) (u : Unit {0}) (into : List ℕ) → 
 read_block s k p p' u into is bs told =
     let (r, there, blocks) = told_of_reel (reel s p.reels) bs told in
     is.1 r there bs blocks
-
-pub same_block_is : (s k : ℕ) (p q p' q' : Rack) (u v : Unit {0}) (block beside : List ℕ) (same : Bool) → Reading s k p (Ok u) block p' → Reading s k q (Ok v) beside q' → (IsTrue same ↔ (block ≡ beside))
-    → BothTold s p q (λ xs ys. IsTrue same ↔ (slice_get xs k ≡ slice_get ys k))
-same_block_is s k p q p' q' u v block beside same one two is xs at ys at' =
-    let left : slice_get xs k ≡ Some block = read_block s k p p' u block one xs at in
-    let right : slice_get ys k ≡ Some beside = read_block s k q q' v beside two ys at' in (
-      λ yes'. left ∙ ap (λ (b : List ℕ). Some b) (is.0 yes') ∙ sym right,
-      λ e. let both : Some block ≡ Some beside = sym left ∙ e ∙ right in let one' : block ≡ beside = cc in is.1 one',
-    )
 
 -- reads refuse nothing else
 refuses_bare : (k : ℕ) (o : Option Reel) → refuses_read k (option_map unread o) ≡ refuses_read k o
@@ -117,15 +107,6 @@ one_differs s i p q p' q' p'' q'' so_far same = (
     λ e. (same xs (blocks_after_reads s p p' so_far.one ∙ at) ys (blocks_after_reads s q q' so_far.two ∙ at')).1 (ap (λ (bs : Blocks). slice_get bs i) e),
   ),
 )
-
--- a read failed
-pub one_fails : (s i : ℕ) (p q p' q' p'' q'' : Rack) (fault : DuplexFault) → SameSoFar s i p q p' q' → SameBlock s i p' q' (Err fault) p'' q'' → SameReel s p q (Err fault) p'' q''
-one_fails s i p q p' q' p'' q'' ReadFailed so_far (inl rose) = inl (rose_then p.read_faults p'.read_faults p''.read_faults so_far.one.read_faults rose)
-one_fails s i p q p' q' p'' q'' ReadFailed so_far (inr rose) = inr (rose_then q.read_faults q'.read_faults q''.read_faults so_far.two.read_faults rose)
-one_fails s i p q p' q' p'' q'' WriteFailed so_far is = absurd is
-one_fails s i p q p' q' p'' q'' NoTape so_far is = absurd is
-one_fails s i p q p' q' p'' q'' NotMounted so_far is = absurd is
-one_fails s i p q p' q' p'' q'' NotEmptied so_far is = absurd is
 
 -- told blocks are as many as the length says
 pub told_long : (s : ℕ) (p : Rack) (xs : Blocks) (r : Reel) → AreReels p.reels → reel s p.reels ≡ Some r → blocks_of s p ≡ Some xs → length xs ≡ r.len

@@ -3,7 +3,7 @@ use Rattle.std.proofs.Common.{◌≡◌, ℕ, zero, suc, ◌+◌, ◌<◌, ◌�
 use Rattle.std.proofs.Math.ListN.{set}
 use Rattle.std.proofs.lemmas.Bool.{cases_eq, ne_eqb}
 use Rattle.std.proofs.lemmas.Bool.Decides.{eqb_tells}
-use Rattle.std.proofs.lemmas.List.{get_or-map, length-map, length-take-le, map_more, take_all}
+use Rattle.std.proofs.lemmas.List.{get_or-map, length-take-le, map_more}
 use Rattle.std.proofs.lemmas.Option.{get_or_from_slice_get}
 use Rattle.std.specs.Prelude.{find, slice_get}
 use Rattle.std.specs.Option.{option_or}
@@ -167,16 +167,6 @@ standings_next lost [] i n within is = elim within [ ]
 standings_next lost (r ∷ rs) i n within is =
     map_more (λ (x : Reel). standing_by x.serial lost) (r ∷ rs) i r within
     ∙ ap (λ (m : ℕ). standings_by lost (take i (r ∷ rs)) ++ standing_by m lost ∷ []) (serial_is (r ∷ rs) i n within is r)
-
-pub standings_long : (lost : List (ℕ × Twin)) (xs : List Reel) (i : ℕ) → i ≤ length xs → length (standings_by lost (take i xs)) ≡ i
-standings_long lost xs i far = length-map (take i xs) (λ (x : Reel). standing_by x.serial lost) ∙ length-take-le i xs far
-
-pub all_lost : (xs : List Reel) (ts : List Standing) (i : ℕ) → length xs ≤ i → length ts ≡ length xs → lost_of (take i xs) (take i ts) ≡ lost_of xs ts
-all_lost xs ts i far long =
-    ap (λ (rs : List Reel). lost_of rs (take i ts)) (take_all i xs far) ∙ ap (lost_of xs) (take_all i ts (omega (arith, far, long)))
-
-pub all_standings : (lost : List (ℕ × Twin)) (xs : List Reel) (i : ℕ) → length xs ≤ i → standings_by lost (take i xs) ≡ standings_by lost xs
-all_standings lost xs i far = ap (standings_by lost) (take_all i xs far)
 
 pub eq_from : (a b : ℕ) → (a == b) ≡ true → a ≡ b
 eq_from a b is =

@@ -1,24 +1,21 @@
 -- The calls on both twins of a reel.
-use Rattle.std.proofs.Common.{◌≡◌, ◌≢◌, ◌⊎◌, ◌↔◌, ℕ, List, [], ◌∷◌, Bool, true, false, not, ◌&&◌, ◌==◌, IsTrue, Option, Some, None, option_map, Result, Ok, Err, if◌then◌else◌, length, map, refl, sym, subst, ap, ◌∙◌, inl, inr}
+use Rattle.std.proofs.Common.{◌≡◌, ◌⊎◌, ℕ, List, Bool, true, false, ◌&&◌, Option, Some, None, option_map, Result, Ok, Err, if◌then◌else◌, map, refl, sym, subst, ap, ◌∙◌, inl, inr}
 use Rattle.std.specs.Option.{ForSome}
-use Rattle.g_base.specs.Counts.{Rose}
 use Rattle.g_tape.specs.Reel.{Reel}
 use Rattle.g_tape.specs.Rack.{Rack, reel, with_reel}
 use Rattle.g_tape.specs.Reads.{OnlyReads, blocks_in, blocks_of, unread}
 use Rattle.g_tape.proofs.ReadLemmas.{nothing_read, reel-with_reel, reel-with_reel_other, reel_after_reads}
 use Rattle.g_duplex.specs.Copying.{BothReels, HoldSame, IsWrittenAt, KeepsLabel, ReelAnswer, ReelCopied, SameReel}
 use Rattle.g_duplex.specs.Rebuild.{Agrees, Comparing, IsRewritten, PairCompares, PairRebuilds, Rebuilding, rack_at, rack_beside, refuses_both, refuses_rebuild, stands_rebuilt}
-use Rattle.g_duplex.specs.Twins.{AreTwins, DoAgree, beside_twin, is_lost, of_twin}
+use Rattle.g_duplex.specs.Twins.{DoAgree, beside_twin, is_lost, of_twin}
 use Rattle.g_duplex.specs.Pair.{ArePaired, Pair, standing_in, with_standing}
 use Rattle.g_duplex.specs.declared.fault.DuplexFault.{DuplexFault}
 use Rattle.g_duplex.specs.declared.fault.DuplexFault.TheVariants.{NoTape, NotMounted, NotEmptied, ReadFailed, WriteFailed}
 use Rattle.g_duplex.specs.declared.twin.Twin.{Twin}
 use Rattle.g_duplex.specs.declared.twin.Twin.TheVariants.{First, Second}
 use Rattle.g_duplex.specs.declared.twin.Standing.{Standing}
-use Rattle.g_duplex.specs.declared.twin.Standing.TheVariants.{Level, Lost}
 use Rattle.g_duplex.proofs.CopyLemmas.{mapped_some}
-use Rattle.g_duplex.proofs.MountLemmas.{none_seen}
-use Rattle.g_duplex.proofs.PairLemmas.{AreAt, at_of, paired_changed, same_reels}
+use Rattle.g_duplex.proofs.PairLemmas.{at_of, paired_changed, same_reels}
 use Rattle.g_duplex.proofs.PlaceLemmas.{long_standings, none_standing}
 use Rattle.g_duplex.proofs.ReadLemmas.{one_standing}
 use Rattle.g_duplex.proofs.UnreadLemmas.{paired_unread}
@@ -29,19 +26,6 @@ Blocks = List (List ℕ)
 -- WHETHER TWINS AGREE
 told_here : (s : ℕ) (p : Rack) (a : Reel) (bs : Blocks) → reel s p.reels ≡ Some a → a.blocks ≡ Some bs → blocks_of s p ≡ Some bs
 told_here s p a bs there told = ap blocks_in there ∙ told
-
-not_both : (b : Bool) → b ≡ true → b ≡ false → ⊥
-not_both b one two = let never : true ≡ false = sym one ∙ two in cc
-
-never_agrees : (s : ℕ) (p : Pair) (t : Standing) → standing_in s p ≡ Some t → is_lost t ≡ true → Agrees s p false
-never_agrees s p t stands lost = record {
-  long = λ e. absurd (let wrong : false ≡ true = e in cc);
-  well = λ e. absurd (let wrong : false ≡ true = e in cc);
-  told = λ u at a here b there xs told ys told'. (
-    λ e. absurd (let wrong : false ≡ true = e in cc),
-    λ both. absurd (not_both (is_lost u) (subst (λ (v : Standing). is_lost v ≡ true) (one_standing t u (standing_in s p) stands at) lost) both.0),
-  );
-}
 
 does_agree : (s : ℕ) (p : Pair) (t : Standing) (f' g' : Rack) (same : Bool) → standing_in s p ≡ Some t → is_lost t ≡ false → SameReel s p.first p.second (Ok same) f' g' → Agrees s p same
 does_agree s p t f' g' same stands fine is = record {
@@ -70,15 +54,6 @@ pair_compares s p t f' g' result stands fine free one two is = record {
   answer = comparing s p t f' g' result stands fine free is;
   first = one;
   second = two;
-  kept = refl;
-  standings = refl;
-}
-
-pub pair_not_compared : (s : ℕ) (p : Pair) (t : Standing) → standing_in s p ≡ Some t → is_lost t ≡ true → refuses_both (reel s p.first.reels) (reel s p.second.reels) ≡ None → PairCompares s p (Ok false) p
-pair_not_compared s p t stands lost free = record {
-  answer = (free, never_agrees s p t stands lost);
-  first = nothing_read p.first;
-  second = nothing_read p.second;
   kept = refl;
   standings = refl;
 }
@@ -226,53 +201,6 @@ paired_rebuilt s Second ts first second f' g' answer paired copied =
     let (g, keeps, is) = copied.written.change in
     second_rebuilt s ts first.reels second.reels f'.reels g'.reels paired (stands_rebuilt Second answer) g keeps is copied.source.reels
     (agree_second s first second f' g' answer g Second keeps is copied.source copied.answer)
-
--- refusals
-refused_rebuild : (x y : Option Reel) (why : DuplexFault) → refuses_rebuild x y ≡ Some why → (why ≡ NoTape) ⊎ (why ≡ NotMounted) ⊎ (why ≡ NotEmptied)
-refused_rebuild None y why is = let e : Some NoTape ≡ Some why = is in inl cc
-refused_rebuild (Some a) None why is = let e : Some NoTape ≡ Some why = is in inl cc
-refused_rebuild (Some a) (Some b) why is = by (a.mounted && b.mounted) ((b.len == 0) && not (a.len == 0)) is
-  where
-    by : (m e : Bool) → (if m then (if e then Some NotEmptied else None) else Some NotMounted) ≡ Some why → (why ≡ NoTape) ⊎ (why ≡ NotMounted) ⊎ (why ≡ NotEmptied)
-    by false x e = inr (inl (let e' : Some NotMounted ≡ Some why = e in cc))
-    by true true e = inr (inr (let e' : Some NotEmptied ≡ Some why = e in cc))
-    by true false e = absurd (cc)
-
-refused_rebuilding : (s : ℕ) (twin : Twin) (p : Pair) (why : DuplexFault) → (why ≡ NoTape) ⊎ (why ≡ NotMounted) ⊎ (why ≡ NotEmptied)
-    → refuses_rebuild (reel s (rack_at twin p).reels) (reel s (rack_beside twin p).reels) ≡ Some why → Rebuilding s twin p (Err why) p
-refused_rebuilding s twin p NoTape of is = (is, refl)
-refused_rebuilding s twin p NotMounted of is = (is, refl)
-refused_rebuilding s twin p NotEmptied of is = (is, refl)
-refused_rebuilding s twin p ReadFailed (inl e) is = absurd (cc)
-refused_rebuilding s twin p ReadFailed (inr (inl e)) is = absurd (cc)
-refused_rebuilding s twin p ReadFailed (inr (inr e)) is = absurd (cc)
-refused_rebuilding s twin p WriteFailed (inl e) is = absurd (cc)
-refused_rebuilding s twin p WriteFailed (inr (inl e)) is = absurd (cc)
-refused_rebuilding s twin p WriteFailed (inr (inr e)) is = absurd (cc)
-
-unwritten : (s : ℕ) (p : Rack) → IsRewritten s p p
-unwritten s p = record { others = λ u apart. refl; mounted = refl; read_faults = refl; arms = refl }
-
-pub pair_refuses_rebuild : (s : ℕ) (twin : Twin) (p : Pair) (why : DuplexFault) → refuses_rebuild (reel s (rack_at twin p).reels) (reel s (rack_beside twin p).reels) ≡ Some why
-    → PairRebuilds s twin p (Err why) p
-pair_refuses_rebuild s twin p why is = record {
-  answer = refused_rebuilding s twin p why (refused_rebuild (reel s (rack_at twin p).reels) (reel s (rack_beside twin p).reels) why is) is;
-  source = nothing_read (rack_beside twin p);
-  written = unwritten s (rack_at twin p);
-  kept = refl;
-}
-
-none_rebuild : (x y : Option Reel) → (x ≡ None) → (y ≡ None) → refuses_rebuild x y ≡ Some NoTape
-none_rebuild x y one two = rw one refl
-
-none_by_twin : (s : ℕ) (twin : Twin) (p : Pair) → reel s p.first.reels ≡ None → reel s p.second.reels ≡ None
-    → refuses_rebuild (reel s (rack_at twin p).reels) (reel s (rack_beside twin p).reels) ≡ Some NoTape
-none_by_twin s First p one two = none_rebuild (reel s p.first.reels) (reel s p.second.reels) one two
-none_by_twin s Second p one two = none_rebuild (reel s p.second.reels) (reel s p.first.reels) two one
-
-pub pair_rebuilds_none : (s : ℕ) (twin : Twin) (p : Pair) → ArePaired p.standings p.first.reels p.second.reels → reel s p.first.reels ≡ None → PairRebuilds s twin p (Err NoTape) p
-pair_rebuilds_none s twin p paired none =
-    pair_refuses_rebuild s twin p NoTape (none_by_twin s twin p none (none_seen s p.standings p.first.reels p.second.reels paired none).0)
 
 -- there is room for the copy
 pub same_room : (s : ℕ) (ts : List Standing) (xs ys : List Reel) → ArePaired ts xs ys → ForSome (reel s xs) (λ a. ForSome (reel s ys) (λ b. a.capacity ≡ b.capacity))

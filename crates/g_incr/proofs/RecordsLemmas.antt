@@ -67,16 +67,6 @@ below_with : (held : List ℕ) (n : ℕ) (flag : Bool) → All (λ k. k < n) hel
 below_with held n true all = All-push (λ k. k < n + 1) held n (All-weaker (λ k. k < n) (λ k. k < n + 1) (λ k less. omega arith) held all) (omega arith)
 below_with held n false all = subst (All (λ k. k < n + 1)) (sym (append-nil held)) (All-weaker (λ k. k < n) (λ k. k < n + 1) (λ k less. omega arith) held all)
 
--- USERS, one after the other
-pub no_users : (format : Format) → AreUsersIn format [] [] []
-no_users format = record {
-  blocks_are = refl;
-  numbered = λ i u is. absurd (let no : ⊥ = cc in no);
-  each = λ i d within. absurd (let no : ⊥ = omega arith in no);
-  rising = λ k within. absurd (let no : ⊥ = omega arith in no);
-  held_users = λ i d within. absurd (let no : ⊥ = omega arith in no);
-}
-
 pub one_more_user : (format : Format) (users : List UserRec) (held : List ℕ) (done : List (List ℕ)) (block : List ℕ) (u : UserRec) (flag : Bool) → AreUsersIn format users held done
     → u.number ≡ length users → IsUser format u → block ≡ user_block format (held_byte flag) u → AreUsersIn format (users ++ u ∷ []) (with_held held u.number flag) (done ++ block ∷ [])
 one_more_user format users held done block u flag so at is here =
@@ -135,14 +125,6 @@ users_are_one format us vs hs ks blocks so too =
       same_lists us vs long (λ i d within. (at i d within).0),
       same_held (length us) hs ks so.rising too.rising so.held_users (subst (λ (m : ℕ). All (λ n. n < m) ks) (sym long) too.held_users) (λ n below. (at n nobody below).1),
     )
-
--- FILES, one after the other
-pub no_files : (format : Format) → AreFilesIn format [] []
-no_files format = record {
-  blocks_are = refl;
-  numbered = λ i r is. absurd (let no : ⊥ = cc in no);
-  each = λ i d within. absurd (let no : ⊥ = omega arith in no);
-}
 
 length-files : (format : Format) (files : List FileRec) (blocks : List (List ℕ)) → AreFilesIn format files blocks → length blocks ≡ length files
 length-files format files blocks so = ap length so.blocks_are ∙ length-map files (block_of_file format)

@@ -1,8 +1,8 @@
 -- The rules of a dump, file by file.
-use Rattle.std.proofs.Common.{◌≡◌, ◌⊎◌, ◌↔◌, ℕ, suc, ◌+◌, ◌-◌, ◌*◌, ◌<◌, ◌≤◌, Bool, true, false, List, [], ◌∷◌, length, get_or, drop, refl, sym, ◌∙◌, ap, arith, subst, inl, inr}
+use Rattle.std.proofs.Common.{◌≡◌, ◌⊎◌, ◌↔◌, ℕ, suc, ◌+◌, ◌-◌, ◌*◌, ◌<◌, ◌≤◌, Bool, true, List, [], ◌∷◌, length, get_or, drop, sym, ◌∙◌, ap, arith, subst, inl, inr}
 use Rattle.std.specs.Prelude.{All, AllPairs, filter}
 use Rattle.std.proofs.Math.Seq.{drop-cons}
-use Rattle.std.proofs.lemmas.Bool.{cases_lt, cond-false, cond-true}
+use Rattle.std.proofs.lemmas.Bool.{cases_lt, cond-true}
 use Rattle.std.proofs.lemmas.List.{drop_all, get_or_default}
 use Rattle.g_base.specs.Block.{blocks_for}
 use Rattle.g_entry.specs.declared.file_rec.FileRec.{FileRec}
@@ -16,37 +16,8 @@ pub record HaveRisen (files : List FileRec) (i last : ℕ) : Type 0 where
   pub first : i ≡ 0 → last ≡ 0
   pub least : (d : FileRec) → 0 < i → (get_or files (i - 1) d).owner ≡ last
 
-pub none_risen : (files : List FileRec) → HaveRisen files 0 0
-none_risen files = record {
-  pairs = λ a b d before within. absurd (let no : ⊥ = omega arith in no);
-  most = λ a d within. absurd (let no : ⊥ = omega arith in no);
-  first = λ is. refl;
-  least = λ d some. absurd (let no : ⊥ = omega arith in no);
-}
-
 here_owner : (files : List FileRec) (i : ℕ) (r d : FileRec) → i < length files → r ≡ get_or files i r → (get_or files i d).owner ≡ r.owner
 here_owner files i r d within is = ap (λ (s : FileRec). s.owner) (get_or_default files i d r within ∙ sym is)
-
-pub one_more_risen : (files : List FileRec) (i last : ℕ) (r : FileRec) → i < length files → r ≡ get_or files i r → last ≤ r.owner → HaveRisen files i last → HaveRisen files (i + 1) r.owner
-one_more_risen files i last r within is above so = record {
-  pairs = λ a b d before below. pair a b d before below (cases_lt b i);
-  most = λ a d below. one a d below (cases_lt a i);
-  first = λ none. absurd (let no : ⊥ = omega (arith, none) in no);
-  least = λ d some. ap (λ (n : ℕ). (get_or files n d).owner) (let sum : i + 1 - 1 ≡ i = omega arith in sum) ∙ here_owner files i r d within is;
-}
-  where
-    pair : (a b : ℕ) (d : FileRec) → a < b → b < i + 1 → (b < i) ⊎ (i ≤ b) → (get_or files a d).owner ≤ (get_or files b d).owner
-    pair a b d before below (inl inside) = so.pairs a b d before inside
-    pair a b d before below (inr last_one) =
-        let at : b ≡ i = omega arith in
-        let most = so.most a d (omega arith) in
-        let same = ap (λ (n : ℕ). (get_or files n d).owner) at ∙ here_owner files i r d within is in omega arith
-
-    one : (a : ℕ) (d : FileRec) → a < i + 1 → (a < i) ⊎ (i ≤ a) → (get_or files a d).owner ≤ r.owner
-    one a d below (inl inside) = let most = so.most a d inside in omega arith
-    one a d below (inr last_one) =
-        let at : a ≡ i = omega arith in
-        let same = ap (λ (n : ℕ). (get_or files n d).owner) at ∙ here_owner files i r d within is in omega arith
 
 pub not_risen : (files : List FileRec) (i last : ℕ) (r : FileRec) → i < length files → r ≡ get_or files i r → r.owner < last → HaveRisen files i last → AllPairs (λ r s. r.owner ≤ s.owner) files → ⊥
 not_risen files i last r within is below so all = by_first (cases_lt 0 i)
@@ -59,9 +30,6 @@ not_risen files i last r within is below so all = by_first (cases_lt 0 i)
         let no : ⊥ = omega arith in no
     by_first (inr none) = let zero_last = so.first (omega arith) in let no : ⊥ = omega arith in no
 
-pub all_risen : (files : List FileRec) (i last : ℕ) → length files ≤ i → HaveRisen files i last → AllPairs (λ r s. r.owner ≤ s.owner) files
-all_risen files i last all so = λ a b d before within. so.pairs a b d before (omega arith)
-
 -- THE COPIES in a dump: those of the files from i on have to follow from `at`
 abbrev pub own : ℕ → ℕ → ℕ → FileRec → Bool
 own serial from to r = is_between serial from to r.tape
@@ -70,22 +38,9 @@ pub record HaveFollowed (serial from to : ℕ) (files : List FileRec) (i at : �
   pub low : at ≤ from + 128 * i
   pub rest : FollowOn at to (filter (own serial from to) (drop i files)) ↔ FollowOn from to (filter (own serial from to) files)
 
-pub none_followed : (serial from to : ℕ) (files : List FileRec) → HaveFollowed serial from to files 0 from
-none_followed serial from to files = record { low = omega arith; rest = (λ is. is, λ is. is) }
-
 module _ (serial from to : ℕ) (files : List FileRec) (i at : ℕ) (r : FileRec) (within : i < length files) (is : r ≡ get_or files i r) (so : HaveFollowed serial from to files i at) where
   here : drop i files ≡ r ∷ drop (i + 1) files
   here = drop-cons files i r within ∙ ap (λ (s : FileRec). s ∷ drop (suc i) files) (sym is) ∙ ap (λ (n : ℕ). r ∷ drop n files) (let sum : suc i ≡ i + 1 = omega arith in sum)
-
-  pub passes_by : own serial from to r ≡ false → HaveFollowed serial from to files (i + 1) at
-  passes_by other =
-      let rest = filter (own serial from to) (drop (i + 1) files) in
-      let same : filter (own serial from to) (drop i files) ≡ rest = ap (filter (own serial from to)) here ∙ cond-false (own serial from to r) (r ∷ rest) rest other in
-      let low = so.low in
-      record {
-        low = omega arith;
-        rest = (λ on. so.rest.0 (subst (FollowOn at to) (sym same) on), λ on. subst (FollowOn at to) same (so.rest.1 on));
-      }
 
   own_front : own serial from to r ≡ true → filter (own serial from to) (drop i files) ≡ r ∷ filter (own serial from to) (drop (i + 1) files)
   own_front mine =

@@ -9,11 +9,11 @@ use Rattle.g_base.specs.Counts.{Rose}
 use Rattle.g_tape.specs.declared.fault.TapeFault.{TapeFault}
 use Rattle.g_tape.specs.declared.fault.TapeFault.TheVariants as tape
 use Rattle.g_tape.specs.Reel.{Reel}
-use Rattle.g_tape.specs.Rack.{AreReels, Rack, Reading, is_mounted, reel, refuses_read, refuses_unmount, told_of}
+use Rattle.g_tape.specs.Rack.{AreReels, Rack, Reading, reel, refuses_read, refuses_unmount}
 use Rattle.g_tape.specs.Reads.{HasRead, OnlyReads, blocks_in, blocks_of, unread}
-use Rattle.g_tape.proofs.ReadLemmas.{allowed-read, blocks_after_reads, is_reel, more_reads, nothing_read, read_then, reading_only, reel_after_reads, then_read}
+use Rattle.g_tape.proofs.ReadLemmas.{blocks_after_reads, is_reel, more_reads, read_then, reading_only, reel_after_reads, then_read}
 use Rattle.g_incr.specs.declared.fault.ShelfFault.{ShelfFault}
-use Rattle.g_incr.specs.declared.fault.ShelfFault.TheVariants.{NoTape, NotMounted, ReadFault, NoMemory}
+use Rattle.g_incr.specs.declared.fault.ShelfFault.TheVariants.{NoTape, NotMounted, ReadFault}
 use Rattle.g_incr.specs.Reading.{ReadsReel}
 use Rattle.g_incr.proofs.ListLemmas.{get_drop, none_within}
 
@@ -37,18 +37,6 @@ same_refusal k (Some r) = by_tests r.mounted (nat_lt k r.len)
 
 refusal_is : (k : ℕ) (o : Option Reel) (e : Option TapeFault) → refuses_read k o ≡ e → refuses_unmount o ≡ refusal_of e
 refusal_is k o e is = sym (same_refusal k o) ∙ ap refusal_of is
-
-pub refusal_no_tape : (o : Option Reel) (fault : TapeFault) → told_of (λ r. r.len) o ≡ Err fault → refuses_unmount o ≡ Some tape.NoTape
-refusal_no_tape None fault is = refl
-refusal_no_tape (Some r) fault is = absurd (let no : ⊥ = cc in no)
-
-pub refusal_free : (o : Option Reel) (mounted : Bool) → mounted ≡ is_mounted o → mounted ≡ true → refuses_unmount o ≡ None
-refusal_free None mounted is there = absurd (let no : ⊥ = cc in no)
-refusal_free (Some r) mounted is there = ap (λ (b : Bool). if b then None else Some tape.NotMounted) (sym is ∙ there)
-
-pub refusal_not_mounted : (o : Option Reel) (n : ℕ) (mounted : Bool) → told_of (λ r. r.len) o ≡ Ok n → mounted ≡ is_mounted o → mounted ≡ false → refuses_unmount o ≡ Some tape.NotMounted
-refusal_not_mounted None n mounted told is there = absurd (let no : ⊥ = cc in no)
-refusal_not_mounted (Some r) n mounted told is there = ap (λ (b : Bool). if b then None else Some tape.NotMounted) (sym is ∙ there)
 
 -- what reads leave of a refusal
 unread_refusal : (o : Option Reel) → refuses_unmount (option_map unread o) ≡ refuses_unmount o
@@ -120,47 +108,6 @@ module _ (s : ℕ) (old new : Rack) where
     kept = λ other. kept;
   }
 
-  reads_no_tape : OnlyReads old new → refuses_unmount (reel s old.reels) ≡ Some tape.NoTape → new.read_faults ≡ old.read_faults → ReadsTape s old (Some NoTape) new
-  reads_no_tape only refused kept = record {
-    only = only;
-    no_tape = (λ is. refused, λ is. refl);
-    not_mounted = (λ is. absurd (let no : ⊥ = cc in no), λ is. absurd (let no : ⊥ = cc in no));
-    rose = λ is. absurd (let no : ⊥ = cc in no);
-    kept = λ other. kept;
-  }
-
-  reads_not_mounted : OnlyReads old new → refuses_unmount (reel s old.reels) ≡ Some tape.NotMounted → new.read_faults ≡ old.read_faults → ReadsTape s old (Some NotMounted) new
-  reads_not_mounted only refused kept = record {
-    only = only;
-    no_tape = (λ is. absurd (let no : ⊥ = cc in no), λ is. absurd (let no : ⊥ = cc in no));
-    not_mounted = (λ is. refused, λ is. refl);
-    rose = λ is. absurd (let no : ⊥ = cc in no);
-    kept = λ other. kept;
-  }
-
-  reads_fault : OnlyReads old new → refuses_unmount (reel s old.reels) ≡ None → Rose old.read_faults new.read_faults → ReadsTape s old (Some ReadFault) new
-  reads_fault only free rose = record {
-    only = only;
-    no_tape = (λ is. absurd (let no : ⊥ = cc in no), λ is. absurd (let no : ⊥ = cc in no));
-    not_mounted = (λ is. absurd (let no : ⊥ = cc in no), λ is. absurd (let no : ⊥ = cc in no));
-    rose = λ is. rose;
-    kept = λ other. absurd (other refl);
-  }
-
-  -- a reader that had read found no memory
-  pub reads_memory : ReadsTape s old None new → ReadsTape s old (Some NoMemory) new
-  reads_memory so = record {
-    only = so.only;
-    no_tape = (λ is. absurd (let no : ⊥ = cc in no), λ refused. absurd (let is = so.no_tape.1 refused in let no : ⊥ = cc in no));
-    not_mounted = (λ is. absurd (let no : ⊥ = cc in no), λ refused. absurd (let is = so.not_mounted.1 refused in let no : ⊥ = cc in no));
-    rose = λ is. absurd (let no : ⊥ = cc in no);
-    kept = λ other. so.kept (λ is. absurd (let no : ⊥ = cc in no));
-  }
-
--- nothing was read
-pub reads_nothing : (s : ℕ) (rack : Rack) → refuses_unmount (reel s rack.reels) ≡ None → ReadsTape s rack None rack
-reads_nothing s rack free = reads_ok s rack rack (nothing_read rack) free refl
-
 -- one reader behind another
 pub reads_then : (s : ℕ) (first middle last : Rack) (fault : Option ShelfFault) → ReadsTape s first None middle → ReadsTape s middle fault last → ReadsTape s first fault last
 reads_then s first middle last fault one two =
@@ -192,15 +139,6 @@ module _ (s k : ℕ) (old new : Rack) (into : List ℕ) where
   pub good_reads : Reading s k old (Ok tt) into new → ReadsTape s old None new
   good_reads is = reads_ok s old new (reading_only s k old new (Ok tt) into is) (refusal_is k (reel s old.reels) None is.0) (ap (λ (r : Rack). r.read_faults) is.2)
 
-  pub good_found : Reading s k old (Ok tt) into new → ForSome (blocks_of s old) (λ bs. slice_get bs k ≡ Some into)
-  good_found is = told_in (reel s old.reels) (λ bs. slice_get bs k ≡ Some into) is.1
-
-  pub good_within : Reading s k old (Ok tt) into new → ForSome (reel s old.reels) (λ r. k < r.len)
-  good_within is = λ r at. allowed-read k r (ap (refuses_read k) (sym at) ∙ is.0)
-
-  pub end_reads : Reading s k old (Err tape.End) into new → ReadsTape s old None new
-  end_reads is = reads_ok s old new (reading_only s k old new (Err tape.End) into is) (refusal_is k (reel s old.reels) (Some tape.End) is.0) (ap (λ (r : Rack). r.read_faults) is.1)
-
   pub end_past : Reading s k old (Err tape.End) into new → ForSome (reel s old.reels) (λ r. r.len ≤ k)
   end_past is = λ r at. ended k r (ap (refuses_read k) (sym at) ∙ is.0)
 
@@ -209,15 +147,6 @@ module _ (s k : ℕ) (old new : Rack) (into : List ℕ) where
       let past = end_past is r at in
       let long = (is_reel s old.reels r are.each at).told bs told in
       slice_get_past bs k (omega arith))
-
-  pub no_tape_reads : Reading s k old (Err tape.NoTape) into new → ReadsTape s old (Some NoTape) new
-  no_tape_reads is = reads_no_tape s old new (reading_only s k old new (Err tape.NoTape) into is) (refusal_is k (reel s old.reels) (Some tape.NoTape) is.0) (ap (λ (r : Rack). r.read_faults) is.1)
-
-  pub not_mounted_reads : Reading s k old (Err tape.NotMounted) into new → ReadsTape s old (Some NotMounted) new
-  not_mounted_reads is = reads_not_mounted s old new (reading_only s k old new (Err tape.NotMounted) into is) (refusal_is k (reel s old.reels) (Some tape.NotMounted) is.0) (ap (λ (r : Rack). r.read_faults) is.1)
-
-  pub failed_reads : Reading s k old (Err tape.ReadFailed) into new → ReadsTape s old (Some ReadFault) new
-  failed_reads is = reads_fault s old new (reading_only s k old new (Err tape.ReadFailed) into is) (refusal_is k (reel s old.reels) None is.0) is.1
 
 -- the length of a reel stays through reads
 pub same_len : (s : ℕ) (old mid : Rack) → OnlyReads old mid → (r : Reel) → reel s old.reels ≡ Some r → (q : Reel) × (reel s mid.reels ≡ Some q) × (q.len ≡ r.len)
@@ -236,14 +165,6 @@ pub record HaveRead (s from k : ℕ) (blocks : List (List ℕ)) (old new : Rack)
   pub at : k ≡ from + length blocks
   pub found : ForSome (blocks_of s old) (λ bs. blocks ≡ take (length blocks) (drop from bs))
   pub read : (j : ℕ) → from ≤ j → j < k → HasRead s j old new
-
-pub none_read : (s from : ℕ) (rack : Rack) → refuses_unmount (reel s rack.reels) ≡ None → HaveRead s from from [] rack rack
-none_read s from rack free = record {
-  reads = reads_nothing s rack free;
-  at = (let sum : from ≡ from + 0 = omega arith in sum);
-  found = λ bs told. refl;
-  read = λ j least below. absurd (let no : ⊥ = omega arith in no);
-}
 
 module _ (s from k : ℕ) (blocks : List (List ℕ)) (old mid : Rack) (so : HaveRead s from k blocks old mid) where
   same_blocks : blocks_of s mid ≡ blocks_of s old
@@ -283,10 +204,6 @@ module _ (s from k : ℕ) (blocks : List (List ℕ)) (old mid : Rack) (so : Have
       let (q, is, len) = same_len s old mid so.reads.only r there in
       let over = past q is in
       let at = so.at in omega arith
-
-  -- all of them were read
-  pub all_read : (count : ℕ) → k ≡ from + count → ForSome (blocks_of s old) (λ bs. blocks ≡ take count (drop from bs))
-  all_read count all = λ bs told. so.found bs told ∙ ap (λ (m : ℕ). take m (drop from bs)) (let same : length blocks ≡ count = let at = so.at in omega arith in same)
 
 -- a reader whose answer is handed on, behind reads that went well
 pub then_reel : {A : Type 0} (s : ℕ) (first middle last : Rack) (result : Result A ShelfFault) → ReadsTape s first None middle → ReadsReel s result middle last → ReadsReel s result first last

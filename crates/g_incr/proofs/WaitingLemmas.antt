@@ -1,11 +1,11 @@
 -- What waits ahead of each file of a plan, and the version that has a block of content.
-use Rattle.std.proofs.Common.{◌≡◌, ◌⊎◌, inl, inr, ℕ, ◌+◌, ◌-◌, ◌*◌, ◌<◌, ◌≤◌, true, false, List, [], ◌∷◌, ◌++◌, length, take, drop, get_or, refl, sym, ◌∙◌, ap, arith, leb, slice_get, subst, Bool}
+use Rattle.std.proofs.Common.{◌≡◌, ◌⊎◌, inl, inr, ℕ, ◌+◌, ◌-◌, ◌*◌, ◌<◌, ◌≤◌, true, false, List, [], ◌∷◌, ◌++◌, length, take, drop, get_or, sym, ◌∙◌, ap, arith, leb, slice_get, subst, Bool}
 use denote.Ref.{Bor}
 use denote.Param.Members.{Mut}
 use Rattle.std.specs.Fn.{Called, ComputesKey}
 use Rattle.std.specs.List.Sorted.{IsNonDecreasingBy, IsPartitionPoint, IsPartitionedBy}
 use Rattle.std.proofs.lemmas.Bool.{cases_Bool, cases_lt, cond-false, cond-true, leb-false, leb-true}
-use Rattle.std.proofs.lemmas.List.{append-nil, get_or_append_left, get_or_push, length-append, length_push, take-append-drop, take-take, take_all, take_at, take_more}
+use Rattle.std.proofs.lemmas.List.{append-nil, take-append-drop, take-take, take_all, take_at, take_more}
 use Rattle.std.proofs.lemmas.List.Sorted.{IsPartitionPoint-from_clause, IsPartitionedBy-leb}
 use Rattle.std.proofs.lemmas.List.Elements.{filter-append}
 use Rattle.std.proofs.lemmas.List.Sums.{sum_by-append, sum_by-cons}
@@ -28,35 +28,6 @@ keeps_one r is = cond-false (waits r) (r ∷ []) [] is
 waiting_more : (files : List FileRec) (i : ℕ) (r : FileRec) → i < length files → r ≡ get_or files i r → waiting (take (i + 1) files) ≡ waiting (take i files) ++ waiting (r ∷ [])
 waiting_more files i r within is =
     ap waiting (take_more files i r within) ∙ filter-append waits (take i files) (get_or files i r ∷ []) ∙ ap (λ (s : FileRec). waiting (take i files) ++ waiting (s ∷ [])) (sym is)
-
--- THE COUNT, file by file
-pub ahead_first : (files : List FileRec) → AreAhead files 0 [] × IsAhead files 0 (record { versions = 0; blocks = 0 })
-ahead_first files = (record { long = refl; each = λ i d within. let no : ⊥ = omega (arith, within) in absurd no }, record { versions = refl; few = omega arith; blocks = refl; most = omega arith })
-
-pub ahead_more : (files : List FileRec) (n : ℕ) (all : List Ahead) (a : Ahead) → AreAhead files n all → IsAhead files n a → AreAhead files (n + 1) (all ++ a ∷ [])
-ahead_more files n all a before here =
-    record { long = length_push all a ∙ ap (λ (m : ℕ). m + 1) before.long; each = λ i d within. by_place i d within (cases_lt i n) }
-  where
-    by_place : (i : ℕ) (d : Ahead) → i < n + 1 → (i < n) ⊎ (n ≤ i) → IsAhead files i (get_or (all ++ a ∷ []) i d)
-    by_place i d within (inl low) =
-        let long = before.long in
-        subst (IsAhead files i) (sym (get_or_append_left all (a ∷ []) d i (omega (arith, long)))) (before.each i d low)
-    by_place i d within (inr last) =
-        let same : n ≡ i = omega (arith, within, last) in
-        subst (IsAhead files i) (sym (get_or_push all a d i (before.long ∙ same))) (subst (λ (m : ℕ). IsAhead files m a) same here)
-
-pub ahead_waits : (files : List FileRec) (i : ℕ) (a : Ahead) (r : FileRec) → i < length files → r ≡ get_or files i r → waits r ≡ true → blocks_for r.len ≤ 128 → IsAhead files i a
-    → IsAhead files (i + 1) (record { versions = a.versions + 1; blocks = a.blocks + blocks_for r.len })
-ahead_waits files i a r within is wait small so =
-    let versions = so.versions in
-    let few = so.few in
-    let blocks = so.blocks in
-    let most = so.most in
-    let more = waiting_more files i r within is ∙ ap (λ (l : List FileRec). waiting (take i files) ++ l) (waits_one r wait) in
-    let long = ap length more ∙ length-append (waiting (take i files)) (r ∷ []) in
-    let sum = ap blocks_of more ∙ sum_by-append (λ (s : FileRec). blocks_for s.len) (waiting (take i files)) (r ∷ []) in
-    let one = sum_by-cons (λ (s : FileRec). blocks_for s.len) r [] in
-    record { versions = omega (arith, long); few = omega arith; blocks = omega (arith, sum, one); most = omega arith }
 
 pub ahead_keeps : (files : List FileRec) (i : ℕ) (a : Ahead) (r : FileRec) → i < length files → r ≡ get_or files i r → waits r ≡ false → IsAhead files i a → IsAhead files (i + 1) a
 ahead_keeps files i a r within is wait so =

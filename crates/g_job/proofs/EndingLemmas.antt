@@ -1,5 +1,5 @@
 -- The end of a turn in the code: the job's rules, and that it is the end that is defined.
-use Rattle.std.proofs.Common.{◌≡◌, ℕ, ◌+◌, ◌<◌, Bool, true, false, List, ◌++◌, append_assoc, length, Option, Some, None, is_some, option_map, refl, sym, ap, ◌∙◌, subst}
+use Rattle.std.proofs.Common.{◌≡◌, ℕ, ◌+◌, ◌<◌, Bool, true, false, List, ◌++◌, length, Option, Some, None, is_some, option_map, refl, sym, ap, ◌∙◌, subst}
 use Rattle.std.proofs.lemmas.Bool.{true≢false}
 use Rattle.std.specs.Fn.{FnReturnsAt, Shared}
 use denote.Ref.{Bor}
@@ -135,11 +135,6 @@ module _ {F : Type 0} (calls : Shared F (Bor Usage × Unit {0}) Charge) (rule : 
         ∙ ap (λ (k : JobState). let end : Option (Turn × JobState) = Some (turn.Broken, record k { monitor = j.monitor ++ w.text; over = true }) in end) (cleared j clear)
         ∙ ap (λ (k : JobState). let end : Option (Turn × JobState) = Some (turn.Broken, k) in end) (sym behind),
   )
-
--- a last line behind a text that stands behind another
-pub behind_last : (before text : List ℕ) (last : Option (List ℕ)) → before ++ with_last text last ≡ with_last (before ++ text) last
-behind_last before text None = refl
-behind_last before text (Some last) = sym (append_assoc before text last)
 
 pub is_last : {X : Type 0} (f : X → List ℕ) (line : Option X) → is_some line ≡ is_some (option_map ended (option_map f line))
 is_last f None = refl

@@ -1,14 +1,12 @@
 -- A job at a terminal: when it is ready, and what a turn leaves of its document.
-use Rattle.std.proofs.Common.{◌≡◌, ◌∙◌, ◌<◌, Bool, true, false, IfSome, List, [], ◌∷◌, Option, Some, None, ap, arith, inr, is_some, length, option_map, refl, subst, sym, ℕ, ◌||◌}
-use Rattle.std.proofs.lemmas.Bool.{false≢true}
+use Rattle.std.proofs.Common.{◌≡◌, ◌∙◌, ◌<◌, Bool, true, false, IfSome, List, [], ◌∷◌, Option, Some, None, ap, arith, inr, is_some, length, refl, subst, ℕ, ◌||◌}
 use Rattle.std.specs.Fn.{Shared}
 use denote.Ref.{Bor}
 use Rattle.g_turn.proofs.DocumentLemmas.{begins_leaves}
 use Rattle.g_turn.proofs.WellThen.{well_gives}
 use Rattle.g_turn.specs.Bounds.{AlwaysGives}
-use Rattle.g_turn.specs.State.{Broken, Desk, Done, Full, Pending, Stop, Waits, Work}
+use Rattle.g_turn.specs.State.{Broken, Done, Full, Stop, Waits, Work}
 use Rattle.g_turn.specs.Steps.{RanWell}
-use Rattle.g_turn.specs.Typing.{can_go_on}
 use Rattle.g_budget.specs.declared.tariff.Charge.{Charge}
 use Rattle.g_budget.specs.declared.tariff.Usage.{Usage}
 use Rattle.g_job.specs.Beginning.{begin, room_of}
@@ -16,20 +14,15 @@ use Rattle.g_job.specs.TurnEnd.{IsTurn, behind_turn, charged, end_by, last_line}
 use Rattle.g_job.specs.Rules.{IsJob}
 use Rattle.g_job.specs.Spending.{KeepsSeat}
 use Rattle.g_job.specs.State.{JobState}
-use Rattle.g_job.specs.Terminal.{LeavesDocument, is_ready, logged_out, seated, typed_lines, typed_to, with_stack}
+use Rattle.g_job.specs.Terminal.{LeavesDocument, is_ready, typed_lines, typed_to, with_stack}
 use Rattle.g_job.specs.Turns.{turn_work}
 use Rattle.g_job.specs.declared.turn.Turn.{Turn}
 use Rattle.g_macro.proofs.HoldingLemmas.{are_ready_stays}
 use Rattle.g_macro.specs.Holding.{are_ready, line_added, with_document, with_typed}
 use Rattle.g_macro.specs.Levels.{Level, Stack}
-use Rattle.g_job.proofs.EndingLemmas.{clear_rules}
 use Rattle.g_job.proofs.RulesLemmas.{rules_of_rest}
 use Rattle.g_plain.specs.Programs.{Answer}
 use Rattle.g_plain.specs.declared.calls.StoreCall.{StoreCall}
-
-or_true : (b : Bool) → (b || true) ≡ true
-or_true true = refl
-or_true false = refl
 
 -- what was ready stays so with a line more
 pub typed_stays : (j : JobState) (line : List ℕ) → is_ready j ≡ true → is_ready (typed_to line j) ≡ true
@@ -39,47 +32,6 @@ typed_stays j line ready = by (is_some j.desk.running) (is_some j.pending) ready
     by true waits is = refl
     by false true is = refl
     by false false is = are_ready_stays line j.desk.levels is
-
--- what isn't ready waits for its levels alone
-pub waits_for_lines : (j : JobState) → is_ready j ≡ false → can_go_on j.desk ≡ false
-waits_for_lines j waits = by (is_some j.desk.running) (is_some j.pending) waits
-  where
-    by : (runs waits' : Bool) → (runs || (waits' || are_ready j.desk.levels)) ≡ false → (runs || are_ready j.desk.levels) ≡ false
-    by true waits' is = absurd (false≢true (sym is))
-    by false true is = absurd (false≢true (sym is))
-    by false false is = is
-
-pub typed_goes_on : (j : JobState) (line : List ℕ) → is_ready j ≡ false → can_go_on (typed_to line j).desk ≡ is_ready (typed_to line j)
-typed_goes_on j line waits = by (is_some j.desk.running) (is_some j.pending) waits
-  where
-    by : (runs waits' : Bool) → (runs || (waits' || are_ready j.desk.levels)) ≡ false
-        → (runs || are_ready (with_typed line j.desk.levels)) ≡ (runs || (waits' || are_ready (with_typed line j.desk.levels)))
-    by true waits' is = refl
-    by false true is = absurd (false≢true (sym is))
-    by false false is = refl
-
--- what waited, and what is on the desk
-pub ready_again : {A : Type 0} → (pending_of : A → Pending) (again : Option A) (j : JobState) → option_map pending_of again ≡ j.pending → (is_some again || can_go_on j.desk) ≡ is_ready j
-ready_again pending_of None j is = ap (λ (p : Option Pending). is_some j.desk.running || (is_some p || are_ready j.desk.levels)) is
-ready_again pending_of (Some again) j is = sym (or_true (is_some j.desk.running)) ∙ ap (λ (p : Option Pending). is_some j.desk.running || (is_some p || are_ready j.desk.levels)) is
-
--- behind a turn nothing waits, and the desk tells it
-pub looked_at : {A : Type 0} → (pending_of : A → Pending) (again : Option A) (desk left : Desk) (ready : Bool) → ready ≡ can_go_on desk → left ≡ desk → again ≡ None
-    → ready ≡ (is_some left.running || (is_some (option_map pending_of again) || are_ready left.levels))
-looked_at {A} pending_of again desk left ready is same none =
-    is ∙ ap can_go_on (sym same) ∙ ap (λ (a : Option A). is_some left.running || (is_some (option_map pending_of a) || are_ready left.levels)) (sym none)
-
-pub made_rules : (j : JobState) (desk : Desk) (pending : Option Pending) → pending ≡ None → IsJob j → IsJob (record j { desk = desk; pending = pending; wants = None })
-made_rules j desk pending none rules =
-    subst (λ (p : Option Pending). IsJob (record j { desk = desk; pending = p; wants = None })) (sym none) (clear_rules j desk rules)
-
--- what waits is ready
-pub waits_ready : (j : JobState) → is_some j.pending ≡ true → true ≡ is_ready j
-waits_ready j there = sym (ap (λ (b : Bool). is_some j.desk.running || (b || are_ready j.desk.levels)) there ∙ or_true (is_some j.desk.running))
-
--- once it is logged out, it is ready
-pub out_ready : (j : JobState) → is_ready (logged_out j) ≡ true
-out_ready j = ap (λ (b : Bool). is_some j.desk.running || b) (or_true (is_some j.pending)) ∙ or_true (is_some j.desk.running)
 
 -- THE RULES of a job stand where its levels change, and none of them goes
 pub rules_with : (change : Stack → Stack) (j : JobState) → (0 < length j.desk.levels.levels → 0 < length (change j.desk.levels).levels) → IsJob j → IsJob (with_stack change j)
@@ -93,9 +45,6 @@ document_there change (level ∷ other ∷ below) some = omega arith
 
 pub typed_rules : (line : List ℕ) (j : JobState) → IsJob j → IsJob (typed_to line j)
 typed_rules line j rules = rules_with (with_typed line) j (document_there (line_added line) j.desk.levels.levels) rules
-
-pub seated_rules : (t : ℕ) (j : JobState) → IsJob j → IsJob (seated t j)
-seated_rules t j rules = rules_of_rest j rules j.desk j.pending j.wants (Some t) rules.waits rules.goes_on rules.level
 
 -- THE PROGRAM OF A TURN leaves the document
 pub leaves_document : (j : JobState) → IsJob j → AlwaysGives (LeavesDocument j) (turn_work j)

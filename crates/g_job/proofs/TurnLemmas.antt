@@ -12,7 +12,6 @@ use Rattle.g_turn.specs.Bounds.{IsKeptWithin, IsWithin}
 use Rattle.g_turn.specs.Causes.{CauseOf, last_answer}
 use Rattle.g_job.specs.TurnEnd.{IsPriced, IsTurn, end_by, turn_end}
 use Rattle.g_turn.specs.LineWork.{IsAgain, IsReady}
-use Rattle.g_turn.specs.Making.{FewBlocks}
 use Rattle.g_job.specs.Making.{Makes}
 use Rattle.g_job.specs.Rules.{IsGoneOnWith, IsJob, IsPending}
 use Rattle.g_job.specs.Spending.{ComesTo, Spends, ToldAsBefore}
@@ -37,23 +36,6 @@ use Rattle.g_plain.specs.declared.calls.StoreCall.{StoreCall}
 pub both_ok : {T E A B C : Type 0} (r : Result T E) → (A → B → C) → OnOk r A → OnOk r B → OnOk r C
 both_ok (Ok x) follows a b = follows a b
 both_ok (Err e) follows a b = tt
-
--- what a job waits with is within what a turn begins with
-few_of : (monitor : List ℕ) (p : Option Pending) → IfSome p (IsPending monitor) → IfSome p FewBlocks
-few_of monitor None is = tt
-few_of monitor (Some (AgainLine text)) is = tt
-few_of monitor (Some (AgainCommand text orders blocks command)) is = is.blocks_few
-
-again_of : (monitor : List ℕ) (p : Option Pending) → IfSome p (IsPending monitor) → IfSome p IsAgain
-again_of monitor None is = tt
-again_of monitor (Some (AgainLine text)) is = tt
-again_of monitor (Some (AgainCommand text orders blocks command)) is = is.command_text
-
-pub few_waiting : (j : JobState) → IsJob j → IfSome j.pending FewBlocks
-few_waiting j rules = few_of j.monitor j.pending rules.goes_on
-
-pub command_waiting : (j : JobState) → IsJob j → IfSome j.pending IsAgain
-command_waiting j rules = again_of j.monitor j.pending rules.goes_on
 
 -- and what a turn is gone on with is such
 pending_of : (monitor : List ℕ) (room : ℕ) (most : ℕ) (p : Option Pending) → length monitor + room ≤ 1048576 → IfSome p (IsKeptWithin room) → IfSome p IsAgain → IfSome p (IsPending monitor)

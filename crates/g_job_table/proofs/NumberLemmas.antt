@@ -1,9 +1,8 @@
 -- Jobs by number: the order of numbers is kept, and a job at a place is the one of its number.
-use Rattle.std.proofs.Common.{◌≡◌, ◌+◌, ◌-◌, ◌<◌, ◌≤◌, ◌∙◌, ◌==◌, ◌++◌, ◌∷◌, [], All, Bool, List, None, Some, ap, arith, cond, drop, eq-eqb, false, filter, get_or, length, length-set, ne_eqb, not, refl, set, slice_get, slice_index_or, subst, suc, sym, take, true, zero, ℕ}
-use Rattle.std.proofs.Math.ListN.{drop_of_length-le}
-use Rattle.std.specs.List.{remove, swap_remove}
+use Rattle.std.proofs.Common.{◌≡◌, ◌+◌, ◌-◌, ◌<◌, ◌≤◌, ◌∙◌, ◌==◌, ◌++◌, ◌∷◌, [], All, Bool, List, None, Some, ap, arith, cond, eq-eqb, false, filter, get_or, length, length-set, ne_eqb, not, refl, set, slice_get, subst, suc, sym, true, zero, ℕ}
+use Rattle.std.specs.List.{remove}
 use Rattle.std.proofs.lemmas.Bool.{cond_both}
-use Rattle.std.proofs.lemmas.List.{append-nil, drop-set-lt, length_push, take-set, take-set-le}
+use Rattle.std.proofs.lemmas.List.{drop-set-lt, length_push, take-set}
 use Rattle.std.proofs.lemmas.List.Edits.{length-remove}
 use Rattle.std.proofs.lemmas.List.Elements.{All-filter, All-get_or, All-nil, All-push, All-set}
 use Rattle.std.proofs.lemmas.Option.{get_or_from_slice_get, none-some, same_Some, slice_get_within}
@@ -197,12 +196,3 @@ found-pushed low (k ∷ jobs) next j (first, more) is =
 -- what stands at a place is one job
 pub same-at : (jobs : List JobState) (place : ℕ) (job a b : JobState) → slice_get jobs place ≡ Some job → a ≡ get_or jobs place a → b ≡ get_or jobs place b → a ≡ b
 same-at jobs place job a b there first second = first ∙ get_or_from_slice_get jobs place job a there ∙ sym (second ∙ get_or_from_slice_get jobs place job b there)
-
--- to put the last one in the place of the last one is to take it out
-pub last_out : (jobs : List JobState) (place : ℕ) (job : JobState) → place + 1 ≡ length jobs → swap_remove jobs place job ≡ remove jobs place
-last_out jobs place job last =
-    let less : length jobs - 1 ≤ place = omega (arith, last) in
-    let same : length jobs - 1 ≡ place = omega (arith, last) in
-    let none : drop (suc place) jobs ≡ [] = drop_of_length-le jobs {i = suc place} (omega (arith, last)) in
-    take-set-le (length jobs - 1) jobs place (slice_index_or jobs (length jobs - 1) job) less ∙ ap (λ (n : ℕ). take n jobs) same
-    ∙ sym (append-nil (take place jobs)) ∙ ap (λ (js : List JobState). take place jobs ++ js) (sym none)

@@ -46,13 +46,6 @@ user_in-more users i u user within is =
     ap (λ us. user_in us user) (take_more users i u within ∙ ap (λ (r : UserRec). take i users ++ r ∷ []) (sym is))
     ∙ find-append (λ (r : UserRec). same_text r.user user) (take i users) (u ∷ [])
 
-pub Opens-none : (old : List Account) → Opens old [] old
-Opens-none old user = or_none (kept_for old user)
-  where
-    or_none : (o : Option Account) → o ≡ option_or o None
-    or_none None = refl
-    or_none (Some x) = refl
-
 -- the next user has an account
 pub Opens-has : (old now : List Account) (users : List UserRec) (i : ℕ) (u : UserRec) → Opens old (take i users) now → i < length users → u ≡ get_or users i u
     → is_some (kept_for now u.user) ≡ true → Opens old (take (i + 1) users) now

@@ -1,6 +1,6 @@
 -- In which order a job is refused.
-use Rattle.std.proofs.Common.{◌≡◌, ◌<◌, ◌≤◌, ◌∙◌, Bool, None, Option, Some, List, ap, arith, cond, false, length, nat_le, nat_lt, not, subst, sym, true, unwrap_or, codes, ℕ}
-use Rattle.std.proofs.lemmas.Bool.{le-leb, le-ltb, lt-leb, lt-ltb}
+use Rattle.std.proofs.Common.{◌≡◌, ◌<◌, ◌≤◌, ◌∙◌, Bool, None, Option, Some, List, ap, arith, cond, false, length, nat_lt, not, subst, sym, true, unwrap_or, codes, ℕ}
+use Rattle.std.proofs.lemmas.Bool.{le-ltb, lt-leb, lt-ltb}
 use Rattle.std.specs.Prelude.{is_some}
 use Rattle.g_mop.specs.Seats.{busy_text}
 use Rattle.g_monitor.specs.Parts.{with_numbers}
@@ -41,9 +41,6 @@ module _ (w : World) (c : CrewState) (user : List ℕ) (time money : ℕ) (crew 
 
   abbrev asked_poor : Bool
   asked_poor = nat_lt (money_left account w.jobs) money
-
-  pub room-full : 64 ≤ length c.jobs → room ≡ Some (codes "41 JOBS FULL")
-  room-full full = ap (λ (f : Bool). refused f asked_short asked_poor) (le-leb 64 (length w.jobs) (omega (arith, full, ap length crew.jobs)))
 
   module _ (left : Account) (few : length c.jobs < 64) (is_left : IsLeft c.accounts c.jobs user left) where
     left_in : (left.time ≡ time_left account w.jobs) × (left.money ≡ money_left account w.jobs)
@@ -86,9 +83,6 @@ module _ (w : World) (c : CrewState) (known : Bool) (t : ℕ) (user : List ℕ) 
 
   abbrev asked_there : Bool → Bool → Option (List ℕ)
   asked_there u b = cond (not u) (Some (fault_line StoreNoUser)) (cond b (Some (busy_text t)) room_there)
-
-  pub login-unknown : known ≡ false → login_refusal w t user time ≡ Some (fault_line StoreNoUser)
-  login-unknown is = ap (λ (u : Bool). asked_there u (is_some (job_at t w.jobs))) (knows ∙ is)
 
   pub login-busy : known ≡ true → is_some (job_at t c.jobs) ≡ true → login_refusal w t user time ≡ Some (busy_text t)
   login-busy is busy =

@@ -1,17 +1,17 @@
 -- What is known of a reel stays known, and what stands behind it is found.
-use Rattle.std.proofs.Common.{◌≡◌, ◌⊎◌, ◌↔◌, ℕ, zero, suc, ◌+◌, ◌-◌, ◌^◌, ◌<◌, ◌≤◌, ◌==◌, Bool, true, false, List, [], ◌∷◌, ◌++◌, length, Option, Some, None, Result, Ok, Err, refl, sym, ◌∙◌, ap, arith, slice_get, subst, inl, inr, map, All, take, get_or, append_assoc, append-nil, eq-eqb}
-use Rattle.std.specs.Prelude.{Contains, IsTrue, OnErr, OnOk, option_map, if◌then◌else◌}
+use Rattle.std.proofs.Common.{◌≡◌, ◌⊎◌, ℕ, zero, suc, ◌+◌, ◌-◌, ◌^◌, ◌<◌, ◌≤◌, ◌==◌, Bool, true, false, List, [], ◌∷◌, ◌++◌, length, Option, Some, None, Result, Ok, Err, refl, sym, ◌∙◌, ap, arith, slice_get, subst, inl, inr, map, All, take, get_or, append_assoc, append-nil, eq-eqb}
+use Rattle.std.specs.Prelude.{OnErr, OnOk, option_map, if◌then◌else◌}
 use Rattle.std.specs.Option.{ForSome}
 use Rattle.std.proofs.Math.ListN.{set}
 use Rattle.std.proofs.lemmas.Bool.{cases_Bool, cases_lt, cond-true, cond-false, ne_eqb}
 use Rattle.std.proofs.lemmas.Bool.Decides.{eqb_tells}
 use Rattle.std.proofs.lemmas.List.{length-take, map_push, take_all, take-append-le, take-take}
-use Rattle.std.proofs.lemmas.List.Elements.{All-cons, All-head, All-nil, All-push, All-tail, All-weaker}
+use Rattle.std.proofs.lemmas.List.Elements.{All-cons, All-head, All-nil, All-push, All-tail}
 use Rattle.std.proofs.lemmas.Option.{same_Some}
 use Rattle.g_entry.specs.declared.file_rec.TapeCopy.{TapeCopy}
 use Rattle.g_tape.specs.declared.fault.TapeFault.{TapeFault}
 use Rattle.g_tape.specs.declared.fault.TapeFault.TheVariants as tape
-use Rattle.g_tape.specs.Rack.{AreReels, Rack, changed, is_mounted, reel, refuses_mount, refuses_unmount, refuses_write, with_reel, Mounting, Writing}
+use Rattle.g_tape.specs.Rack.{AreReels, Rack, is_mounted, reel, refuses_mount, refuses_unmount, with_reel, Mounting, Writing}
 use Rattle.g_tape.specs.Reads.{OnlyReads, blocks_in, blocks_of, unread}
 use Rattle.g_tape.specs.Reel.{IsReel, Reel, Remains, Unchanged, Shortened, Torn, cut_at, ending, left_by, with_mounted}
 use Rattle.g_tape.proofs.ReadLemmas.{blocks_after_reads, is_reel, more_reads, nothing_read, reel-with_reel, reel-with_reel_other, reel_after_reads}
@@ -63,14 +63,6 @@ number_last from (m ∷ []) n is =
 number_last from (m ∷ k ∷ ks) n is =
     let next : length (m ∷ k ∷ ks) - 1 ≡ suc (length (k ∷ ks) - 1) = omega arith in
     number_last (m.number + 1) (k ∷ ks) n (is ∙ ap (λ (i : ℕ). slice_get (m ∷ k ∷ ks) i) next)
-
-pub none_noted : (at from : ℕ) (ns : List DumpNote) → None ≡ slice_get ns (length ns - 1) → ns ≡ []
-none_noted at from [] is = refl
-none_noted at from (m ∷ []) is = let no : ⊥ = cc in absurd no
-none_noted at from (m ∷ k ∷ ks) is =
-    let next : length (m ∷ k ∷ ks) - 1 ≡ suc (length (k ∷ ks) - 1) = omega arith in
-    let none : k ∷ ks ≡ [] = none_noted at from (k ∷ ks) (is ∙ ap (λ (i : ℕ). slice_get (m ∷ k ∷ ks) i) next) in
-    let no : ⊥ = cc in absurd no
 
 -- the number behind dumps is in its limit
 pub number_low : (serial at from : ℕ) (ds : List Dump) → from ≤ 2 ^ 62 → AreInRow serial at from ds → number_behind from ds ≤ 2 ^ 62
@@ -454,17 +446,6 @@ pub first_number : (o : Option Reel) (serial : ℕ) (notes : List DumpNote) → 
 first_number o serial notes first =
     let number : number_in 0 notes ≡ number_behind 0 first.dumps = ap (number_in 0) first.notes_are ∙ number_noted 0 first.dumps in
     let low = number_low serial 0 0 first.dumps (omega arith) first.row in omega arith
-
-pub nothing_read_on : (serial : ℕ) (notes : List DumpNote) (rack : Rack) → IsKnown rack serial notes → ReadOn serial (end_in 0 notes) (number_in 0 notes) notes notes rack rack
-nothing_read_on serial notes rack known = record {
-  first = known.first;
-  end_is = refl;
-  least_is = refl;
-  more = ([], sym (append-nil notes));
-  up = inl refl;
-  only = nothing_read rack;
-  kept = refl;
-}
 
 end_and : (at : ℕ) (ns : List DumpNote) (n : DumpNote) → end_in at (ns ++ n ∷ []) ≡ n.place + (n.count + 2)
 end_and at [] n = refl

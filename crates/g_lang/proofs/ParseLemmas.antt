@@ -38,30 +38,12 @@ pub params-some : (text : List ℕ) → (text ≡ [] → ⊥) → 1 ≤ length (
 params-some [] some = absurd (some refl)
 params-some (c ∷ cs) some = omega (arith, some-parts 0 (c ∷ cs), length-map (parts_of 0 (c ∷ cs)) trimmed)
 
-pub one-param : (text part : List ℕ) → (text ≡ [] → ⊥) → parts_of 0 text ≡ part ∷ [] → params_read text ≡ trimmed part ∷ []
-one-param [] part some is = absurd (some refl)
-one-param (c ∷ cs) part some is = ap (map trimmed) is
-
 pub more-params : (text part rest : List ℕ) → parts_of 0 text ≡ part ∷ parts_of 0 rest → length (params_read text) ≡ 1 → ⊥
 more-params [] part rest is one = absurd (omega (arith, one))
 more-params (c ∷ cs) part rest is one =
     let more : 1 ≤ length (parts_of 0 rest) = some-parts 0 rest in
     let whole : length (parts_of 0 (c ∷ cs)) ≡ suc (length (parts_of 0 rest)) = ap length is in
     omega (arith, one, more, whole, length-map (parts_of 0 (c ∷ cs)) trimmed)
-
--- two parameters, one, or more
-pub not-two : (text part : List ℕ) → parts_of 0 text ≡ part ∷ [] → length (params_read text) ≡ 2 → ⊥
-not-two [] part is two = absurd (omega (arith, two))
-not-two (c ∷ cs) part is two =
-    let whole : length (parts_of 0 (c ∷ cs)) ≡ 1 = ap length is in
-    omega (arith, two, whole, length-map (parts_of 0 (c ∷ cs)) trimmed)
-
-pub two-params : (text first rest second : List ℕ) → parts_of 0 text ≡ first ∷ parts_of 0 rest → parts_of 0 rest ≡ second ∷ []
-    → params_read text ≡ trimmed first ∷ trimmed second ∷ []
-two-params [] first rest second is more =
-    let whole : 1 ≡ suc (length (parts_of 0 rest)) = ap length is in
-    absurd (omega (arith, whole, some-parts 0 rest))
-two-params (c ∷ cs) first rest second is more = ap (map trimmed) (is ∙ ap (λ (ps : List (List ℕ)). first ∷ ps) more)
 
 pub more-than-two : (text first rest second others : List ℕ) → parts_of 0 text ≡ first ∷ parts_of 0 rest → parts_of 0 rest ≡ second ∷ parts_of 0 others
     → length (params_read text) ≡ 2 → ⊥
@@ -165,11 +147,6 @@ pub whenever-read : (t rest : List ℕ) (cond : Cond) (command : List ℕ) (n : 
     → ◌≡◌ {A = Option Said} (Some (SaidWhenever cond command)) (Some (command_read n t))
 whenever-read t rest cond command zero no_if front enough is same = absurd (omega (arith, enough, behind-length (codes "WHENEVER ") t rest front))
 whenever-read t rest cond command (suc n) no_if front enough is same = rw (is, same, no_if, front, command_read) refl
-
-pub goto-read : (t label : List ℕ) (n : ℕ) → behind (codes "IF ") t ≡ None → behind (codes "WHENEVER ") t ≡ None → behind (codes "GOTO ") t ≡ Some label → length t ≤ n
-    → ◌≡◌ {A = Option Said} (Some (SaidGoto label)) (Some (command_read n t))
-goto-read t label zero no_if no_whenever front enough = absurd (omega (arith, enough, behind-length (codes "GOTO ") t label front))
-goto-read t label (suc n) no_if no_whenever front enough = rw (no_if, no_whenever, front, command_read) refl
 
 pub verb_reads : (t : List ℕ) (n : ℕ) → behind (codes "IF ") t ≡ None → behind (codes "WHENEVER ") t ≡ None → behind (codes "GOTO ") t ≡ None → command_read n t ≡ verb_read t
 verb_reads t zero no_if no_whenever no_goto = refl

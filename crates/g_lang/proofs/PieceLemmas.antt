@@ -6,8 +6,8 @@ use Rattle.std.proofs.lemmas.List.{take_more}
 use Rattle.std.specs.Prelude.{if◌then◌else◌}
 use Rattle.g_lang.proofs.SpaceLemmas.{EndsWell, back-same, ends-append}
 use Rattle.g_lang.proofs.ValueLemmas.{behind-append, behind-is}
-use Rattle.g_lang.specs.LineReader.{before_comma, behind, behind_comma, behind_word, depth_behind, parts_of, without_last}
-use Rattle.g_lang.specs.Words.{before_rest, without_back, without_front, word_of}
+use Rattle.g_lang.specs.LineReader.{before_comma, behind, behind_comma, depth_behind, parts_of, without_last}
+use Rattle.g_lang.specs.Words.{before_rest, without_back}
 use Rattle.g_lines.specs.Lines.{onto_first}
 
 none_behind : (front text : List ℕ) (o : Option (List ℕ)) → behind front text ≡ o → ((rest : List ℕ) → text ≢ front ++ rest) → o ≡ None
@@ -34,15 +34,6 @@ cut t i inside = let e : i + 1 ≡ suc i = omega arith in rw e (drop-cons t i 0 
 longer : (t : List ℕ) (i : ℕ) (rest : List ℕ) → i < length t → take i t ++ (get_or t i 0 ∷ rest) ≡ take (i + 1) t ++ rest
 longer t i rest inside = sym (append_assoc (take i t) (get_or t i 0 ∷ []) rest) ∙ ap (λ (ts : List ℕ). ts ++ rest) (sym (take_more t i 0 inside))
 
--- spaces in front
-pub front-more : (t : List ℕ) → 0 < length t → get_or t 0 0 ≡ 32 → without_front (drop 1 t) ≡ without_front t
-front-more [] some is = absurd (omega (arith, some))
-front-more (c ∷ cs) some is = rw (eq-eqb c 32 is) refl
-
-pub front-done : (t : List ℕ) → (0 < length t → get_or t 0 0 ≡ 32 → ⊥) → without_front t ≡ t
-front-done [] other = refl
-front-done (c ∷ cs) other = rw (ne_eqb c 32 (other (omega arith))) refl
-
 -- spaces behind
 back-push : (t : List ℕ) → without_back (t ++ 32 ∷ []) ≡ without_back t
 back-push [] = refl
@@ -58,22 +49,6 @@ pub pushed-done : (xs t text : List ℕ) (last : ℕ) → t ≡ xs ++ last ∷ [
 pushed-done xs t text last same isnt kept =
     let ends : EndsWell t = subst EndsWell (sym same) (back_ended xs last (ne_eqb last 32 isnt)) in
     sym (ap without_back (sym (append-nil t)) ∙ back-same t 0 ends) ∙ kept
-
--- words
-pub word-step : (t : List ℕ) (i : ℕ) → i < length t → (get_or t i 0 ≡ 32 → ⊥) → take i t ++ word_of (drop i t) ≡ take (i + 1) t ++ word_of (drop (i + 1) t)
-word-step t i inside other =
-    ap (λ (ts : List ℕ). take i t ++ word_of ts) (cut t i inside) ∙ rw (ne_eqb (get_or t i 0) 32 other) (longer t i (word_of (drop (i + 1) t)) inside)
-
-pub behind-step : (t : List ℕ) (i : ℕ) → i < length t → (get_or t i 0 ≡ 32 → ⊥) → behind_word (drop i t) ≡ behind_word (drop (i + 1) t)
-behind-step t i inside other = ap behind_word (cut t i inside) ∙ rw (ne_eqb (get_or t i 0) 32 other) refl
-
-pub word-stop : (t : List ℕ) (i : ℕ) → i < length t → get_or t i 0 ≡ 32 → take i t ++ word_of (drop i t) ≡ take i t
-word-stop t i inside is =
-    ap (λ (ts : List ℕ). take i t ++ word_of ts) (cut t i inside) ∙ rw (eq-eqb (get_or t i 0) 32 is) (append-nil (take i t))
-
-pub behind-stop : (t : List ℕ) (i : ℕ) → i < length t → get_or t i 0 ≡ 32 → behind_word (drop i t) ≡ without_front (drop i t)
-behind-stop t i inside is =
-    ap behind_word (cut t i inside) ∙ rw (eq-eqb (get_or t i 0) 32 is) (sym (ap without_front (cut t i inside) ∙ rw (eq-eqb (get_or t i 0) 32 is) refl))
 
 -- commas outside of brackets
 abbrev pub onto_all : List ℕ → List (List ℕ) → List (List ℕ)

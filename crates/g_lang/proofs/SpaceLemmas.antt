@@ -102,10 +102,6 @@ pub trimmed-ends : (t : List ℕ) → is_trimmed t ≡ true → EndsWell t
 trimmed-ends [] is = absurd (false≢true is)
 trimmed-ends (c ∷ cs) is = (and_parts (not (c == 32)) (ends_well c cs) is).1
 
-pub is_trimmed-from : (t : List ℕ) → StartsWell t → EndsWell t → is_trimmed t ≡ true
-is_trimmed-from [] starts ends = absurd starts
-is_trimmed-from (c ∷ cs) starts ends = and_from _ _ (not_from_false _ starts) ends
-
 pub no_space-ends : (c : ℕ) (cs : List ℕ) → no_space (c ∷ cs) ≡ true → ends_well c cs ≡ true
 no_space-ends c [] none = (and_parts (not (c == 32)) true none).0
 no_space-ends c (d ∷ ds) none = no_space-ends d ds (and_parts (not (c == 32)) (no_space (d ∷ ds)) none).1
@@ -132,9 +128,6 @@ spaces-add (suc a) b t = let e : suc a + b ≡ suc (a + b) = omega arith in rw e
 pub front_of_spaces : (n : ℕ) → without_front (spaces n) ≡ []
 front_of_spaces zero = refl
 front_of_spaces (suc n) = front_of_spaces n
-
-pub trim-spaces : (n : ℕ) → trimmed (spaces n) ≡ []
-trim-spaces n = rw (front_of_spaces n) refl
 
 pub spaces-two : (a b : ℕ) → spaces a ++ spaces b ≡ spaces (a + b)
 spaces-two a b =

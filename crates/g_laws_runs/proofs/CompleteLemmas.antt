@@ -256,10 +256,6 @@ kind (TurnOver number charge) = inr tt
 kind Ticked = inr tt
 kind Over = inr tt
 
--- sums of bare numbers
-sum_none : (m a b c : ℕ) → m ≡ 0 → a ≡ m + b → b + c ≡ a + c
-sum_none m a b c none is = omega (arith, none, is)
-
 module _ {F U : Type 0} (tariffs : Shared F (Bor Usage × Unit {0}) Charge) (tariff : F) (rules : Shared U (Bor Standing × Unit {0}) ℕ) (rule : U) where
   -- a dump is open of a system that is up alone, all along a run
   pub sound_move : (w new : World) (move : Move) → IsSound w.store → Step tariffs tariff rules rule w move new → IsSound new.store

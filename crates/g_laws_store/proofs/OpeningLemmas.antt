@@ -415,9 +415,6 @@ module _ (text : ℕ → List ℕ) (shelf : ℕ → List Dump) (s : StoreFacts) 
   place_is : plan.place ≡ end_of (filter (λ (d : Dump). nat_le d.number c.head.last_dump) (shelf plan.serial))
   place_is = planned.place ∙ ap end_of (sym (all_up_to c.head.last_dump (shelf plan.serial) (quiet_shelf text shelf s plan.serial on was)))
 
-  placed : IsPlaced shelf reels c.head.last_dump intent
-  placed = record { reel = on; number = planned.number; place = place_is }
-
   placed_with : IsPlaced (with_dump made shelf) reels c.head.last_dump intent
   placed_with =
       let test : Dump → Bool = λ d. nat_le d.number c.head.last_dump in

@@ -1,7 +1,7 @@
 -- The place in a document behind the lines that were taken.
 use Rattle.std.proofs.Common.{◌≡◌, ◌<◌, ◌≤◌, ◌+◌, ◌-◌, ℕ, List, [], ◌∷◌, ◌++◌, ⊎_elim, length, get_or, take, drop, take-add, take_all, le-ltb, lt-ltb, nat_lt, sym, ap, ◌∙◌, refl, arith}
 use Rattle.std.proofs.lemmas.Bool.{cases_lt}
-use Rattle.std.proofs.lemmas.List.{drop_at, drop-drop, drop_more, get_or-drop, length-append, length-drop, take-append-drop, take-append-le, take_more, take_rest}
+use Rattle.std.proofs.lemmas.List.{drop_at, drop-drop, drop_more, get_or-drop, length-append, length-drop, take-append-drop, take_more, take_rest}
 use Rattle.std.proofs.lemmas.List.Concat.{flat_map-append}
 use Rattle.g_lines.proofs.DocumentLemmas.{rest_back, text_more}
 use Rattle.g_lines.specs.Documents.{IsPlace}
@@ -83,10 +83,3 @@ bytes_next lines left more n bytes line is counted cut =
       ap (drop 1) (sym here) ∙ drop-drop 1 n lines,
       omega (arith, counted, bytes_more lines n line some first),
     )
-
--- a line more behind the others moves no place
-pub place_same : (lines : List (List ℕ)) (taken at : ℕ) (line : List ℕ) → IsPlace lines taken at → IsPlace (lines ++ line ∷ []) taken at
-place_same lines taken at line place = record {
-  within = omega (arith, place.within, length-append lines (line ∷ []));
-  bytes = place.bytes ∙ ap (λ (ls : List (List ℕ)). length (text_of ls)) (sym (take-append-le taken lines (line ∷ []) place.within));
-}

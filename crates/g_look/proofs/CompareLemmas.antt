@@ -1,14 +1,13 @@
 -- What is read and compared of a version.
-use Rattle.std.proofs.Common.{◌≡◌, ◌≢◌, ◌⊎◌, inl, inr, ◌↔◌, ℕ, zero, suc, ◌+◌, ◌-◌, ◌<◌, ◌≤◌, Bool, true, false, cond, List, [], ◌∷◌, ◌++◌, length, map, min, take, drop, Option, Some, None, Result, Ok, Err, refl, sym, ◌∙◌, ap, arith, subst, All, length-append}
+use Rattle.std.proofs.Common.{◌≡◌, ◌⊎◌, inl, inr, ℕ, zero, suc, ◌+◌, ◌-◌, ◌<◌, ◌≤◌, Bool, true, false, cond, List, [], ◌∷◌, ◌++◌, length, map, min, take, drop, Option, Some, None, Result, Ok, Err, refl, sym, ◌∙◌, ap, arith, subst, All}
 use Rattle.std.specs.Prelude.{◌==◌, Contains, IfNone, IfOk, IfSome, get_or}
 use Rattle.std.specs.Option.{ForSome}
-use Rattle.std.proofs.lemmas.List.{get_or_default, length-take-le, take-append-le, take_all, take_more}
+use Rattle.std.proofs.lemmas.List.{get_or_default, take_all, take_more}
 use Rattle.std.proofs.lemmas.Bool.{cases_eq, cond-false, cond-true, eq-eqb, ne_eqb}
 use Rattle.std.proofs.lemmas.List.Elements.{All-head, All-tail}
 use Rattle.std.proofs.lemmas.Grind.{flat_map-append}
 use Rattle.g_base.specs.Block.{blocks_for}
 use Rattle.g_copy.specs.declared.copy.DiscCopy.{DiscCopy}
-use Rattle.g_disc.specs.Disc.{DiscState, ReadsByCause}
 use Rattle.g_entry.specs.declared.file_rec.FileRec.{FileRec}
 use Rattle.g_entry.specs.declared.file_rec.TapeCopy.{TapeCopy}
 use Rattle.g_entry.specs.declared.user_rec.UserRec.{UserRec}
@@ -17,7 +16,7 @@ use Rattle.g_dirs.specs.Directory.{copy_at}
 use Rattle.g_tape.specs.declared.fault.TapeFault.{TapeFault}
 use Rattle.g_tape.specs.declared.fault.TapeFault.TheVariants as tape
 use Rattle.g_tape.specs.Rack.{AreReels, Rack, reel, refuses_unmount}
-use Rattle.g_tape.specs.Reads.{OnlyReads, blocks_in, blocks_of, unread}
+use Rattle.g_tape.specs.Reads.{blocks_in, blocks_of, unread}
 use Rattle.g_tape.specs.Reel.{Reel}
 use Rattle.g_store_meaning.specs.Meaning.{joined, told_reels}
 use Rattle.g_look.specs.declared.broken.Lie.{Lie}
@@ -56,9 +55,6 @@ tape_text_none rack are copy len text refused r there on blocks told low =
         by_mounted : (b : Bool) → cond b None (Some tape.NotMounted) ≡ Some tape.NoTape → ⊥
         by_mounted true is = not_fault tape.NoTape is
         by_mounted false is = other_fault is
-
-pub tape_text_far : (reels : List Reel) (copy : TapeCopy) (len : ℕ) (text : List ℕ) → 65536 < copy.first → IsTapeText reels copy len text
-tape_text_far reels copy len text far r there on blocks told low = absurd (let no : ⊥ = omega (arith, far, low) in no)
 
 -- a reel that is mounted isn't refused
 pub not_unmounted : {A : Type 0} (rack : Rack) (serial : ℕ) → All (λ r. r.mounted ≡ true) (told_reels rack) → refuses_unmount (reel serial rack.reels) ≡ Some tape.NotMounted → A

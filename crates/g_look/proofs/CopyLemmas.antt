@@ -88,12 +88,6 @@ pub nowhere_at : (rack : Rack) (r : FileRec) (copy : TapeCopy) (len : ℕ) → r
 nowhere_at rack r copy len at is_len none told shelf shelved other is text long content =
     none told shelf shelved text (long ∙ sym is_len) (subst (λ (c : TapeCopy). IsContent (all_dumps shelf (told_reels rack)) c text) (same_copy other copy (sym is ∙ at)) content)
 
-no_copy : (copy : TapeCopy) → (let none : Option TapeCopy = None in none ≡ Some copy) → ⊥
-no_copy copy is = cc
-
-pub nowhere_none : (rack : Rack) (r : FileRec) → r.tape ≡ None → OfDumps rack (λ dumps. IsNowhere dumps r)
-nowhere_none rack r none told shelf shelved copy is text long content = no_copy copy (sym none ∙ is)
-
 -- OF A FILE WITH ITS COPY ON THE DISC
 pub disc_bytes : (held : Option (List (List ℕ))) (rack : Rack) (r : FileRec) (o : Option DiscCopy) (text : List ℕ) → IsDiscText held o (Some text) → (c : DiscCopy) × (o ≡ Some c) × (length text ≡ c.len) → AreBytesAt held rack r o text
 disc_bytes held rack r None text is (c, none, long) = let no : ⊥ = cc in absurd no

@@ -1,31 +1,19 @@
 -- What is told that a restore would give is what the completed dumps give.
-use Rattle.std.proofs.Common.{◌≡◌, Bool, true, false, List, [], ◌∷◌, map, Result, Ok, Err, IfOk, refl, sym, ◌∙◌, ap, subst, ℕ}
+use Rattle.std.proofs.Common.{◌≡◌, Bool, true, false, List, Result, Ok, Err, IfOk, sym, ◌∙◌, ap, subst, ℕ}
 use Rattle.g_entry.specs.declared.file_rec.FileRec.{FileRec}
 use Rattle.g_entry.specs.declared.user_rec.UserRec.{UserRec}
 use Rattle.g_plain.specs.declared.faults.StoreFault.{StoreFault}
-use Rattle.g_tape.specs.Reel.{Reel}
 use Rattle.g_incr.specs.Layout.{Dump}
 use Rattle.g_lines.specs.Lines.{text_of}
-use Rattle.g_shelf.specs.CompletedDumps.{AreShelved, all_dumps}
 use Rattle.g_store_meaning.specs.Meaning.{files_in}
-use Rattle.g_store_meaning.specs.Reading.{ReelsTold}
 use Rattle.g_restore.specs.declared.directory.Dumped.{Dumped}
 use Rattle.g_restore.specs.declared.dumps.Found.{Found}
-use Rattle.g_restore.specs.KnownDumps.{AreKnown, Known, known, known_of}
+use Rattle.g_restore.specs.KnownDumps.{AreKnown}
 use Rattle.g_restore.specs.Losses.{AreApart}
 use Rattle.g_restore.specs.Steps.{IsFolded}
 use Rattle.g_look.specs.declared.fault.LookFault.{LookFault}
 use Rattle.g_look.specs.declared.restoring.Given.{Given}
 use Rattle.g_look.specs.Lists.{IsRefusal, IsRestorable, dumped_lines, refused_text}
-use Rattle.g_look.specs.SeenDumps.{AreSeen}
-
--- where nothing was found there is no dump
-pub none_known : (found : List Found) (dumps : List Dump) → found ≡ [] → AreKnown found dumps → dumps ≡ []
-none_known found dumps none are = by_dumps dumps (sym (ap (map known) none) ∙ are.same)
-  where
-    by_dumps : (ds : List Dump) → [] ≡ map known_of ds → ds ≡ []
-    by_dumps [] is = refl
-    by_dumps (d ∷ ds) is = let no : ⊥ = cc in absurd no
 
 -- THE FILES OF THE DUMPED DIRECTORY
 pub given_ok : (found : List Found) (made : Dumped) → ((dumps : List Dump) → AreKnown found dumps → IsFolded dumps made) → (result : Result Given LookFault)
@@ -50,11 +38,3 @@ pub refused_ok : (found : List Found) (fault : StoreFault) → ((dumps : List Du
 refused_ok found fault why (Err e) text given = tt
 refused_ok found fault why (Ok g) text given = λ dumps are.
     subst (λ (b : Bool). IsRestorable dumps b g.text) (sym given) (fault, why dumps are, text)
-
--- of a rack that was seen
-pub seen_ok : (reels : List Reel) (items slice : List Found) → slice ≡ items → AreSeen reels items → (result : Result Given LookFault)
-    → IfOk result (λ g. (dumps : List Dump) → AreKnown slice dumps → IsRestorable dumps g.given g.text) → ReelsTold reels → (shelf : ℕ → List Dump) → AreShelved shelf reels
-    → IfOk result (λ g. IsRestorable (all_dumps shelf reels) g.given g.text)
-seen_ok reels items slice is_slice seen (Err e) is told shelf shelved = tt
-seen_ok reels items slice is_slice seen (Ok g) is told shelf shelved =
-    is (all_dumps shelf reels) (subst (λ (fs : List Found). AreKnown fs (all_dumps shelf reels)) (sym is_slice) (seen.seen told shelf shelved).known)

@@ -1,15 +1,9 @@
 -- Loops over a list: what holds of each element that was seen, and of each one behind the last.
-use Rattle.std.proofs.Common.{◌≡◌, ℕ, zero, suc, ◌+◌, ◌<◌, ◌≤◌, ◌⊎◌, inl, inr, List, [], ◌∷◌, length, get_or, Option, Some, None, Result, Ok, Err, refl, sym, ◌∙◌, ap, arith, subst}
-use Rattle.std.specs.Prelude.{Contains, IfNone, IfOk, IfSome}
+use Rattle.std.proofs.Common.{◌≡◌, ℕ, zero, suc, ◌+◌, ◌<◌, ◌≤◌, ◌⊎◌, inl, inr, List, length, get_or, Option, Some, None, sym, ◌∙◌, ap, arith, subst}
+use Rattle.std.specs.Prelude.{Contains, IfNone, IfSome}
 use Rattle.std.proofs.lemmas.List.{get_or_default}
 
 module _ {X : Type 0} (P : X → Type 0) (xs : List X) where
-  pub none_yet : (k : ℕ) (d : X) → k < 0 → P (get_or xs k d)
-  none_yet k d below = absurd (let no : ⊥ = omega (arith, below) in no)
-
-  pub here_is : (i : ℕ) (x : X) → i < length xs → x ≡ get_or xs i x → Contains xs x
-  here_is i x within at = (i, within, sym at)
-
   pub one_further : (i : ℕ) (x : X) → i < length xs → x ≡ get_or xs i x → P x → ((k : ℕ) (d : X) → k < i → P (get_or xs k d)) → (k : ℕ) (d : X) → k < i + 1 → P (get_or xs k d)
   one_further i x within at is so k d below = by_place (le_cases k i (omega (arith, below)))
     where
@@ -37,11 +31,3 @@ if_some P Q (Some x) change is = change x is
 pub if_none : {X : Type 0} (P Q : Type 0) (o : Option X) → (P → Q) → IfNone o P → IfNone o Q
 if_none P Q None change is = change is
 if_none P Q (Some x) change is = tt
-
-pub if_ok : {X E : Type 0} (P Q : X → Type 0) (r : Result X E) → ((x : X) → P x → Q x) → IfOk r P → IfOk r Q
-if_ok P Q (Ok x) change is = change x is
-if_ok P Q (Err e) change is = tt
-
-pub if_ok_two : {X E : Type 0} (P Q R : X → Type 0) (r : Result X E) → ((x : X) → P x → Q x → R x) → IfOk r P → IfOk r Q → IfOk r R
-if_ok_two P Q R (Ok x) change is also = change x is also
-if_ok_two P Q R (Err e) change is also = tt

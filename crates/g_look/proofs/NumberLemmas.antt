@@ -1,6 +1,6 @@
 -- A list goes over the files by number, in the order of their names.
-use Rattle.std.proofs.Common.{◌≡◌, ℕ, zero, suc, ◌+◌, ◌<◌, Bool, true, false, cond, List, [], ◌∷◌, ◌++◌, length, map, filter, drop, Option, Some, None, Result, Ok, Err, IfOk, refl, sym, ◌∙◌, ap, arith, subst, unwrap_or}
-use Rattle.std.specs.Prelude.{Contains, IfSome, OnOk, codes, get_or}
+use Rattle.std.proofs.Common.{◌≡◌, ℕ, suc, ◌+◌, ◌<◌, Bool, true, false, cond, List, [], ◌∷◌, ◌++◌, length, map, filter, drop, Option, Some, None, Result, Ok, Err, IfOk, refl, sym, ◌∙◌, ap, arith, subst, unwrap_or}
+use Rattle.std.specs.Prelude.{IfSome, codes, get_or}
 use Rattle.std.specs.List.{AllByRecursion, flat_map}
 use Rattle.std.specs.Option.{option_map}
 use Rattle.std.specs.FinMap.{entries, from_entries, get, get-from_entries}
@@ -8,13 +8,12 @@ use Rattle.std.proofs.Math.Seq.{drop-cons}
 use Rattle.std.proofs.lemmas.Grind.{flat_map-append}
 use Rattle.std.proofs.lemmas.List.{append-nil, append_assoc, length-append, length-map}
 use Rattle.std.proofs.lemmas.Option.{slice_get-get_or}
-use Rattle.g_base.specs.declared.memory.NoMemory.{NoMemory}
 use Rattle.g_copy.specs.declared.copy.DiscCopy.{DiscCopy}
 use Rattle.g_entry.specs.declared.file_rec.FileRec.{FileRec}
 use Rattle.g_entry.specs.declared.head.Head.{Head}
 use Rattle.g_entry.specs.declared.user_rec.UserRec.{UserRec}
 use Rattle.g_name.specs.declared.full.Full.{Full}
-use Rattle.g_name.specs.Order.{full_cmp, same_text, text_cmp}
+use Rattle.g_name.specs.Order.{full_cmp, same_text}
 use Rattle.g_name.proofs.Order.{full_total}
 use Rattle.g_plain.proofs.TextMaps.{full_exact, text_exact, text_total}
 use Rattle.g_plain.proofs.TreeLemmas.{all_map, entries_found}
@@ -34,7 +33,6 @@ use Rattle.g_look.specs.FileLines.{disc_file_line, dumped_file_line}
 use Rattle.g_look.specs.Lists.{HasUser, IsListed, dumped_lines, file_lines, files_named, list_lines, user_lines}
 use Rattle.g_look.specs.Numbers.{all_numbers, asked_numbers, disc_line, dumped_line, line_if, lines_at, lines_dumped, lines_listed, numbers_named}
 use Rattle.g_look.specs.Text.{told}
-use Rattle.g_look.proofs.PushLemmas.{on_ok}
 
 -- an entry of the files by name
 abbrev IsEntry : List UserRec → List FileRec → Full × FileRec → Type 0
@@ -178,32 +176,6 @@ module _ (users : List UserRec) (files : List FileRec) (is : IsRecords users fil
   dumped_are number =
       ap (λ (ls : List (List ℕ)). ls ++ told (codes "RESTORABLE FROM DUMP ") number ∷ [])
       (all_named (dumped_line users) (λ e. dumped_file_line e.0 users e.1) (λ e named. ap (λ (f : Full). dumped_file_line f users e.1) named) users)
-
--- ONE NUMBER FURTHER
-pub lines_more : (line : FileRec → List ℕ) (files : List FileRec) (old new whole : List ℕ) (numbers : List ℕ) (i n : ℕ) → i < length numbers → n ≡ get_or numbers i n
-    → old ++ text_of (flat_map (lines_at line files) (drop i numbers)) ≡ whole → new ≡ old ++ text_of (lines_at line files n)
-    → new ++ text_of (flat_map (lines_at line files) (drop (i + 1) numbers)) ≡ whole
-lines_more line files old new whole numbers i n within at so_far more =
-    let next : suc i ≡ i + 1 = omega arith in
-    let rest : drop i numbers ≡ n ∷ drop (i + 1) numbers =
-    drop-cons numbers i n within ∙ ap (λ (m : ℕ). m ∷ drop (suc i) numbers) (sym at) ∙ ap (λ (k : ℕ). n ∷ drop k numbers) next in
-    let later : List (List ℕ) = flat_map (lines_at line files) (drop (i + 1) numbers) in
-    ap (λ (xs : List ℕ). xs ++ text_of later) more
-    ∙ append_assoc old (text_of (lines_at line files n)) (text_of later)
-    ∙ ap (λ (xs : List ℕ). old ++ xs) (sym (flat_map-append ended (lines_at line files n) later))
-    ∙ ap (λ (ns : List ℕ). old ++ text_of (flat_map (lines_at line files) ns)) (sym rest)
-    ∙ so_far
-
--- A LINE MORE, of the file of a number, or none where there is no such file
-pub numbered_ok : (line : FileRec → List ℕ) (files : List FileRec) (number : ℕ) (r : FileRec) (result : Result (Unit {0}) NoMemory) (old new : List ℕ) → Some r ≡ get (by_number files) number
-    → OnOk result (new ≡ old ++ ended (line r)) → OnOk result (new ≡ old ++ text_of (lines_at line files number))
-numbered_ok line files number r result old new got more =
-    on_ok (new ≡ old ++ ended (line r)) (new ≡ old ++ text_of (lines_at line files number)) result
-    (λ is. is ∙ ap (λ (xs : List ℕ). old ++ xs) (sym (append-nil (ended (line r))) ∙ ap (λ (o : Option FileRec). text_of (line_if line o)) got)) more
-
-pub numbered_none : (line : FileRec → List ℕ) (files : List FileRec) (number : ℕ) (old new : List ℕ) → None ≡ get (by_number files) number → new ≡ old → new ≡ old ++ text_of (lines_at line files number)
-numbered_none line files number old new got same =
-    same ∙ sym (append-nil old) ∙ ap (λ (o : Option FileRec). old ++ text_of (line_if line o)) got
 
 -- THE NUMBERS of one user more
 pub numbers_added : (users : List UserRec) (files : List FileRec) (user : List ℕ) (list slice old new : List ℕ) → ForTree users files (λ t. list ≡ listed users files user t) → slice ≡ list → new ≡ old ++ slice

@@ -11,7 +11,7 @@ use Rattle.g_disc.specs.Disc.{DiscState, ReadsByCause}
 use Rattle.g_entry.specs.declared.file_rec.FileRec.{FileRec}
 use Rattle.g_entry.specs.declared.file_rec.TapeCopy.{TapeCopy}
 use Rattle.g_tape.specs.declared.fault.TapeFault.TheVariants as tape
-use Rattle.g_tape.specs.Rack.{AreReels, Rack, reel, refuses_unmount, told_of}
+use Rattle.g_tape.specs.Rack.{AreReels, Rack, reel, told_of}
 use Rattle.g_tape.specs.Reads.{HasRead, OnlyReads, unread}
 use Rattle.g_tape.specs.Reel.{IsReel, Reel}
 use Rattle.g_tape.proofs.ReadLemmas.{read_then, then_read}
@@ -28,7 +28,7 @@ use Rattle.g_look.specs.Looks.{ReadsRackByCause}
 use Rattle.g_look.specs.Reads.{AreRead, HasBlock, IsFileRead, IsOtherRead, IsReadAt, IsReadFrom, WasRead}
 use Rattle.g_look.specs.Texts.{FileAgrees, IsDumpedPlace, IsSecond}
 use Rattle.g_look.proofs.DiscLemmas.{contained_map}
-use Rattle.g_look.proofs.HeadLemmas.{no_reel, number_there, stands_in, told_blocks, isnt_there}
+use Rattle.g_look.proofs.HeadLemmas.{no_reel, number_there, stands_in, told_blocks}
 use Rattle.g_look.proofs.LoopLemmas.{one_further}
 use Rattle.g_look.proofs.RecLemmas.{one_of_stamp}
 use Rattle.g_look.proofs.SeenLemmas.{told_apart}
@@ -96,10 +96,6 @@ far_read old new copy len are far k from to (r, there, on, inside) =
     let most = is.sized_most in
     let long : q.len ≡ r.len = ap (λ (p : Reel). p.len) same in
     absurd (let no : ⊥ = omega (arith, far, from, inside, long, within_it, most) in no)
-
--- of a reel that isn't there
-pub none_read : (old new : Rack) (copy : TapeCopy) (len : ℕ) → refuses_unmount (reel copy.serial old.reels) ≡ Some tape.NoTape → IsReadFrom old new copy len
-none_read old new copy len refuses k from to (r, there, on, inside) = absurd (no_reel old copy.serial tape.NoTape (isnt_there (reel copy.serial old.reels) refuses) r there on)
 
 -- A FILE, by its two places
 second_read : (old new : Rack) (tape place second : Option TapeCopy) (len : ℕ) → IsSecond tape place second → IsReadAt old new tape len → IsReadAt old new second len → IsReadAt old new place len

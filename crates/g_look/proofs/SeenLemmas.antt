@@ -1,30 +1,23 @@
 -- What is seen of a rack whose dumps were read.
-use Rattle.std.proofs.Common.{◌≡◌, ◌≢◌, ◌⊎◌, inl, inr, ℕ, zero, suc, ◌+◌, ◌<◌, ◌≤◌, true, List, [], ◌∷◌, length, get_or, map, Option, Some, None, refl, sym, ◌∙◌, ap, arith, subst, All}
-use Rattle.std.specs.Prelude.{AllPairs, Contains, is_some}
-use Rattle.std.specs.Option.{ForSome}
+use Rattle.std.proofs.Common.{◌≡◌, ◌<◌, List, length, get_or, map, sym, ◌∙◌, ap, arith, subst, All}
+use Rattle.std.specs.Prelude.{AllPairs}
 use Rattle.std.specs.List.Sorted.{IsStrictlyIncreasing}
 use Rattle.std.proofs.lemmas.List.{get_or-map, length-map}
-use Rattle.std.proofs.lemmas.List.Elements.{All-contains, All-map}
 use Rattle.std.proofs.lemmas.List.Kept.{AllPairs-from_increasing}
 use Rattle.g_tape.specs.Rack.{AreReels, Rack}
 use Rattle.g_tape.specs.Reads.{unread}
 use Rattle.g_tape.specs.Reel.{IsReel, Reel}
 use Rattle.g_incr.specs.Layout.{Dump}
-use Rattle.g_shelf.specs.CompletedDumps.{AreShelved, all_dumps}
+use Rattle.g_shelf.specs.CompletedDumps.{all_dumps}
 use Rattle.g_shelf.proofs.RackLemmas.{serials_kept}
 use Rattle.g_store_meaning.specs.Meaning.{told_reels}
-use Rattle.g_store_meaning.specs.Reading.{ReelsTold}
-use Rattle.g_tree.specs.Records.{IsRecords}
-use Rattle.g_restore.specs.declared.directory.Dumped.{Dumped}
-use Rattle.g_restore.specs.Steps.{IsFolded}
-use Rattle.g_restore.proofs.FoldLemmas.{can_be_made}
 use Rattle.g_restore.specs.declared.dumps.Found.{Found}
-use Rattle.g_restore.specs.KnownDumps.{AreKnown, Known, known, known_of}
+use Rattle.g_restore.specs.KnownDumps.{AreKnown, known, known_of}
 use Rattle.g_restore.specs.Reels.{AreOnReels}
 use Rattle.g_restore.proofs.ReelLemmas.{all_of_reels, all_rules, on_unread}
 use Rattle.g_restore.proofs.KnownLemmas.{have_few}
 use Rattle.g_restore.specs.Gathering.{HasFew}
-use Rattle.g_look.specs.SeenDumps.{AreSeen, IsSeen, IsShort, OtherSerial}
+use Rattle.g_look.specs.SeenDumps.{AreSeen, IsShort, OtherSerial}
 use Rattle.g_look.proofs.ShelfLemmas.{is_shelf}
 
 -- serials of reels that rise are apart
@@ -82,7 +75,3 @@ few_seen rack found (dumps, on, same) = have_few found dumps same (all_rules rac
 
 pub known_seen : (rack : Rack) (found : List Found) → (dumps : List Dump) × AreOnReels rack.reels dumps × (map known found ≡ map known_of dumps) → (dumps : List Dump) × AreKnown found dumps
 known_seen rack found (dumps, on, same) = (dumps, record { same = same; rules = all_rules rack.reels dumps on })
-
--- what is folded of them can be made
-pub records_given : (found : List Found) (made : Dumped) → (dumps : List Dump) × AreKnown found dumps → ((dumps : List Dump) → AreKnown found dumps → IsFolded dumps made) → IsRecords made.users.items made.files.items
-records_given found made (dumps, are) folds = (can_be_made dumps are.rules made (folds dumps are)).records

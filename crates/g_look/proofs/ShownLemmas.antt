@@ -1,8 +1,8 @@
 -- The lines that are shown of what is in memory are those of the dumps and of the disc.
-use Rattle.std.proofs.Common.{◌≡◌, ◌⊎◌, inl, inr, ◌↔◌, ℕ, zero, suc, ◌+◌, ◌-◌, ◌*◌, ◌^◌, ◌<◌, ◌≤◌, Bool, true, false, cond, ◌&&◌, ◌||◌, List, [], ◌∷◌, ◌++◌, length, map, filter, take, Option, Some, None, Result, Ok, Err, refl, sym, ◌∙◌, ap, arith, subst, All}
-use Rattle.std.specs.Prelude.{◌==◌, Contains, codes, get_or, is_some, nat_le, slice_get, slice_index_or, IfSome, OnOk}
+use Rattle.std.proofs.Common.{◌≡◌, ℕ, zero, suc, ◌+◌, ◌-◌, ◌*◌, ◌<◌, ◌≤◌, Bool, true, false, cond, ◌&&◌, ◌||◌, List, [], ◌∷◌, ◌++◌, length, map, filter, take, Option, Some, None, Result, Ok, Err, refl, sym, ◌∙◌, ap, arith, subst, All}
+use Rattle.std.specs.Prelude.{◌==◌, Contains, codes, get_or, nat_le, slice_get, OnOk}
 use Rattle.std.specs.List.{flat_map, list_any}
-use Rattle.std.proofs.lemmas.Bool.{cases_eq, cond-false, cond-true, eq-eqb, le-leb, ne_eqb}
+use Rattle.std.proofs.lemmas.Bool.{cond-true, le-leb}
 use Rattle.std.proofs.lemmas.List.{append-nil, append_assoc, length-append, length-map, map-append, take_more}
 use Rattle.std.proofs.lemmas.Grind.{flat_map-append}
 use Rattle.std.proofs.lemmas.List.Elements.{filter-append}
@@ -14,13 +14,12 @@ use Rattle.g_entry.specs.declared.head.Intent.{Intent}
 use Rattle.g_entry.specs.Formats.{format_number}
 use Rattle.g_slots.specs.declared.side.Side.{Side}
 use Rattle.g_dirs.specs.declared.dirs.Dirs.{Dirs}
-use Rattle.g_dirs.specs.Directory.{FileEntry, all_places, copy_at, entries_of, places_of}
-use Rattle.g_tape.specs.declared.fault.TapeFault.{TapeFault}
-use Rattle.g_tape.specs.Rack.{AreReels, Rack, reel, told_of}
+use Rattle.g_dirs.specs.Directory.{FileEntry, copy_at, places_of}
+use Rattle.g_tape.specs.Rack.{Rack}
 use Rattle.g_tape.specs.Reads.{unread}
 use Rattle.g_tape.specs.Reel.{Reel}
-use Rattle.g_tree.proofs.ListLemmas.{contains_first, contains_more, map_of_map}
-use Rattle.g_incr.specs.Layout.{Dump, IsDump, count_of}
+use Rattle.g_tree.proofs.ListLemmas.{contains_first, contains_more}
+use Rattle.g_incr.specs.Layout.{Dump, count_of}
 use Rattle.g_lines.specs.Lines.{ended, text_of}
 use Rattle.g_monitor.specs.Parts.{modes_text, shown_mode}
 use Rattle.g_trap.specs.declared.mode_set.Mode.TheVariants.{Read, Write, Append, Execute, Erase}
@@ -29,12 +28,11 @@ use Rattle.g_store_meaning.specs.Meaning.{told_reels}
 use Rattle.g_store_meaning.proofs.OneLemmas.{is_shelved}
 use Rattle.g_restore.specs.declared.dumps.Found.{Found}
 use Rattle.g_restore.specs.KnownDumps.{AreKnown, Known, known, known_of}
-use Rattle.g_look.specs.declared.broken.Broken.{Broken}
 use Rattle.g_look.specs.Heads.{EndsLow, end_upto}
 use Rattle.g_look.specs.SeenDumps.{IsSeen}
 use Rattle.g_look.specs.MemoryLines.{copy_blocks, count_on, counts_text, dirs_text, known_line, lines_on, names_found, on_reel, state_text, tape_text, used_by}
 use Rattle.g_look.specs.Standing.{directory_in, found_in}
-use Rattle.g_look.specs.Text.{disc_front, disc_lines, dump_line, holder_text, intent_lines, is_there, rack_lines, reel_lines, tape_line, told, verdict_line}
+use Rattle.g_look.specs.Text.{disc_front, disc_lines, dump_line, holder_text, intent_lines, is_there, rack_lines, reel_lines, tape_line, told}
 use Rattle.g_look.proofs.PushLemmas.{then_more}
 use Rattle.g_look.proofs.HeadLemmas.{end_is, is_on, low_ends, seen_on, up_to}
 
@@ -264,12 +262,6 @@ count_more serial found i f inside at =
     ∙ ap (λ (ks : List Known). length (on_reel serial ks)) (map-append known (take i found) (f ∷ []))
     ∙ ap length (filter-append (λ k. k.serial == serial) (map known (take i found)) (map known (f ∷ [])))
     ∙ length-append (on_reel serial (map known (take i found))) (on_reel serial (map known (f ∷ [])))
-
-pub count_on_one : (serial : ℕ) (f : Found) → f.serial ≡ serial → count_on serial (f ∷ []) ≡ 1
-count_on_one serial f same = ap length (cond-true (f.serial == serial) (known f ∷ []) [] (eq-eqb f.serial serial same))
-
-pub count_on_other : (serial : ℕ) (f : Found) → (f.serial ≡ serial → ⊥) → count_on serial (f ∷ []) ≡ 0
-count_on_other serial f other = ap length (cond-false (f.serial == serial) (known f ∷ []) [] (ne_eqb f.serial serial other))
 
 pub count_so_far : (serial : ℕ) (found : List Found) (i count more : ℕ) (f : Found) → i < length found → f ≡ get_or found i f → (count ≡ count_on serial (take i found)) × (count ≤ i)
     → more ≡ count_on serial (f ∷ []) → more ≤ 1 → (count + more ≡ count_on serial (take (i + 1) found)) × (count + more ≤ i + 1)

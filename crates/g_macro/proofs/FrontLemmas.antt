@@ -1,5 +1,5 @@
 -- The front of a text, byte after byte, and a line with its parameters put in, piece after piece.
-use Rattle.std.proofs.Common.{Bool, List, [], ap, append-nil, append_assoc, arith, drop, drop-drop, drop_of_length-le, eq-eqb, false, get_or, le-ltb, leb-true, length, length-append, length-drop, length-take, lt-ltb, nat_le, nat_lt, ne_eqb, refl, subst, sym, take, take-add, take_all, true, ℕ, ◌++◌, ◌+◌, ◌-◌, ◌<◌, ◌==◌, ◌||◌, ◌∙◌, ◌∷◌, ◌≡◌, ◌≤◌}
+use Rattle.std.proofs.Common.{Bool, List, [], ap, append_assoc, arith, drop, drop-drop, eq-eqb, false, get_or, le-ltb, leb-true, length, length-append, length-drop, length-take, lt-ltb, nat_le, nat_lt, ne_eqb, refl, subst, sym, take, take-add, take_all, true, ℕ, ◌++◌, ◌+◌, ◌-◌, ◌<◌, ◌==◌, ◌||◌, ◌∙◌, ◌∷◌, ◌≡◌, ◌≤◌}
 use Rattle.std.proofs.lemmas.Bool.{and_from, and_left, and_parts, and_right, cond_both, or_from, or_parts, or_right}
 use Rattle.std.proofs.lemmas.List.{take-append-le}
 use Rattle.std.specs.List.{list_any}
@@ -53,9 +53,6 @@ pub record UpTo (params : List (List ℕ)) (line : List ℕ) (at : ℕ) (front :
   pub same : text ++ expand params (take at line) (drop at line) ≡ substituted params line
   pub within : at ≤ length line
 
-pub up_to-none : (params : List (List ℕ)) (line : List ℕ) (front : Front) → Holds [] front → UpTo params line 0 front
-up_to-none params line front is = record { text = []; is = is; same = refl; within = omega arith }
-
 pub up_to-more : (params : List (List ℕ)) (line : List ℕ) (at n : ℕ) (old new : Front) → UpTo params line at old → at < length line → n ≡ first_taken (drop at line)
     → ((text : List ℕ) → Holds text old → Holds (text ++ first_filled params (take at line) (drop at line)) new) → UpTo params line (at + n) new
 up_to-more params line at n old new here inside is fills =
@@ -75,13 +72,6 @@ up_to-more params line at n old new here inside is fills =
           ∙ ap (λ (ts : List ℕ). here.text ++ ts) (sym step) ∙ here.same;
       within = let w = first-within rest some in omega (arith, w, is, inside, length-drop at line);
     }
-
-pub up_to-all : (params : List (List ℕ)) (line : List ℕ) (at : ℕ) (front : Front) → UpTo params line at front → length line ≤ at → Holds (substituted params line) front
-up_to-all params line at front here all =
-    let none : drop at line ≡ [] = drop_of_length-le line {i = at} all in
-    let same : here.text ≡ substituted params line =
-    sym (append-nil here.text) ∙ ap (λ (ts : List ℕ). here.text ++ expand params (take at line) ts) (sym none) ∙ here.same in
-    subst (λ (t : List ℕ). Holds t front) same here.is
 
 -- which piece stands at the front
 pub single-last : (params : List (List ℕ)) (done rest : List ℕ) → 1 ≤ length rest → length rest < 2 → first_filled params done rest ≡ get_or rest 0 0 ∷ []

@@ -120,15 +120,6 @@ more_ready level line has =
     sym (ready_by (line_added line level) (input_next level) (is_closed level || is_closing line) (more_lines level line (omega (arith, less)))
     (ap (λ (text : List ℕ). takes_input (as_taken (substituted level.params text))) (sym next)) (sym closes))
 
-closed_by : (input closed closing : Bool) → (not input || closed) ≡ false → closing ≡ (not input || (closed || closing))
-closed_by true true closing waits = absurd (false≢true (sym waits))
-closed_by true false closing waits = refl
-closed_by false closed closing waits = absurd (false≢true (sym waits))
-
-pub ready_closed : (level : Level) (line : List ℕ) → line_ready level ≡ false → has_line level ≡ true → is_closing line ≡ line_ready (line_added line level)
-ready_closed level line waits has =
-    closed_by (input_next level) (is_closed level) (is_closing line) (ready_by level (input_next level) (is_closed level) has refl refl ∙ waits) ∙ sym (more_ready level line has)
-
 -- what was ready stays so
 stays_by : (input closed closing : Bool) → (not input || closed) ≡ true → (not input || (closed || closing)) ≡ true
 stays_by true true closing ready = refl

@@ -1,14 +1,13 @@
 -- Where the line with a label stands, line by line.
-use Rattle.std.proofs.Common.{List, ap, arith, drop, false, length, option_map, refl, sym, take, true, ℕ, ◌+◌, ◌<◌, ◌∙◌, ◌∷◌, ◌≡◌, ◌≤◌}
+use Rattle.std.proofs.Common.{List, ap, arith, drop, false, length, option_map, sym, take, ℕ, ◌+◌, ◌<◌, ◌∙◌, ◌∷◌, ◌≡◌, ◌≤◌}
 use Rattle.std.proofs.lemmas.List.{length-drop}
 use Rattle.g_lang.specs.Words.{has_label}
 use Rattle.g_lines.proofs.CursorLemmas.{bytes_next, bytes_within}
 use Rattle.g_lines.proofs.DocumentLemmas.{lines_few}
 use Rattle.g_lines.specs.Documents.{IsWhole}
 use Rattle.g_lines.specs.Lines.{lines_of, text_of}
-use Rattle.g_macro.proofs.PlaceLemmas.{label-first, label-found, label-next}
+use Rattle.g_macro.proofs.PlaceLemmas.{label-next}
 use Rattle.g_macro.specs.Levels.{line_of_label}
-use Rattle.g_macro.specs.Spans.{IsLinePlace}
 
 -- so many lines were looked at, which have so many bytes, and none of them has the label
 pub record IsLabelSoFar (label : List ℕ) (all rest : List (List ℕ)) (count bytes : ℕ) : Type 0 where
@@ -16,26 +15,11 @@ pub record IsLabelSoFar (label : List ℕ) (all rest : List (List ℕ)) (count b
   pub before : line_of_label label all ≡ option_map (λ n. count + n) (line_of_label label rest)
   pub counted : bytes ≡ length (text_of (take count all))
 
-pub label_so_far-first : (label : List ℕ) (all rest : List (List ℕ)) → rest ≡ all → IsLabelSoFar label all rest 0 0
-label_so_far-first label all rest is = record {
-  behind = is;
-  before = label-first label all ∙ ap (λ (ls : List (List ℕ)). option_map (λ n. 0 + n) (line_of_label label ls)) (sym is);
-  counted = refl;
-}
-
 pub label_so_far-next : (label : List ℕ) (all rest more : List (List ℕ)) (line : List ℕ) (count bytes : ℕ) → IsLabelSoFar label all rest count bytes → rest ≡ line ∷ more → has_label label line ≡ false
     → IsLabelSoFar label all more (count + 1) (bytes + (length line + 1))
 label_so_far-next label all rest more line count bytes so_far is other =
     let next = bytes_next all rest more count bytes line so_far.behind so_far.counted is in
     record { behind = next.0; before = label-next label all rest more line count so_far.before is other; counted = next.1 }
-
-pub label_so_far-found : (label : List ℕ) (all rest more : List (List ℕ)) (line : List ℕ) (count bytes : ℕ) → IsLabelSoFar label all rest count bytes → rest ≡ line ∷ more → has_label label line ≡ true
-    → IsLinePlace label all (record { lines = count; bytes = bytes })
-label_so_far-found label all rest more line count bytes so_far is same = record {
-  line = label-found label all rest more line count so_far.before is same;
-  within = omega (arith, ap length (sym is ∙ so_far.behind), length-drop count all);
-  bytes = so_far.counted;
-}
 
 -- the counts stay within the text
 pub label_so_far-fits : (label text : List ℕ) (rest more : List (List ℕ)) (line : List ℕ) (count bytes : ℕ) → IsWhole text → IsLabelSoFar label (lines_of text) rest count bytes → rest ≡ line ∷ more

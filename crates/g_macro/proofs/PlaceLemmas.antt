@@ -1,16 +1,10 @@
 -- Loops that look for a line or an entry.
-use Rattle.std.proofs.Common.{List, None, Option, Some, [], ap, append_assoc, arith, cond, drop, drop-cons, drop_of_length-le, false, get_or, length, option_map, refl, suc, sym, take, true, ℕ, ◌++◌, ◌+◌, ◌<◌, ◌∙◌, ◌∷◌, ◌≡◌, ◌≤◌}
+use Rattle.std.proofs.Common.{List, None, Option, Some, [], ap, append_assoc, arith, drop, false, get_or, length, option_map, refl, sym, take, true, ℕ, ◌++◌, ◌+◌, ◌<◌, ◌∙◌, ◌∷◌, ◌≡◌, ◌≤◌}
 use Rattle.std.proofs.lemmas.Bool.{cond_both}
 use Rattle.std.proofs.lemmas.List.{drop_more, length-append, take_at}
-use Rattle.g_lang.specs.Conditions.{same_cond}
 use Rattle.g_lang.specs.Words.{has_label}
-use Rattle.g_lang.specs.declared.line.Cond.{Cond}
 use Rattle.g_lines.specs.Lines.{ended, lines_of, text_of}
-use Rattle.g_macro.specs.Levels.{before_closing, is_closing, line_of_label, passed, place_of_cond}
-use Rattle.g_macro.specs.declared.entry.Entry.{Entry}
-
-map-some : (f : ℕ → ℕ) (o : Option ℕ) (n : ℕ) → o ≡ Some n → option_map f o ≡ Some (f n)
-map-some f o n is = ap (option_map f) is
+use Rattle.g_macro.specs.Levels.{before_closing, is_closing, line_of_label, passed}
 
 map-map : (f g h : ℕ → ℕ) (o : Option ℕ) → ((n : ℕ) → f (g n) ≡ h n) → option_map f (option_map g o) ≡ option_map h o
 map-map f g h None same = refl
@@ -22,48 +16,6 @@ pub label-next : (label : List ℕ) (lines left more : List (List ℕ)) (line : 
 label-next label lines left more line i so_far is other =
     so_far ∙ ap (λ (ls : List (List ℕ)). option_map (λ n. i + n) (line_of_label label ls)) is
     ∙ rw other (map-map (λ n. i + n) (λ n. 1 + n) (λ n. i + 1 + n) (line_of_label label more) (λ n. omega arith))
-
-pub label-found : (label : List ℕ) (lines left more : List (List ℕ)) (line : List ℕ) (i : ℕ) → line_of_label label lines ≡ option_map (λ n. i + n) (line_of_label label left)
-    → left ≡ line ∷ more → has_label label line ≡ true → line_of_label label lines ≡ Some i
-label-found label lines left more line i so_far is same =
-    let zero_more : i + 0 ≡ i = omega arith in
-    so_far ∙ ap (λ (ls : List (List ℕ)). option_map (λ n. i + n) (line_of_label label ls)) is
-    ∙ rw same (ap (λ (m : ℕ). let o : Option ℕ = Some m in o) zero_more)
-
-pub label-none : (label : List ℕ) (lines left : List (List ℕ)) (i : ℕ) → line_of_label label lines ≡ option_map (λ n. i + n) (line_of_label label left)
-    → left ≡ [] → line_of_label label lines ≡ None
-label-none label lines left i so_far none = so_far ∙ ap (λ (ls : List (List ℕ)). option_map (λ n. i + n) (line_of_label label ls)) none
-
-same-id : (o : Option ℕ) → o ≡ option_map (λ n. 0 + n) o
-same-id None = refl
-same-id (Some n) = ap (λ (m : ℕ). let o : Option ℕ = Some m in o) (let e : n ≡ 0 + n = omega arith in e)
-
-pub label-first : (label : List ℕ) (lines : List (List ℕ)) → line_of_label label lines ≡ option_map (λ n. 0 + n) (line_of_label label lines)
-label-first label lines = same-id (line_of_label label lines)
-
--- entries with a condition
-pub cond-step : (cond : Cond) (entries : List Entry) (i : ℕ) (entry : Entry) → i < length entries → entry ≡ get_or entries i entry → same_cond entry.cond cond ≡ false
-    → option_map (λ n. i + n) (place_of_cond cond (drop i entries)) ≡ option_map (λ n. i + 1 + n) (place_of_cond cond (drop (i + 1) entries))
-cond-step cond entries i entry inside is other =
-    let next : i + 1 ≡ suc i = omega arith in
-    let cut : drop i entries ≡ entry ∷ drop (i + 1) entries = rw next (drop-cons entries i entry inside ∙ ap (λ (e : Entry). e ∷ drop (suc i) entries) (sym is)) in
-    ap (λ (es : List Entry). option_map (λ n. i + n) (place_of_cond cond es)) cut
-    ∙ rw other (map-map (λ n. i + n) (λ n. 1 + n) (λ n. i + 1 + n) (place_of_cond cond (drop (i + 1) entries)) (λ n. omega arith))
-
-pub cond-stop : (cond : Cond) (entries : List Entry) (i : ℕ) (entry : Entry) → i < length entries → entry ≡ get_or entries i entry → same_cond entry.cond cond ≡ true
-    → option_map (λ n. i + n) (place_of_cond cond (drop i entries)) ≡ Some i
-cond-stop cond entries i entry inside is same =
-    let next : i + 1 ≡ suc i = omega arith in
-    let zero_more : i + 0 ≡ i = omega arith in
-    let cut : drop i entries ≡ entry ∷ drop (i + 1) entries = rw next (drop-cons entries i entry inside ∙ ap (λ (e : Entry). e ∷ drop (suc i) entries) (sym is)) in
-    ap (λ (es : List Entry). option_map (λ n. i + n) (place_of_cond cond es)) cut
-    ∙ rw same (ap (λ (m : ℕ). let o : Option ℕ = Some m in o) zero_more)
-
-pub cond-none : (cond : Cond) (entries : List Entry) (i : ℕ) → length entries ≤ i → option_map (λ n. i + n) (place_of_cond cond (drop i entries)) ≡ None
-cond-none cond entries i all = ap (λ (es : List Entry). option_map (λ n. i + n) (place_of_cond cond es)) (drop_of_length-le entries {i = i} all)
-
-pub cond-first : (cond : Cond) (entries : List Entry) → place_of_cond cond entries ≡ option_map (λ n. 0 + n) (place_of_cond cond (drop 0 entries))
-cond-first cond entries = same-id (place_of_cond cond entries)
 
 -- the bytes before `////`
 pub close-next : (all left more : List (List ℕ)) (line : List ℕ) (i : ℕ) → i + length (text_of (before_closing left)) ≡ length (text_of (before_closing all)) → left ≡ line ∷ more → is_closing line ≡ false
@@ -77,10 +29,6 @@ pub close-stop : (all left more : List (List ℕ)) (line : List ℕ) (i : ℕ) �
 close-stop all left more line i so_far is closing =
     let here : before_closing left ≡ [] = ap before_closing is ∙ rw closing refl in
     omega (arith, so_far, ap (λ (ls : List (List ℕ)). length (text_of ls)) here)
-
-pub close-none : (all left : List (List ℕ)) (i : ℕ) → i + length (text_of (before_closing left)) ≡ length (text_of (before_closing all)) → left ≡ []
-    → i ≡ length (text_of (before_closing all))
-close-none all left i so_far none = omega (arith, so_far, ap (λ (ls : List (List ℕ)). length (text_of (before_closing ls))) none)
 
 -- what stands before `////` is at the front
 before_in : (lines : List (List ℕ)) → (rest : List ℕ) × (text_of lines ≡ text_of (before_closing lines) ++ rest)

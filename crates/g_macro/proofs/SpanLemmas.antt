@@ -1,11 +1,11 @@
 -- How far a document goes, line by line.
-use Rattle.std.proofs.Common.{List, [], ap, arith, drop, false, length, refl, sym, take, true, ℕ, ◌+◌, ◌<◌, ◌∙◌, ◌∷◌, ◌≡◌, ◌≤◌}
+use Rattle.std.proofs.Common.{List, ap, arith, drop, false, length, refl, sym, take, true, ℕ, ◌+◌, ◌<◌, ◌∙◌, ◌∷◌, ◌≡◌, ◌≤◌}
 use Rattle.std.proofs.lemmas.List.{length-drop}
 use Rattle.g_lines.proofs.CursorLemmas.{bytes_next, bytes_within}
 use Rattle.g_lines.proofs.DocumentLemmas.{lines_few}
 use Rattle.g_lines.specs.Documents.{IsWhole}
 use Rattle.g_lines.specs.Lines.{lines_of, text_of}
-use Rattle.g_macro.proofs.PlaceLemmas.{close-next, close-none, close-stop}
+use Rattle.g_macro.proofs.PlaceLemmas.{close-next, close-stop}
 use Rattle.g_macro.specs.Levels.{before_closing, is_closing, passed}
 use Rattle.g_macro.specs.Spans.{IsSpan}
 
@@ -15,14 +15,6 @@ pub record IsSpanSoFar (all rest : List (List ℕ)) (count document : ℕ) : Typ
   pub before : document + length (text_of (before_closing rest)) ≡ length (text_of (before_closing all))
   pub bytes : document ≡ length (text_of (take count all))
   pub lines : count + passed rest ≡ passed all
-
-pub span-first : (all rest : List (List ℕ)) → rest ≡ all → IsSpanSoFar all rest 0 0
-span-first all rest is = record {
-  behind = is;
-  before = omega (arith, ap (λ (ls : List (List ℕ)). length (text_of (before_closing ls))) is);
-  bytes = refl;
-  lines = omega (arith, ap passed is);
-}
 
 pub span-next : (all rest more : List (List ℕ)) (line : List ℕ) (count document : ℕ) → IsSpanSoFar all rest count document → rest ≡ line ∷ more → is_closing line ≡ false
     → IsSpanSoFar all more (count + 1) (document + (length line + 1))
@@ -47,17 +39,6 @@ span-stop all rest more line count document so_far is closing =
       document = close-stop all rest more line document so_far.before is closing;
       lines = all_lines;
       bytes = sum ∙ next.1 ∙ ap (λ (n : ℕ). length (text_of (take n all))) all_lines;
-    }
-
-pub span-none : (all rest : List (List ℕ)) (count document : ℕ) → IsSpanSoFar all rest count document → rest ≡ []
-    → IsSpan all (record { document = document; lines = count; bytes = document })
-span-none all rest count document so_far none =
-    let nothing : passed rest ≡ 0 = ap passed none in
-    let all_lines : count ≡ passed all = omega (arith, so_far.lines, nothing) in
-    record {
-      document = close-none all rest document so_far.before none;
-      lines = all_lines;
-      bytes = so_far.bytes ∙ ap (λ (n : ℕ). length (text_of (take n all))) all_lines;
     }
 
 -- the counts stay within the text

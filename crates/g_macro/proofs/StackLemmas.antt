@@ -1,19 +1,17 @@
 -- The levels as the code keeps them, the current one last.
-use Rattle.std.proofs.Common.{Bool, Err, IfOk, IsSome, List, None, Ok, Option, Result, Some, [], ap, arith, cond, false, get_or, inl, inr, le-leb, le-ltb, length, length-set, length-take-le, lives, lt-ltb, refl, reverse, set, subst, sym, take, take-take, take_all, true, ℕ, ⊎_elim, ◌&&◌, ◌++◌, ◌+◌, ◌-◌, ◌<◌, ◌∙◌, ◌∷◌, ◌≡◌, ◌≤◌, ◌⊎◌}
+use Rattle.std.proofs.Common.{Bool, Err, IfOk, IsSome, List, Ok, Option, Result, Some, [], ap, arith, cond, false, get_or, inl, inr, le-leb, le-ltb, length, length-set, length-take-le, lives, lt-ltb, refl, reverse, set, subst, sym, take, take-take, take_all, true, ℕ, ⊎_elim, ◌++◌, ◌+◌, ◌-◌, ◌<◌, ◌∙◌, ◌∷◌, ◌≡◌, ◌≤◌, ◌⊎◌}
 use Rattle.std.proofs.Math.Seq.{take-length}
-use Rattle.std.proofs.lemmas.Bool.{and_from, and_left, and_right, cases_Bool, cases_lt, lt-leb, or_right}
+use Rattle.std.proofs.lemmas.Bool.{cases_lt, lt-leb}
 use Rattle.std.proofs.lemmas.List.{get_or_default, length-reverse, reverse-append, take_more, take_more_set}
 use Rattle.std.specs.Prelude.{if◌then◌else◌}
 use Rattle.g_lang.specs.declared.line.Cond.{Cond}
 use Rattle.g_macro.specs.Expansion.{substituted}
 use Rattle.g_macro.specs.Fronts.{IsFilled}
 use Rattle.g_macro.specs.LevelReplies.{KeepsIn, is_full_in}
-use Rattle.g_macro.specs.Levels.{Level, Line, Nothing, Stack, Taken, TooLong, as_taken, changed, current, entry_kept, entry_that_holds, fired, first_level, has_line, holds, is_last, line_at, line_taken, live, next_line, take_line, with_current}
+use Rattle.g_macro.specs.Levels.{Level, Line, Stack, Taken, TooLong, as_taken, changed, current, entry_kept, first_level, has_line, holds, line_at, line_taken, live, next_line, take_line, with_current}
 use Rattle.g_macro.specs.Replies.{Keeps, TakesLine}
-use Rattle.g_macro.specs.declared.entry.Entry.{Entry}
 use Rattle.g_macro.specs.declared.expansion.Filled.{Filled}
 use Rattle.g_macro.specs.declared.fault.MacroFault.{MacroFault}
-use Rattle.g_macro.specs.declared.outcome.Outcome.{Outcome}
 use Rattle.g_macro.specs.declared.fault.MacroFault.TheVariants as fault
 
 -- the lowest levels, one more
@@ -51,60 +49,6 @@ pub top-place : (items : List Level) (held : Bool) (count : ℕ) (now : Stack) �
     → count - 1 + 1 ≡ length items
 top-place items held count now was is some =
     omega (arith, is, some, length-reverse items, ap (λ (s : Stack). length s.levels) was)
-
--- levels without a line
-pub live-step : (items : List Level) (held : Bool) (n : ℕ) (d : Level) → 0 < n → n ≤ length items → has_line (get_or items (n - 1) d) ≡ false → (held ≡ true → n ≡ 1 → ⊥)
-    → live held (reverse (take n items)) ≡ live held (reverse (take (n - 1) items))
-live-step items held n d some within none other =
-    let back : n - 1 + 1 ≡ n = omega (arith, some) in
-    let inside : n - 1 < length items = omega (arith, some, within) in
-    let below = reverse (take (n - 1) items) in
-    let isnt : (held && is_last below) ≡ false =
-    ⊎_elim (λ holds. and_right held (is_last below) (not_last below (λ none_below. other holds (lone items n some within none_below)))) (λ fails. and_left held (is_last below) fails) (cases_Bool held) in
-    ap (λ (k : ℕ). live held (reverse (take k items))) (sym back) ∙ ap (live held) (one-more items (n - 1) d inside) ∙ rw (none, isnt) refl
-  where
-    not_last : (ls : List Level) → (length ls ≡ 0 → ⊥) → is_last ls ≡ false
-    not_last [] some = absurd (some refl)
-    not_last (l ∷ ls) some = refl
-
-    lone : (items : List Level) (n : ℕ) → 0 < n → n ≤ length items → length (reverse (take (n - 1) items)) ≡ 0 → n ≡ 1
-    lone items n some within none = omega (arith, some, within, none, length-reverse (take (n - 1) items), length-take-le (n - 1) items (omega (arith, within)))
-
-pub live-line : (items : List Level) (held : Bool) (n : ℕ) (d : Level) → 0 < n → n ≤ length items → has_line (get_or items (n - 1) d) ≡ true
-    → live held (reverse (take n items)) ≡ reverse (take n items)
-live-line items held n d some within line =
-    let back : n - 1 + 1 ≡ n = omega (arith, some) in
-    let inside : n - 1 < length items = omega (arith, some, within) in
-    let cut : reverse (take n items) ≡ get_or items (n - 1) d ∷ reverse (take (n - 1) items) =
-    ap (λ (k : ℕ). reverse (take k items)) (sym back) ∙ one-more items (n - 1) d inside in
-    ap (live held) cut ∙ rw line (sym cut)
-
-pub live-held : (items : List Level) (held : Bool) (n : ℕ) (d : Level) → n ≡ 1 → n ≤ length items → held ≡ true
-    → live held (reverse (take n items)) ≡ reverse (take n items)
-live-held items held n d lone within holds =
-    let zero_back : 0 + 1 ≡ n = omega (arith, lone) in
-    let inside : 0 < length items = omega (arith, lone, within) in
-    let cut : reverse (take n items) ≡ get_or items 0 d ∷ [] =
-    ap (λ (k : ℕ). reverse (take k items)) (sym zero_back) ∙ one-more items 0 d inside in
-    let is : (held && true) ≡ true = and_from held true holds refl in
-    ap (live held) cut ∙ rw (is, or_right (has_line (get_or items 0 d)) true refl) (sym cut)
-
--- the levels are looked through from the top
-pub fired-step : (items : List Level) (outcome : Outcome) (n : ℕ) (d : Level) → 0 < n → n ≤ length items → entry_that_holds (get_or items (n - 1) d) outcome ≡ None
-    → fired outcome (reverse (take n items)) ≡ fired outcome (reverse (take (n - 1) items))
-fired-step items outcome n d some within none =
-    let back : n - 1 + 1 ≡ n = omega (arith, some) in
-    let inside : n - 1 < length items = omega (arith, some, within) in
-    ap (λ (k : ℕ). fired outcome (reverse (take k items))) (sym back) ∙ ap (fired outcome) (one-more items (n - 1) d inside) ∙ rw (none, fired) refl
-
-pub fired-here : (items : List Level) (outcome : Outcome) (n : ℕ) (d : Level) (entry : Entry) → 0 < n → n ≤ length items → entry_that_holds (get_or items (n - 1) d) outcome ≡ Some entry
-    → fired outcome (reverse (take n items)) ≡ Some (entry.command, reverse (take n items))
-fired-here items outcome n d entry some within is =
-    let back : n - 1 + 1 ≡ n = omega (arith, some) in
-    let inside : n - 1 < length items = omega (arith, some, within) in
-    let cut : reverse (take n items) ≡ get_or items (n - 1) d ∷ reverse (take (n - 1) items) =
-    ap (λ (k : ℕ). reverse (take k items)) (sym back) ∙ one-more items (n - 1) d inside in
-    ap (fired outcome) cut ∙ rw (is, fired) (ap (λ (ls : List Level). let o : Option (List ℕ × List Level) = Some (entry.command, ls) in o) (sym cut))
 
 -- a level that was left as it was
 changed-none : (levels : List Level) → changed (λ level. level) levels ≡ levels
@@ -166,17 +110,6 @@ line-next items held n old new filled now was some within lives is line same hol
     ap next_line (sym was) ∙ ap (take_line held) (lives ∙ cut)
     ∙ rw (line, stays, taken_as (substituted old.params (line_at old)) filled holds) refl
 
-pub none-next : (items : List Level) (held : Bool) (n : ℕ) (old : Level) (now : Stack) → record { levels = reverse items; held = held } ≡ now
-    → 0 < n → n ≤ length items → live held (reverse items) ≡ reverse (take n items) → old ≡ get_or items (n - 1) old → has_line old ≡ false
-    → next_line now ≡ (Nothing, record { levels = reverse (take n items); held = held })
-none-next items held n old now was some within lives is none =
-    let back : n - 1 + 1 ≡ n = omega (arith, some) in
-    let inside : n - 1 < length items = omega (arith, some, within) in
-    let below = reverse (take (n - 1) items) in
-    let cut : reverse (take n items) ≡ old ∷ below =
-    ap (λ (k : ℕ). reverse (take k items)) (sym back) ∙ one-more items (n - 1) old inside ∙ ap (λ (l : Level). l ∷ below) (sym is) in
-    ap next_line (sym was) ∙ ap (take_line held) (lives ∙ cut) ∙ rw (none, cut) refl
-
 -- a macro's level is put on top
 pub pushed : (items : List Level) (level : Level) → reverse (items ++ level ∷ []) ≡ level ∷ reverse items
 pushed items level = reverse-append items (level ∷ [])
@@ -188,15 +121,6 @@ takes-line now new filled r next (inl long) =
     subst (TakesLine now new) (sym long.1) (next ∙ (let e : ◌≡◌ {A = Taken × Stack} ((if filled.is_cut then TooLong filled.text else Line filled.text), new) (TooLong filled.text, new) = rw long.0 refl in e))
 takes-line now new filled r next (inr short) =
     subst (TakesLine now new) (sym short.1) (next ∙ (let e : ◌≡◌ {A = Taken × Stack} ((if filled.is_cut then TooLong filled.text else Line filled.text), new) (Line filled.text, new) = rw short.0 refl in e))
-
--- a line that is there is none of nothing
-pub some-next : (now new : Stack) (filled : Filled) → next_line now ≡ ((if filled.is_cut then TooLong filled.text else Line filled.text), new) → (next_line now).0 ≡ Nothing → ⊥
-some-next now new filled next none =
-    not_nothing filled.is_cut filled.text (ap (λ (p : Taken × Stack). p.0) (sym next) ∙ none)
-  where
-    not_nothing : (b : Bool) (t : List ℕ) → ◌≡◌ {A = Taken} (if b then TooLong t else Line t) Nothing → ⊥
-    not_nothing true t is = cc
-    not_nothing false t is = cc
 
 -- one level, read twice
 pub same-at : (items : List Level) (i : ℕ) (a b : Level) → i < length items → a ≡ get_or items i a → b ≡ get_or items i b → a ≡ b

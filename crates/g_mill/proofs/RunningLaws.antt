@@ -123,18 +123,9 @@ neither (Some both) runs tells = absurd (tells runs.just)
 pub illegal_else : (function : Function) (s : Machine) (o : Fields) → is_plain function ≡ true → TellsMore (effect function s o) → effect function s o ≡ None
 illegal_else function s o is tells = neither (effect function s o) (plain_runs function s o is) tells
 
-chosen : (b : Bool) (x y : Machine × Event) → (b ≡ true → x.1 ≢ Ran) → y.1 ≢ Ran → (if b then x else y).1 ≢ Ran
-chosen true x y hx hy = hx refl
-chosen false x y hx hy = hy
-
 if_true : (b : Bool) (x y : Machine × Event) → b ≡ true → (if b then x else y) ≡ x
 if_true true x y is = refl
 if_true false x y is = absurd (true≢false (sym is))
-
--- past the end of the program there is no order
-pub past_end : (s : Machine) → slice_get s.words s.next ≡ None → (order s).1 ≢ Ran
-past_end s none =
-    chosen (nat_lt s.next (size s)) _ _ (λ below. absurd (none-some _ (sym none ∙ slice_get-get_or s.words s.next 0 (ltb-true _ _ below)))) (other (Illegal 0 s.next) refl)
 
 if_false : (b : Bool) (x y : Machine × Event) → b ≡ false → (if b then x else y) ≡ y
 if_false true x y is = absurd (true≢false is)
@@ -143,12 +134,6 @@ if_false false x y is = refl
 pub past_order : (s : Machine) → slice_get s.words s.next ≡ None → order s ≡ (s, Illegal 0 s.next)
 past_order s none =
     if_false (nat_lt s.next (size s)) _ _ (false_from_ne_true _ (λ below. none-some _ (sym none ∙ slice_get-get_or s.words s.next 0 (ltb-true _ _ below))))
-
--- one order or none, by how many they are
-pub one_ran : (count : ℕ) (old new : Machine) → RunsTo count old new → count ≡ 1 → order old ≡ (new, Ran)
-one_ran count old new runs is =
-    let one : RunsTo 1 old new = subst (λ (n : ℕ). RunsTo n old new) is runs in
-    ap (λ (told : Event). let both : Machine × Event = ((order old).0, told) in both) one.0 ∙ ap (λ (p : Machine). let both : Machine × Event = (p, Ran) in both) (sym one.1)
 
 pub none_ran : (count : ℕ) (old new : Machine) → RunsTo count old new → count ≤ 1 → count ≢ 1 → new ≡ old
 none_ran zero old new runs most isnt = runs
@@ -219,14 +204,6 @@ pub left_by : (s : Machine) (word x : ℕ) (function : Function) → x ≡ (fiel
     → TellsMore (option_and_then (performed s) (decoded word))
 left_by s word x function x_is small row isnt =
     subst TellsMore (sym (done_by s word x (fields_of word).m (fields_of word).n function x_is small row refl refl)) (not_plain function s (operands x (fields_of word).m (fields_of word).n) isnt)
-
--- nothing, where the table has no row
-pub done_not : (s : Machine) (word x : ℕ) → x ≡ (fields_of word).x → x < 8 → function_of (fields_of word).f (fields_of word).x ≡ None → option_and_then (performed s) (decoded word) ≡ None
-done_not s word x x_is small row =
-    let o = fields_of word in
-    let invalid : is_order o.x o.f o.m o.n ≡ false = rw (lt-ltb o.x 8 (subst (λ (k : ℕ). k < 8) x_is small), row) refl in
-    let is : decoded word ≡ None = ap (λ (b : Bool). if b then Some o else None) invalid in
-    ap (option_and_then (performed s)) is
 
 -- what the order of a word leaves, by its function
 pub performed_by : (s : Machine) (word : ℕ) (o : Fields) (function : Function) → decoded word ≡ Some o → function_of o.f o.x ≡ Some function → option_and_then (performed s) (decoded word) ≡ effect function s o

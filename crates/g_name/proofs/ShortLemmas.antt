@@ -10,14 +10,6 @@ use Rattle.std.specs.Prelude.{◌&&◌, nat_eq}
 use Rattle.g_base.specs.Fields.{padded}
 use Rattle.g_name.specs.Short.{IsShort, short_bytes, short_length}
 
--- a new text has no byte
-pub none_short : (room : ℕ) → IsShort room 0 (replicate room 0)
-none_short room = record {
-  within = omega arith;
-  size = length-replicate {A = ℕ} room 0;
-  zeros = ap (λ (n : ℕ). replicate {A = ℕ} n 0) (let e : room ≡ room - 0 = omega arith in e);
-}
-
 -- a text in the place of as many zeros
 pub copied_short : (room : ℕ) (text : List ℕ) → length text ≤ room → IsShort room (length text) (text ++ drop (length text) (replicate room 0))
 copied_short room text fits =

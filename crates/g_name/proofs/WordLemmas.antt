@@ -3,7 +3,6 @@ use Rattle.std.proofs.Common.{◌≡◌, ℕ, ◌+◌, ◌<◌, ◌≤◌, ◌�
 use Rattle.std.specs.Prelude.{◌&&◌, ◌==◌, nat_le, nat_lt}
 use Rattle.std.specs.List.{list_all}
 use Rattle.std.proofs.lemmas.Bool.{and_parts, and_from, ltb-true, and_left, leb-true, lt-ltb, le-leb, ne_eqb, cases_Bool, false≢true}
-use Rattle.std.proofs.lemmas.List.{take_more}
 use Rattle.std.proofs.lemmas.List.Folds.{list_all-append}
 use Rattle.g_name.specs.BadPlace.{Begins, IsBadPlace}
 use Rattle.g_name.specs.Grammar.{is_letter, is_word, is_name_char, is_lang, is_user_text}
@@ -62,12 +61,6 @@ lang-extends l c more is =
 begins_word : (w : List ℕ) → may_be_word w ≡ true → Begins IsLocalText w
 begins_word [] may = (65 ∷ [], refl)
 begins_word (x ∷ xs) may = ([], ap is_word (append-nil (x ∷ xs)) ∙ may)
-
--- one byte more of a text that may be a word so far
-pub word_more : (text : List ℕ) (place : ℕ) → place < length text → may_be_word (take place text) ≡ true → extends (take place text) (get_or text place 0) ≡ true → may_be_word (take (place + 1) text) ≡ true
-word_more text place inside may next =
-    let longer = take_more text place 0 inside in
-    ap may_be_word longer ∙ may_be-from_word (take place text ++ get_or text place 0 ∷ []) (word-push (take place text) (get_or text place 0) may next)
 
 -- where a text stops being a word
 pub word_wrong : (text : List ℕ) (place : ℕ) → place ≤ length text → may_be_word (take place text) ≡ true

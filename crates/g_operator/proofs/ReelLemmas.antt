@@ -218,9 +218,6 @@ module _ (s : ℕ) (d : Devices) where
 
 -- UNDER A STORE
 module _ (s : ℕ) (old new : StoreFacts) (unspent : old.spent ≡ false) where
-  abbrev old_devices : Devices
-  old_devices = record { disc = old.online.disc; rack = old.rack }
-
   steps_up : (by : state.State → Result (Unit {0}) StoreFault → state.State → Type 0) (answer : Result (Unit {0}) StoreFault)
       → AnswersEvent (λ u k o a n. by u a n) (λ reply. 0) old answer new → (refusal : Option StoreFault) (is : Bool) → DoneOr refusal (record old { rack = changed s (with_mounted is) old.rack }) old answer new
       → ((fault : StoreFault) → refusal ≡ Some fault → (fault ≢ NoMemory) × (fault ≢ Stopped)) → StepsReels by (Up old) answer (Up new)

@@ -75,14 +75,6 @@ even_branch w is =
     let high = ltb-true _ _ range.1 in
     and_from _ _ (le-leb _ _ (let e : 0o50 ≤ 2 * (w / 2 ^ 15 % 2 ^ 6) = omega (arith, low) in e)) (lt-ltb _ _ (let e : 2 * (w / 2 ^ 15 % 2 ^ 6) < 0o100 = omega (arith, high) in e))
 
-by_bits : (w : ℕ) (b : Bool) → is_branch (w / 2 ^ 14 % 2 ^ 7) ≡ b
-    → (let o : Fields = if b then (record { x = w / 2 ^ 21; f = 2 * (w / 2 ^ 15 % 2 ^ 6); m = 0; n = w % 2 ^ 15 }) else (record { x = w / 2 ^ 21; f = w / 2 ^ 14 % 2 ^ 7; m = w / 2 ^ 12 % 4; n = w % 2 ^ 12 }) in is_branch o.f) ≡ b
-by_bits w true is = even_branch w is
-by_bits w false is = is
-
-pub branch_of_word : (w : ℕ) → is_branch (fields_of w).f ≡ is_branch (w / 2 ^ 14 % 2 ^ 7)
-branch_of_word w = by_bits w (is_branch (w / 2 ^ 14 % 2 ^ 7)) refl
-
 -- the operands of a word are within their limits
 operands_by : (w : ℕ) (b : Bool) → is_branch (w / 2 ^ 14 % 2 ^ 7) ≡ b
     → (let o : Fields = if b then (record { x = w / 2 ^ 21; f = 2 * (w / 2 ^ 15 % 2 ^ 6); m = 0; n = w % 2 ^ 15 }) else (record { x = w / 2 ^ 21; f = w / 2 ^ 14 % 2 ^ 7; m = w / 2 ^ 12 % 4; n = w % 2 ^ 12 }) in are_operands o.f o.m o.n) ≡ true

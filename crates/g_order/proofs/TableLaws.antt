@@ -1,5 +1,5 @@
 -- What every function number of the table keeps.
-use Rattle.std.proofs.Common.{◌≡◌, ◌≢◌, ◌<◌, ◌≤◌, arith, ℕ, ◌-◌, ◌%◌, Bool, true, false, ◌&&◌, ◌||◌, List, [], ◌∷◌, refl, ap, ◌∙◌, inl, inr}
+use Rattle.std.proofs.Common.{◌≡◌, arith, ℕ, ◌-◌, ◌%◌, Bool, true, false, ◌&&◌, ◌||◌, List, [], ◌∷◌, refl, ap, ◌∙◌, inl, inr}
 use Rattle.std.specs.Prelude.{Some, is_some, ◌==◌, nat_lt, not, if◌then◌else◌}
 use Rattle.std.proofs.lemmas.Bool.{eqb-true}
 use Rattle.std.specs.List.{list_all}
@@ -102,15 +102,3 @@ pub number_of_function : (n x : ℕ) (function : Function) → function_of n x �
 number_of_function n x function found =
     let some : is_some (function_of n x) ≡ true = ap is_some found in
     ap (λ (k : ℕ). function_of k x) (number_itself n (is_branch n) refl (number_of_row n x some)) ∙ found
-
--- an even number, and one that isn't a branch's, is its own function's
-own_by : (n : ℕ) (b : Bool) → (n % 2 ≡ 1 → b ≡ true → ⊥) → (if b then n - n % 2 else n) ≡ n
-own_by n true isnt = omega (arith, (λ (odd : n % 2 ≡ 1). isnt odd refl))
-own_by n false isnt = refl
-
-pub own_number : (n : ℕ) → (n % 2 ≡ 1 → is_branch n ≡ true → ⊥) → function_number n ≡ n
-own_number n isnt = own_by n (is_branch n) isnt
-
--- and an odd one of a branch that of the number before it
-pub far_number : (n : ℕ) → n % 2 ≡ 1 → is_branch n ≡ true → function_number n ≡ n - 1
-far_number n odd is = rw is (let e : n - n % 2 ≡ n - 1 = omega (arith, odd) in e)

@@ -10,26 +10,7 @@ module _ {S A : Type 0} (answers : S → List ℕ → StoreCall → Answer → S
   RanInPart-none (Gives x) old = refl
   RanInPart-none (Call call more) old = inl refl
 
-  -- the first call found no memory
-  pub RanInPart-memory : (call : StoreCall) (more : Answer → Asks A) (old new : S) → answers old who call (Err NoMemory) new → RanInPart answers who old (Call call more) new
-  RanInPart-memory call more old new a = inr (inl a)
-
 module _ {S W : Type 0} (answers : S → List ℕ → StoreCall → Answer → S → Type 0) (who : List ℕ) (is_over : W → Bool) where
-  -- a program that has run, isn't over, and is gone on with
-  pub Ran-then : (p : Asks W) (next : W → Asks W) (old mid new : S) (w given : W) → Ran answers who old p w mid → is_over w ≡ false → Ran answers who mid (next w) given new → Ran answers who old (and_then is_over p next) given new
-  Ran-then (Gives x) next old mid new w given r go later =
-      let e : is_over x ≡ false = ap is_over (sym r.0) ∙ go in
-      subst (λ b. Ran answers who old (if b then Gives x else next x) given new) (sym e)
-      (subst (λ s. Ran answers who s (next x) given new) r.1 (subst (λ y. Ran answers who mid (next y) given new) r.0 later))
-  Ran-then (Call call more) next old mid new w given r go later = (r.0, r.1, r.2, r.3, Ran-then (more r.0) next r.1 mid new w given r.4 go later)
-
-  -- a program that has run and is over
-  pub Ran-over : (p : Asks W) (next : W → Asks W) (old new : S) (w : W) → Ran answers who old p w new → is_over w ≡ true → Ran answers who old (and_then is_over p next) w new
-  Ran-over (Gives x) next old new w r over =
-      let e : is_over x ≡ true = ap is_over (sym r.0) ∙ over in
-      subst (λ b. Ran answers who old (if b then Gives x else next x) w new) (sym e) r
-  Ran-over (Call call more) next old new w r over = (r.0, r.1, r.2, r.3, Ran-over (more r.0) next r.1 new w r.4 over)
-
   -- a program that found no memory before what comes after it
   pub RanInPart-first : (p : Asks W) (next : W → Asks W) (old new : S) → RanInPart answers who old p new → RanInPart answers who old (and_then is_over p next) new
   RanInPart-first (Gives x) next old new r =

@@ -13,9 +13,6 @@ some_of (Some x) e = (x, refl)
 pub same_some : {X : Type 0} (x y : X) → Some x ≡ Some y → x ≡ y
 same_some x y e = ap (λ o. unwrap_or o x) e
 
-pub some_is : {X : Type 0} (o : Option X) (x : X) → o ≡ Some x → is_some o ≡ true
-some_is o x e = ap is_some e
-
 tie_is : (r : Ordering) → is_eq r ≡ true → r ≡ Equal
 tie_is Less e = absurd (true≢false (sym e))
 tie_is Equal e = refl

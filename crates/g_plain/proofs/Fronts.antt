@@ -1,5 +1,5 @@
 -- Tests that come before others.
-use Rattle.std.proofs.Common.{◌≡◌, Bool, true, false, cond, not, ◌++◌, List, [], ◌∷◌, ℕ, Option, Some, None, Result, Ok, Err, is_some, refl, sym, ap, ◌∙◌, true≢false}
+use Rattle.std.proofs.Common.{◌≡◌, Bool, true, false, cond, not, ◌++◌, List, [], ◌∷◌, ℕ, Option, Some, None, Result, Ok, is_some, refl, sym, ap, ◌∙◌, true≢false}
 use Rattle.std.specs.List.{AllByRecursion}
 use Rattle.g_name.specs.declared.full.Full.{Full}
 use Rattle.g_plain.specs.declared.names.NamedFile.{NamedFile}
@@ -10,7 +10,7 @@ use Rattle.g_plain.specs.declared.calls.StoreCall.{StoreCall}
 use Rattle.g_plain.specs.declared.faults.StoreFault.{StoreFault}
 use Rattle.g_plain.specs.declared.faults.StoreFault.TheVariants.{NoUser}
 use Rattle.g_plain.specs.PlainTree.{Tree, has_user}
-use Rattle.g_plain.specs.PlainStep.{Checks, first_fault, checks, fault_in, fault_of}
+use Rattle.g_plain.specs.PlainStep.{Checks, first_fault, checks, fault_in}
 use Rattle.g_plain.specs.Grants.{fault_or, file_named, granted_by, granted_of, name_granted, name_in}
 use Rattle.g_plain.proofs.StepKept.{all_passed}
 
@@ -50,24 +50,11 @@ none_of (Some x) e = absurd (true≢false e)
 pub front_tests : (a : Checks) (r : Option StoreFault) → r ≡ first_fault a → is_some r ≡ false → AllByRecursion (λ c. c.0 ≡ false) a
 front_tests a r e none = all_passed a (none_of (first_fault a) (ap is_some (sym e) ∙ none))
 
--- the fault of a caller who is there
-pub known : (t : Tree) (who : List ℕ) (call other : StoreCall) (r : Option StoreFault) → has_user t who ≡ true → call ≡ other → r ≡ first_fault (checks t who other) → r ≡ fault_of t who call
-known t who call other r there is e =
-    e ∙ ap (λ b. cond (not b) (Some NoUser) (first_fault (checks t who other))) (sym there) ∙ ap (fault_of t who) (sym is)
-
 -- what is granted to a caller who is there
 pub known_granted : (numbers : Full → Option ℕ) (t : Tree) (who : List ℕ) (call other : StoreCall) (r : Result GrantedName StoreFault) → has_user t who ≡ true → call ≡ other
     → r ≡ granted_by (checks t who other) (name_granted numbers (name_in t who other)) → r ≡ granted_of numbers t who call
 known_granted numbers t who call other r there is e =
     e ∙ ap (λ b. fault_or (cond (not b) (Some NoUser) (first_fault (checks t who other))) (name_granted numbers (name_in t who other))) (sym there) ∙ ap (granted_of numbers t who) (sym is)
-
-fault_is : {A : Type 0} (o : Option StoreFault) (v : A) (f : StoreFault) → Err f ≡ fault_or o v → o ≡ Some f
-fault_is (Some g) v f e = cc
-fault_is None v f e = absurd cc
-
-none_is : {A : Type 0} (o : Option StoreFault) (v x : A) → Ok x ≡ fault_or o v → o ≡ None
-none_is (Some g) v x e = absurd cc
-none_is None v x e = refl
 
 value_of : {A : Type 0} (o : Option StoreFault) (v x : A) → Ok x ≡ fault_or o v → x ≡ v
 value_of (Some g) v x e = absurd cc
@@ -76,19 +63,6 @@ value_of None v x e = cc
 -- what is granted by tests is their value, and none of them holds
 pub granted_is : {A : Type 0} (a : Checks) (v x : A) → Ok x ≡ granted_by a v → x ≡ v
 granted_is a v x e = value_of (first_fault a) v x e
-
-pub granted_tests : {A : Type 0} (a : Checks) (v x : A) → Ok x ≡ granted_by a v → AllByRecursion (λ c. c.0 ≡ false) a
-granted_tests a v x e = all_passed a (none_is (first_fault a) v x e)
-
--- what tests refuse is refused with others behind them
-pub front_refused : {A B : Type 0} (a b : Checks) (v : A) (w : B) (f : StoreFault) → Err f ≡ granted_by a v → Err f ≡ granted_by (a ++ b) w
-front_refused a b v w f e =
-    let is = fault_is (first_fault a) v f e in
-    ap (λ o. fault_or o w) (sym is ∙ front_some a b (ap is_some is))
-
--- and what they grant goes by those behind them
-pub rest_granted : {A B : Type 0} (a b : Checks) (v x : A) (w : B) → Ok x ≡ granted_by a v → granted_by b w ≡ granted_by (a ++ b) w
-rest_granted a b v x w e = ap (λ o. fault_or o w) (sym (front_none a b (ap is_some (none_is (first_fault a) v x e))))
 
 -- a name for input is one alone
 pub same_input : (a b : Full) → name.Input a ≡ name.Input b → a ≡ b

@@ -54,9 +54,6 @@ tree_by t who call o = elim o [ Some fault ↦ t | None ↦ tree_after t who cal
 same_err : (a b : StoreFault) → (let x : Result StoreReply StoreFault = Err a in x ≡ Err b) → a ≡ b
 same_err a b e = cc
 
-ok_no_err : (reply : StoreReply) (f : StoreFault) → (let x : Result StoreReply StoreFault = Ok reply in x ≡ Err f) → ⊥
-ok_no_err reply f e = cc
-
 -- a fault that isn't of the plain step's own is never its fault
 pub own_fault : (t : Tree) (who : List ℕ) (call : StoreCall) (f g : StoreFault) → Some f ≡ fault_of t who call → (let x : Result StoreReply StoreFault = Err f in x ≡ Err g) → is_plain g ≡ true
 own_fault t who call f g some e =

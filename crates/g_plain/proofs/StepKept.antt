@@ -40,10 +40,6 @@ not_above a b f = grind (arith, nat_tests)
 pub below_by : (a b : ℕ) → nat_le a b ≡ false → b + 1 ≤ a
 below_by a b f = grind (arith, nat_tests)
 
-none_of : {X : Type 0} (o : Option X) → is_some o ≡ false → o ≡ None
-none_of None e = refl
-none_of (Some x) e = absurd (true≢false e)
-
 budget_row : (t : Tree) (user : List ℕ) (row : UserRow) (kind : BudgetKind) (amount : ℕ) → IsUserRow t user row → amount ≤ most_of kind → IsUserRow t user (with_budget row kind amount)
 budget_row t user row Space amount r few = record { name = r.name; superior = r.superior; space = few; time = r.time; money = r.money }
 budget_row t user row Time amount r few = record { name = r.name; superior = r.superior; space = r.space; time = few; money = r.money }

@@ -26,7 +26,6 @@ use Rattle.g_plan.specs.declared.form.Value.{Value}
 use Rattle.g_plan.specs.declared.form.Value.TheVariants.{Number, Named}
 use Rattle.g_plan.specs.declared.mnemonic.Mnemonic.{Mnemonic}
 use Rattle.g_lines.proofs.NumberLemmas.{number-complete, number-sound, same_text-eq, same_text-refl}
-use Rattle.g_plan.proofs.TableLemmas.{mnemonic_of-text}
 use Rattle.g_plan.proofs.WordLemmas.{back-kept, before-all, before-drop, before-found, front-back, front_some, some_word, words_front, words_split}
 
 -- options

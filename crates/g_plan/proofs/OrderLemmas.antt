@@ -1,15 +1,15 @@
 -- The forms that are read have all their parts in range, and each order is one of the table.
 use Rattle.std.proofs.Common.{◌≡◌, ◌≢◌, ◌≤◌, ◌<◌, ◌+◌, ◌-◌, ◌^◌, ◌∙◌, ◌⊎◌, inl, inr, ℕ, suc, zero, List, [], ◌∷◌, ◌++◌, Bool, true, false, not, Option, Some, None, ap, arith, is_some, IsTrue, refl, subst, sym}
-use Rattle.std.specs.Prelude.{◌&&◌, ◌||◌, ◌==◌, if◌then◌else◌, nat_le, nat_lt}
+use Rattle.std.specs.Prelude.{◌&&◌, ◌==◌, nat_le, nat_lt}
 use Rattle.std.specs.List.{list_all, range_with_len, slice_get}
-use Rattle.std.specs.Option.{option_and_then, option_map}
+use Rattle.std.specs.Option.{option_and_then}
 use Rattle.std.proofs.lemmas.Bool.{and_from, and_parts, cases_Bool, cond_both, eq-eqb, eqb-false, eqb-true, false≢true, leb-true, lt-ltb, ltb-true, not-true}
 use Rattle.std.proofs.lemmas.Option.{cond_some, same_Some}
 use Rattle.g_order.specs.Order.{are_operands, is_branch, is_order}
 use Rattle.g_order.specs.Table.{function_of}
 use Rattle.g_plan.specs.Assembly.{address, at_most, form_behind, in_place, is_among, is_blank, moved, resolved}
 use Rattle.g_plan.specs.SecondPass.{AllFit, Fits, HasAddress, HasM, HasX, IsOperand, IsWordValue, MayFit}
-use Rattle.g_plan.specs.Forms.{IsAccumulator, IsAddressOf, IsModifier, IsNegative, IsValue, IsWord, Says}
+use Rattle.g_plan.specs.Forms.{IsAccumulator, IsAddressOf, IsModifier, IsWord, Says}
 use Rattle.g_plan.specs.LineReader.{form_read}
 use Rattle.g_plan.specs.Reading.{read_from}
 use Rattle.g_plan.specs.Table.{row_of}
@@ -23,7 +23,7 @@ use Rattle.g_plan.specs.declared.mnemonic.Row.{Row}
 use Rattle.g_plan.specs.declared.source.Line.{Line}
 use Rattle.g_plan.proofs.FormLemmas.{then_some}
 use Rattle.g_plan.proofs.LineLemmas.{form-sound}
-use Rattle.g_plan.proofs.TableLemmas.{has_function, has_room, is_row, rows_are_orders}
+use Rattle.g_plan.proofs.TableLemmas.{has_function, has_room, rows_are_orders}
 
 -- what is read is in range
 number_is : (n k : ℕ) → ◌≡◌ {A = Value} (Number n) (Number k) → n ≡ k
@@ -167,29 +167,6 @@ order-is name x m v all a fits is =
     let both = and_parts (has_function row.f row.x) (has_room row row.most) parts.1 in
     and_from (nat_lt x 8 && is_some (function_of row.f x)) (are_operands row.f m (a + row.adds)) (has_x row.f row.x x both.0 fits.x_fits)
     (operands_of row m v all a row.most both.1 fits.m_fits fits.v_fits is)
-
--- and has room
-room_for : (row : Row) (all : List Line) (v : Value) (a : ℕ) (most : Option ℕ) → has_room row most ≡ true → HasAddress most v → option_and_then (at_most most) (resolved all v) ≡ Some a
-    → a + row.adds < 2 ^ 15
-room_for row all v a None room address_is is =
-    let parts = and_parts (row.adds == 0) (not (is_branch row.f)) room in
-    let adds = eqb-true row.adds 0 parts.0 in
-    let zero_is : ◌≡◌ {A = Option ℕ} (Some 0) (Some a) = sym (ap (λ (u : Value). option_and_then (at_most None) (resolved all u)) address_is) ∙ is in
-    let same = same_Some 0 a zero_is in omega (arith, adds, same)
-room_for row all v a (Some most) room address_is is =
-    let (b, resolved_is, within) = then_some (at_most (Some most)) (resolved all v) a is in
-    let few = ranged most b a within in
-    cond_both (is_branch row.f) (nat_lt (most + row.adds) 32768 && not row.modified) (nat_lt (most + row.adds) 4096) (λ (t : Bool). t ≡ true → a + row.adds < 2 ^ 15)
-    (λ branch there. let low = ltb-true (most + row.adds) 32768 (and_parts (nat_lt (most + row.adds) 32768) (not row.modified) there).0 in omega (arith, few, low))
-    (λ branch there. let low = ltb-true (most + row.adds) 4096 there in omega (arith, few, low)) room
-
-pub address-room : (name : Mnemonic) (x m : ℕ) (v : Value) (all : List Line) (a : ℕ) → IsOperand (row_of name) x m v → address all (row_of name) v ≡ Some a
-    → a + (row_of name).adds < 2 ^ 15
-address-room name x m v all a fits is =
-    let row = row_of name in
-    let parts = and_parts (nat_lt row.f 128) (has_function row.f row.x && has_room row row.most) (rows_are_orders name) in
-    let both = and_parts (has_function row.f row.x) (has_room row row.most) parts.1 in
-    room_for row all v a row.most both.1 fits.v_fits is
 
 -- so the order of a word that is given is there
 pub order-new : (name : Mnemonic) (x m : ℕ) (v : Value) (all : List Line) (row : Row) (a : ℕ) → IsOperand (row_of name) x m v → row ≡ row_of name

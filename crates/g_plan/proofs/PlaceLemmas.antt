@@ -10,7 +10,7 @@ use Rattle.g_plan.specs.SecondPass.{IsImageOf, IsPut}
 use Rattle.g_plan.specs.Passes.{IsFormPut}
 use Rattle.g_plan.specs.Table.{row_of}
 use Rattle.g_plan.specs.declared.form.Form.{Form}
-use Rattle.g_plan.specs.declared.form.Form.TheVariants.{Nothing, Program, At, Word, Chars, Order}
+use Rattle.g_plan.specs.declared.form.Form.TheVariants.{At, Word, Chars, Order}
 use Rattle.g_plan.specs.declared.form.Value.{Value}
 use Rattle.g_plan.specs.declared.image.Image.{Image}
 use Rattle.g_plan.specs.declared.mnemonic.Mnemonic.{Mnemonic}
@@ -63,9 +63,3 @@ and_true false = refl
 
 pub at-put : (all : List Line) (size place n : ℕ) (image : Image) (result : Bool) → result ≡ nat_lt n size → IsFormPut all size (At n) place image image result
 at-put all size place n image result is filled there = (is ∙ and_true (nat_lt n size), (λ _. nothing_put size filled image there))
-
-pub nothing-put : (all : List Line) (size place : ℕ) (image : Image) → IsFormPut all size Nothing place image image true
-nothing-put all size place image filled there = (refl, (λ _. nothing_put size filled image there))
-
-pub size-put : (all : List Line) (size place n : ℕ) (image : Image) → IsFormPut all size (Program n) place image image true
-size-put all size place n image filled there = (refl, (λ _. nothing_put size filled image there))

@@ -1,5 +1,5 @@
 -- The program file of an image, line by line.
-use Rattle.std.proofs.Common.{◌≡◌, ◌≤◌, ◌<◌, ◌+◌, ◌∙◌, ℕ, suc, zero, List, [], ◌∷◌, ◌++◌, ap, arith, map, refl, subst, sym}
+use Rattle.std.proofs.Common.{◌≡◌, ◌<◌, ◌+◌, ◌∙◌, ℕ, suc, zero, List, [], ◌∷◌, ◌++◌, ap, arith, map, subst, sym}
 use Rattle.std.specs.List.{range_with_len}
 use Rattle.std.proofs.lemmas.Grind.{flat_map-append}
 use Rattle.std.proofs.lemmas.List.{append-nil, map-append}
@@ -23,9 +23,6 @@ range_one f a (suc n) =
 text_one : (ls : List (List ℕ)) (line : List ℕ) → text_of (ls ++ line ∷ []) ≡ text_of ls ++ ended line
 text_one ls line = flat_map-append ended ls (line ∷ []) ∙ ap (λ (t : List ℕ). text_of ls ++ t) (append-nil (ended line))
 
-pub file_none : (size : ℕ) (image : Image) (file : List ℕ) → file ≡ [] ++ ended (octal_digits 8 size) → FileSoFar size image file 0
-file_none size image file is most filled there = is ∙ sym (append-nil (ended (octal_digits 8 size)))
-
 file_suc : (size : ℕ) (image : Image) (file new : List ℕ) (place word : ℕ) → FileSoFar size image file place → new ≡ file ++ ended (octal_digits 8 word)
     → ((most : ℕ) (filled : List (ℕ × ℕ)) → IsImageOf most filled image → place < end_of filled)
     → ((most : ℕ) (filled : List (ℕ × ℕ)) → IsImageOf most filled image → place < most → word ≡ word_at filled place) → FileSoFar size image new (suc place)
@@ -47,9 +44,3 @@ pub file_next : (size : ℕ) (image : Image) (file new : List ℕ) (place word :
 file_next size image file new place word so_far is below value =
     let next : suc place ≡ place + 1 = omega arith in
     subst (FileSoFar size image new) next (file_suc size image file new place word so_far is below value)
-
-pub file_all : (size : ℕ) (image : Image) (file : List ℕ) (place : ℕ) → FileSoFar size image file place
-    → ((most : ℕ) (filled : List (ℕ × ℕ)) → IsImageOf most filled image → place ≡ end_of filled)
-    → (most : ℕ) (filled : List (ℕ × ℕ)) → IsImageOf most filled image → file ≡ text_of (map (octal_digits 8) (size ∷ words_up_to filled (end_of filled)))
-file_all size image file place so_far ends most filled there =
-    so_far most filled there ∙ ap (λ (k : ℕ). text_of (map (octal_digits 8) (size ∷ words_up_to filled k))) (ends most filled there)

@@ -1,21 +1,19 @@
 -- The first pass: a source's lines one after the other, and what is known of their labels and their size.
-use Rattle.std.proofs.Common.{◌≡◌, ◌≢◌, ◌≤◌, ◌∙◌, ℕ, List, [], ◌∷◌, ◌++◌, Bool, true, false, Option, Some, None, ap, append_assoc, arith, is_some, refl, sym, subst}
-use Rattle.std.specs.Prelude.{◌&&◌, ◌||◌, if◌then◌else◌}
+use Rattle.std.proofs.Common.{◌≡◌, ◌∙◌, ℕ, List, [], ◌∷◌, ◌++◌, Bool, true, false, Option, Some, None, ap, append_assoc, is_some, refl, sym}
+use Rattle.std.specs.Prelude.{◌&&◌, if◌then◌else◌}
 use Rattle.std.specs.BTreeMap.{is_at}
 use Rattle.std.specs.Cmp.Lexicographic.{texts_ties}
 use Rattle.std.specs.List.{find, list_all, list_any, scan}
-use Rattle.std.specs.Option.{option_and_then, option_map, option_or}
+use Rattle.std.specs.Option.{option_map, option_or}
 use Rattle.std.proofs.lemmas.Bool.{cond_both}
 use Rattle.std.proofs.lemmas.List.Folds.{find-append, list_all-append}
 use Rattle.std.proofs.lemmas.List.{append-nil}
 use Rattle.g_name.specs.Order.{same_text, text_cmp}
-use Rattle.g_plan.specs.Assembly.{form_behind, forms_behind, has_label, in_place, is_among, is_blank, is_this, lines_with, moved, resolved, size_in, size_of, source}
-use Rattle.g_plan.specs.LineReader.{form_read}
+use Rattle.g_plan.specs.Assembly.{form_behind, forms_behind, has_label, is_among, is_blank, is_this, lines_with, moved, resolved, size_in, size_of, source}
 use Rattle.g_plan.specs.LineIndex.{IsIndexed, noted, place_in}
 use Rattle.g_plan.specs.Reading.{IsReadBehind, form_at, has_place, place_from, read_from}
 use Rattle.g_plan.specs.Words.{label_in}
 use Rattle.g_plan.specs.declared.form.Form.{Form}
-use Rattle.g_plan.specs.declared.form.Form.TheVariants.{Nothing}
 use Rattle.g_plan.specs.declared.form.Value.TheVariants.{Named}
 use Rattle.g_plan.specs.declared.reader.Reader.{Reader}
 use Rattle.g_plan.specs.declared.source.Line.{Line}
@@ -114,10 +112,6 @@ placed_or None line true = refl
 placed_or None line false = refl
 placed_or (Some l) line b = refl
 
-some_or : (o other : Option ℕ) → is_some o ≡ true → o ≡ option_or o other
-some_or None other is = absurd cc
-some_or (Some n) other is = refl
-
 is_none : (o : Option ℕ) → is_some o ≡ false → o ≡ None
 is_none None is = refl
 is_none (Some n) is = absurd cc
@@ -148,12 +142,6 @@ noted_by places label other place found same apart =
     (λ is. same is ∙ ap (λ (l : List ℕ). option_or (place_in places l) (Some place)) (same_text-eq label other is))
     (λ is. apart is ∙ sym (or_none (place_in places other)))
 
-pub noted-kept : (places : List (List ℕ × ℕ)) (label other : List ℕ) (place : ℕ) → is_some (place_in places label) ≡ true
-    → place_in places other ≡ option_or (place_in places other) (if same_text label other then Some place else None)
-noted-kept places label other place there =
-    noted_by places label other place (place_in places other)
-    (λ is. ap (place_in places) (sym (same_text-eq label other is)) ∙ some_or (place_in places label) (Some place) there) (λ is. refl)
-
 pub noted-put : (places new : List (List ℕ × ℕ)) (label other : List ℕ) (place : ℕ) → is_some (place_in places label) ≡ false
     → place_in new other ≡ (if is_at (text_cmp label) other then Some place else place_in places other)
     → place_in new other ≡ option_or (place_in places other) (if same_text label other then Some place else None)
@@ -164,9 +152,6 @@ noted-put places new label other place none put =
     noted_by places label other place (place_in new other)
     (λ is. found ∙ ap (λ (b : Bool). if b then Some place else place_in places other) is ∙ sym (ap (λ (o : Option ℕ). option_or o (Some place)) (is_none (place_in places label) none)))
     (λ is. found ∙ ap (λ (b : Bool). if b then Some place else place_in places other) is)
-
-pub indexed-none : IsIndexed [] [] None
-indexed-none = record { labels_are = λ label. refl; size_is = refl }
 
 pub indexed-one : (lines : List Line) (places new : List (List ℕ × ℕ)) (size more : Option ℕ) (line : Line) → IsIndexed lines places size
     → ((label : List ℕ) → place_in new label ≡ noted places line label) → more ≡ option_or size (size_of line.form) → IsIndexed (lines ++ line ∷ []) new more

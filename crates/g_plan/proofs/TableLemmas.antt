@@ -1,11 +1,11 @@
 -- Each name of the table is one of an order, with room for its address.
-use Rattle.std.proofs.Common.{◌≡◌, ℕ, ◌+◌, List, [], ◌∷◌, Bool, true, false, not, Option, Some, None, refl}
-use Rattle.std.specs.Prelude.{◌&&◌, ◌==◌, is_some, nat_le, nat_lt, if◌then◌else◌}
+use Rattle.std.proofs.Common.{◌≡◌, ℕ, ◌+◌, List, [], ◌∷◌, Bool, true, not, Option, Some, None, refl}
+use Rattle.std.specs.Prelude.{◌&&◌, ◌==◌, is_some, nat_lt, if◌then◌else◌}
 use Rattle.std.specs.List.{list_all}
 use Rattle.g_order.specs.Order.{is_branch}
 use Rattle.g_order.specs.Table.{function_of}
 use Rattle.g_plan.specs.LineReader.{named_read, order_read}
-use Rattle.g_plan.specs.Table.{mnemonic_of, name_text, row_of}
+use Rattle.g_plan.specs.Table.{name_text, row_of}
 use Rattle.g_plan.specs.declared.mnemonic.Mnemonic.{Mnemonic}
 use Rattle.g_plan.specs.declared.mnemonic.Mnemonic.TheVariants as name
 use Rattle.g_plan.specs.declared.mnemonic.Row.{Row}
@@ -71,54 +71,6 @@ rows_are_orders name.Slc = refl
 rows_are_orders name.Sll = refl
 rows_are_orders name.Src = refl
 rows_are_orders name.Srl = refl
-
-pub mnemonic_of-text : (o : Mnemonic) → mnemonic_of (name_text o) ≡ Some o
-mnemonic_of-text name.Ldx = refl
-mnemonic_of-text name.Adx = refl
-mnemonic_of-text name.Ngx = refl
-mnemonic_of-text name.Sbx = refl
-mnemonic_of-text name.Sto = refl
-mnemonic_of-text name.Ads = refl
-mnemonic_of-text name.Ngs = refl
-mnemonic_of-text name.Sbs = refl
-mnemonic_of-text name.Andx = refl
-mnemonic_of-text name.Orx = refl
-mnemonic_of-text name.Erx = refl
-mnemonic_of-text name.Ldch = refl
-mnemonic_of-text name.Ands = refl
-mnemonic_of-text name.Ors = refl
-mnemonic_of-text name.Ers = refl
-mnemonic_of-text name.Dch = refl
-mnemonic_of-text name.Mpy = refl
-mnemonic_of-text name.Ldn = refl
-mnemonic_of-text name.Adn = refl
-mnemonic_of-text name.Ngn = refl
-mnemonic_of-text name.Sbn = refl
-mnemonic_of-text name.Andn = refl
-mnemonic_of-text name.Orn = refl
-mnemonic_of-text name.Ern = refl
-mnemonic_of-text name.Move = refl
-mnemonic_of-text name.Stoz = refl
-mnemonic_of-text name.Peri = refl
-mnemonic_of-text name.Susty = refl
-mnemonic_of-text name.Disty = refl
-mnemonic_of-text name.Delty = refl
-mnemonic_of-text name.Null = refl
-mnemonic_of-text name.Bze = refl
-mnemonic_of-text name.Bnz = refl
-mnemonic_of-text name.Bpz = refl
-mnemonic_of-text name.Bng = refl
-mnemonic_of-text name.Call = refl
-mnemonic_of-text name.Exit = refl
-mnemonic_of-text name.Brn = refl
-mnemonic_of-text name.Bvs = refl
-mnemonic_of-text name.Bvsr = refl
-mnemonic_of-text name.Bvc = refl
-mnemonic_of-text name.Bvcr = refl
-mnemonic_of-text name.Slc = refl
-mnemonic_of-text name.Sll = refl
-mnemonic_of-text name.Src = refl
-mnemonic_of-text name.Srl = refl
 
 -- a name is read as that of an order
 pub named-order : (labelled : Bool) (o : Mnemonic) (ws : List (List ℕ)) (rest : List ℕ) → named_read labelled (name_text o) ws rest ≡ order_read o ws

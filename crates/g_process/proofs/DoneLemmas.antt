@@ -196,28 +196,6 @@ module _ (serial : ℕ) (old mid : Rack) (lists : List Listed) (listed : AreList
   never_this : has ss serial ≡ true → ⊥
   never_this is = (has_taken serial serial old mid lists listed.each is).1 refl
 
-  other_same : (r q : Reel) → Contains old.reels r → (serial ≡ r.serial → ⊥) → unread q ≡ unread r → IsCutBy serial old r q
-  other_same r q there apart same =
-      elim (cases_Bool (has ss r.serial)) [
-        | inl is ↦ inr ((λ e. apart (sym e)), inr ((has_taken serial r.serial old mid lists listed.each is).0, inl same))
-        | inr is ↦ inr ((λ e. apart (sym e)), inl (has_free serial r.serial old mid lists listed.each (on_list r there) (λ e. apart (sym e)) is, same))
-      ]
-
-  -- stopped before any release
-  pub reels_cut : (f : Reel → Reel) (new : Rack) → Becomes (at_serial serial f) old new → AllZip (IsCutBy serial old) old.reels new.reels
-  reels_cut f new is = zip_becomes (at_serial serial f) old new (IsCutBy serial old) is (λ r q there same.
-      elim (eqb_tells serial r.serial) [
-        | inl h ↦ inl (sym h.1)
-        | inr h ↦ other_same r q there h.1 (same ∙ at_other serial f (unread r) h.1)
-      ])
-
-  pub reels_same : (new : Rack) → Becomes (λ r. r) old new → AllZip (IsCutBy serial old) old.reels new.reels
-  reels_same new is = zip_becomes (λ r. r) old new (IsCutBy serial old) is (λ r q there same.
-      elim (eqb_tells serial r.serial) [
-        | inl h ↦ inl (sym h.1)
-        | inr h ↦ other_same r q there h.1 same
-      ])
-
   -- all are released
   pub reels_left : (w : List (List ℕ)) (need : ℕ) (new : Rack) → length w ≡ need → 0 < need → Becomes (λ r. released ss (at_serial serial (filled w) r)) old new → AllZip (IsLeftBy serial need old) old.reels new.reels
   reels_left w need new long some is = zip_becomes (λ r. released ss (at_serial serial (filled w) r)) old new (IsLeftBy serial need old) is (λ r q there same. by_reel r q there same (eqb_tells serial r.serial))

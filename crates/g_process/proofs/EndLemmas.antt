@@ -167,9 +167,6 @@ module _ (serial : ℕ) (old mid : Rack) (lists : List Listed) (listed : AreList
 
   -- ONE RELEASE FAILED
   module _ (i : ℕ) (l : Listed) (at : slice_get lists i ≡ Some l) (taken_l : is_taken serial l ≡ true) where
-    abbrev part : List ℕ
-    part = taken serial (take i lists)
-
     abbrev becomes : List (List ℕ) → Remains → Reel → Reel
     becomes w how r = at_serial l.serial (left_by how 0) (released (taken serial (take i lists)) (at_serial serial (filled w) r))
 

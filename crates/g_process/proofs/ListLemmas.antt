@@ -1,10 +1,9 @@
 -- What the catalogue tells of a reel and of the files.
-use Rattle.std.proofs.Common.{◌≡◌, ℕ, zero, suc, ◌+◌, ◌≤◌, ◌==◌, true, false, List, [], ◌∷◌, drop, length, map, Some, refl, sym, ◌∙◌, ap, arith, subst, inl, inr, slice_get}
+use Rattle.std.proofs.Common.{◌≡◌, ℕ, zero, suc, ◌==◌, true, false, List, [], ◌∷◌, map, Some, refl, sym, ◌∙◌, arith, subst, inl, inr}
 use Rattle.std.specs.Prelude.{◌⊎◌, All, Contains}
-use Rattle.std.proofs.lemmas.Bool.{cond-false, cond-true, eq-eqb, ne_eqb}
+use Rattle.std.proofs.lemmas.Bool.{cond-false, cond-true}
 use Rattle.std.proofs.lemmas.Bool.Decides.{eqb_tells}
 use Rattle.std.proofs.lemmas.List.Elements.{All-head, All-tail}
-use Rattle.std.proofs.lemmas.Option.{same_Some}
 use Rattle.g_tape.specs.Rack.{Rack, reel}
 use Rattle.g_tape.specs.Reel.{Reel}
 use Rattle.g_tape.proofs.PlaceLemmas.{reel-found}
@@ -87,26 +86,3 @@ taken_by_list serial old new lists r are at some =
       some = λ blocks told dumps completed none.
           some_noted noted.dumps (notes_at serial lists) noted.notes_are some (completed_are_one serial blocks noted.dumps dumps (noted.found.completed blocks told) completed ∙ none);
     }
-
--- THE LIST OF A REEL is looked for from the first on
-pub notes_here : (s : ℕ) (ls : List Listed) (i : ℕ) (l : Listed) → slice_get ls i ≡ Some l → l.serial ≡ s → notes_at s (drop i ls) ≡ l.notes
-notes_here s [] i l at is = absurd (let no : ⊥ = cc in no)
-notes_here s (x ∷ xs) zero l at is =
-    let same : x ≡ l = same_Some x l at in
-    cond-true (x.serial == s) x.notes (notes_at s xs) (eq-eqb x.serial s (ap (λ (y : Listed). y.serial) same ∙ is)) ∙ ap (λ (y : Listed). y.notes) same
-notes_here s (x ∷ xs) (suc i) l at is = notes_here s xs i l at is
-
-notes_past : (s : ℕ) (ls : List Listed) (i : ℕ) (l : Listed) → slice_get ls i ≡ Some l → (l.serial ≡ s → ⊥) → notes_at s (drop i ls) ≡ notes_at s (drop (suc i) ls)
-notes_past s [] i l at isnt = absurd (let no : ⊥ = cc in no)
-notes_past s (x ∷ xs) zero l at isnt =
-    cond-false (x.serial == s) x.notes (notes_at s xs) (ne_eqb x.serial s (λ e. isnt (ap (λ (y : Listed). y.serial) (sym (same_Some x l at)) ∙ e)))
-notes_past s (x ∷ xs) (suc i) l at isnt = notes_past s xs i l at isnt
-
-pub notes_next : (s : ℕ) (ls : List Listed) (i : ℕ) (l : Listed) → slice_get ls i ≡ Some l → (l.serial ≡ s → ⊥) → notes_at s (drop i ls) ≡ notes_at s (drop (i + 1) ls)
-notes_next s ls i l at isnt = notes_past s ls i l at isnt ∙ ap (λ (n : ℕ). notes_at s (drop n ls)) (let e : suc i ≡ i + 1 = omega arith in e)
-
-pub notes_end : (s : ℕ) (ls : List Listed) (i : ℕ) → length ls ≤ i → notes_at s (drop i ls) ≡ []
-notes_end s [] zero past = refl
-notes_end s [] (suc i) past = refl
-notes_end s (x ∷ xs) zero past = absurd (let no : ⊥ = omega (arith, past) in no)
-notes_end s (x ∷ xs) (suc i) past = notes_end s xs i (omega (arith, past))

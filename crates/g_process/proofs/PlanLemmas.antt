@@ -317,15 +317,6 @@ blocks_push (q ∷ qs) r =
     let two = sum_by-cons (λ (s : FileRec). blocks_for s.len) q qs in
     omega (arith, rest, one, two)
 
-pub blocks_part : (i : ℕ) (rs : List FileRec) → blocks_of (take i rs) ≤ blocks_of rs
-blocks_part zero rs = omega arith
-blocks_part (suc i) [] = omega arith
-blocks_part (suc i) (q ∷ qs) =
-    let rest = blocks_part i qs in
-    let one = sum_by-cons (λ (s : FileRec). blocks_for s.len) q (take i qs) in
-    let two = sum_by-cons (λ (s : FileRec). blocks_for s.len) q qs in
-    omega (arith, rest, one, two)
-
 -- THE WRITER'S PLAN, from its parts
 pub plan_made : (serial number next : ℕ) (o : OnlineFacts) (users : List UserRec) (held : List ℕ) (files given : List FileRec) → number ≡ o.contents.head.last_dump + 1 → next ≡ o.contents.head.next_stamp
     → users ≡ o.contents.users → held ≡ every_user o.contents → files ≡ map bare_rec given → given ≡ living o.contents

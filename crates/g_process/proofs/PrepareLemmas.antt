@@ -1,6 +1,6 @@
 -- How the planning ends, by the catalogue and by what is in memory.
-use Rattle.std.proofs.Common.{◌≡◌, ℕ, ◌+◌, ◌<◌, ◌≤◌, true, List, [], map, Some, Ok, Err, refl, sym, ◌∙◌, ap, subst, inl, inr}
-use Rattle.std.specs.Prelude.{◌⊎◌, All, Result}
+use Rattle.std.proofs.Common.{◌≡◌, ℕ, ◌+◌, ◌<◌, ◌≤◌, true, List, [], map, Some, Err, refl, sym, ◌∙◌, ap, subst}
+use Rattle.std.specs.Prelude.{All, Result}
 use Rattle.std.specs.Option.{ForSome}
 use Rattle.g_entry.specs.declared.file_rec.FileRec.{FileRec}
 use Rattle.g_entry.specs.declared.head.Intent.{Intent}
@@ -9,12 +9,8 @@ use Rattle.g_tape.specs.Rack.{Rack, reel}
 use Rattle.g_tape.specs.Reel.{Reel}
 use Rattle.g_tape.proofs.ReadLemmas.{is_reel, reel_after_reads}
 use Rattle.g_plain.specs.declared.faults.StoreFault.{StoreFault}
-use Rattle.g_plain.specs.declared.faults.StoreFault.TheVariants.{ReelNotFree, TapeFull, TapeReadFault}
+use Rattle.g_plain.specs.declared.faults.StoreFault.TheVariants.{ReelNotFree, TapeFull}
 use Rattle.g_plain.proofs.Found.{some_of}
-use Rattle.g_incr.specs.declared.fault.ShelfFault.{ShelfFault}
-use Rattle.g_incr.specs.declared.fault.ShelfFault.TheVariants as shelf
-use Rattle.g_incr.specs.Faults.{store_fault}
-use Rattle.g_base.specs.Counts.{Rose}
 use Rattle.g_tree.specs.Records.{full_of}
 use Rattle.g_disc_contents.specs.Facts.{IsTied, OnlineFacts}
 use Rattle.g_incr.specs.Plan.{IsPlan, Plan, first_content, needs}
@@ -26,7 +22,7 @@ use Rattle.g_dumper.proofs.BeginLemmas.{after_reads, reel_named}
 use Rattle.g_process.specs.declared.job.Job.{Job}
 use Rattle.g_process.specs.Lists.{IsLostIn, IsThere, notes_at}
 use Rattle.g_process.specs.ProcessPlan.{copies_from, living, process_plan, versions}
-use Rattle.g_process.specs.Preparation.{IsCatalogued, IsGranted, IsJob, IsPrepared, PlansJob, Preparing}
+use Rattle.g_process.specs.Preparation.{IsCatalogued, IsJob, IsPrepared, PlansJob}
 use Rattle.g_process.specs.Progress.{MayWrite}
 use Rattle.g_process.proofs.BecomeLemmas.{labels_reads, same_mounted, same_serials}
 use Rattle.g_process.proofs.JobLemmas.{first_lost_is, may_write}
@@ -103,21 +99,3 @@ module _ (serial : ℕ) (o : OnlineFacts) (old now : Rack) (lists : List Listed)
             serials = ap (map (λ (l : Listed). l.serial)) made.lists_are ∙ was.listed.serials ∙ sym (same_serials old.reels now.reels (labels_reads old now was.only.reels));
           };
         }
-
--- THE ANSWER of the preparation
-pub prepares : (serial : ℕ) (o : OnlineFacts) (old new : Rack) (lists : List Listed) (answer : Result Job StoreFault) → IsCatalogued serial o old new lists → PlansJob serial o old new answer → Preparing serial o old answer new
-prepares serial o old new lists (Ok job) was is = (was.granted, is)
-prepares serial o old new lists (Err TapeReadFault) was never = absurd never
-prepares serial o old new lists (Err fault) was is = inr (was.granted, is)
-
-pub catalogue_fails : (serial : ℕ) (o : OnlineFacts) (old new : Rack) (fault : ShelfFault) (e : StoreFault) → e ≡ store_fault fault → IsGranted serial o old
-    → (let r : Result (List Listed) ShelfFault = Err fault in (r ≡ Err shelf.ReadFault) ⊎ (r ≡ Err shelf.NoMemory)) → ((fault ≡ shelf.ReadFault → ⊥) → new.read_faults ≡ old.read_faults)
-    → (fault ≡ shelf.ReadFault → Rose old.read_faults new.read_faults) → (let r : Result Job StoreFault = Err e in Preparing serial o old r new)
-catalogue_fails serial o old new shelf.ReadFault e is granted one kept rose =
-    subst (λ (x : StoreFault). let r : Result Job StoreFault = Err x in Preparing serial o old r new) (sym is) (inr (granted, rose refl))
-catalogue_fails serial o old new shelf.NoMemory e is granted one kept rose =
-    subst (λ (x : StoreFault). let r : Result Job StoreFault = Err x in Preparing serial o old r new) (sym is) (inr (granted, kept (λ same. let no : ⊥ = cc in no)))
-catalogue_fails serial o old new shelf.NoTape e is granted (inl same) kept rose = absurd (let no : ⊥ = cc in no)
-catalogue_fails serial o old new shelf.NoTape e is granted (inr same) kept rose = absurd (let no : ⊥ = cc in no)
-catalogue_fails serial o old new shelf.NotMounted e is granted (inl same) kept rose = absurd (let no : ⊥ = cc in no)
-catalogue_fails serial o old new shelf.NotMounted e is granted (inr same) kept rose = absurd (let no : ⊥ = cc in no)

@@ -5,7 +5,7 @@ use Rattle.std.proofs.lemmas.List.{length-append, take_all}
 use Rattle.g_tape.specs.Rack.{Rack, changed, reel, with_reel}
 use Rattle.g_tape.specs.Reads.{HasRead, OnlyReads, blocks_in, blocks_of, count_at, time_of, times_in, unread}
 use Rattle.g_tape.specs.Reel.{Reel, ending}
-use Rattle.g_tape.proofs.ReadLemmas.{blocks_after_reads, nothing_read, reel-with_reel, reel-with_reel_other, reel_after_reads, then_read}
+use Rattle.g_tape.proofs.ReadLemmas.{blocks_after_reads, reel-with_reel, reel-with_reel_other, reel_after_reads, then_read}
 use Rattle.g_process.specs.Progress.{IsBeside, filled}
 
 -- ONE MORE BLOCK behind those that stand
@@ -112,10 +112,6 @@ times_changed s t f serial times rs =
       | inr h ↦ ap times_in (reel-with_reel_other s t f serial h.1 rs)
     ]
 
--- BESIDE reads
-pub beside_itself : (rack : Rack) → IsBeside rack rack
-beside_itself rack = nothing_read rack
-
 pub beside_none : (s : ℕ) (rack : Rack) → IsBeside (changed s (filled []) rack) rack
 beside_none s rack = record {
   reels = ap (map unread) (sym (with_nothing s rack.reels));
@@ -164,14 +160,6 @@ beside_ending s k w b old mid new long so is =
     beside_changed s (ending k b) (filled w) (filled (w ++ b ∷ [])) old mid new (λ r. refl) (λ r. refl) (λ r. refl) (filled_serial w) (filled_times w)
     (filled_serial (w ++ b ∷ [])) (filled_times (w ++ b ∷ [])) (λ r. ending_filled w k b r long) so
     (ap (λ (x : Rack). x.reels) is) (ap (λ (x : Rack). x.write_faults) is) (ap (λ (x : Rack). x.arms) is) (ap (λ (x : Rack). x.read_faults) is)
-
--- what reads and writes leave of the times
-pub times_beside : (s : ℕ) (w : List (List ℕ)) (old mid : Rack) → IsBeside (changed s (filled w) old) mid → (t k : ℕ) → time_of t k old ≤ time_of t k mid
-times_beside s w old mid so t k =
-    let was = so.times t k in
-    let same : count_at k (times_in (reel t (with_reel s (filled w) old.reels))) ≡ time_of t k old =
-    ap (count_at k) (times_changed s t (filled w) (filled_serial w) (filled_times w) old.reels) in
-    omega (arith, was, same)
 
 pub times_ending : (s k : ℕ) (b : List ℕ) (mid new : Rack) → new ≡ record (changed s (ending k b) mid) { fuse = new.fuse } → (t n : ℕ) → time_of t n mid ≤ time_of t n new
 times_ending s k b mid new is t n =

@@ -200,9 +200,6 @@ release_goes serial lists i l old mid new apart at is so wrote =
     (wrote ∙ ap (λ (x : Rack). let y : Rack = record x { reels = with_reel l.serial (ending 0 zeros) mid.reels; fuse = new.fuse } in y) so
     ∙ ap (λ (rs : List Reel). let y : Rack = record old { reels = rs; fuse = new.fuse } in y) reels)
 
-pub release_ends : (serial : ℕ) (lists : List Listed) (i : ℕ) (old new : Rack) → take i lists ≡ lists → AreReleased (taken serial (take i lists)) old new → AreReleased (taken serial lists) old new
-release_ends serial lists i old new all so = subst (λ (ls : List Listed). AreReleased (taken serial ls) old new) all so
-
 -- a reel of the lists can be written
 pub listed_free : (serial : ℕ) (lists : List Listed) (i : ℕ) (l : Listed) (old mid : Rack) → AreReels old.reels → All (λ r. r.mounted ≡ true) old.reels → map (λ (x : Listed). x.serial) lists ≡ serials old.reels
     → slice_get lists i ≡ Some l → AreReleased (taken serial (take i lists)) old mid → refuses_write 0 (reel l.serial mid.reels) ≡ None

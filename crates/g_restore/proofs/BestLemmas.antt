@@ -2,7 +2,7 @@
 use Rattle.std.proofs.Common.{◌≡◌, ◌⊎◌, ℕ, ◌+◌, ◌<◌, ◌≤◌, true, false, List, length, get_or, Option, Some, None, sym, ◌∙◌, ap, arith, inl, inr, subst, below_more}
 use Rattle.std.specs.Prelude.{nat_lt}
 use Rattle.std.proofs.lemmas.Bool.{cases_Bool, cond-false, cond-true, false≢true, ltb-false, ltb-true}
-use Rattle.std.proofs.lemmas.List.{get_or_default, get_or_read}
+use Rattle.std.proofs.lemmas.List.{get_or_read}
 use Rattle.g_restore.specs.declared.dumps.Found.{Found}
 use Rattle.g_restore.specs.Gathering.{IsBest, IsBestOf, newer_holder, newer_of, number_in, holds_directory}
 
@@ -69,8 +69,3 @@ one_more user found i best x within at so = by_pass (cases_Bool (holds_directory
         subst (IsBestOf user found (i + 1)) (sym (cond-true (holds_directory user x) (newer_of best i (number_in x)) best passed)) (taken user found i x here best passed so)
     by_pass (inr isnt) =
         subst (IsBestOf user found (i + 1)) (sym (cond-false (holds_directory user x) (newer_of best i (number_in x)) best isnt)) (passed_over user found i x here best isnt so)
-
--- the same of the dump at the place, whatever stands past the end
-pub one_more_at : (user : Option ℕ) (found : List Found) (i : ℕ) (best : Option (ℕ × ℕ)) (d : Found) → i < length found
-    → IsBestOf user found i best → IsBestOf user found (i + 1) (newer_holder user best i (get_or found i d))
-one_more_at user found i best d within so = one_more user found i best (get_or found i d) within (get_or_default found i d (get_or found i d) within) so

@@ -52,9 +52,6 @@ pub bad_if : (found : List Found) (users next user : ℕ) (old new : List FileRe
 bad_if found users next user old new (Ok b) is added = λ isnt. bad_with found users next user old new added (λ go. false≢true (sym isnt ∙ is.1 go))
 bad_if found users next user old new (Err e) is added = tt
 
-pub nowhere_bad : (found : List Found) (users next user : ℕ) (old : List FileRec) → IsHeldNowhere found user → IsBadWith found users next user old
-nowhere_bad found users next user old nowhere dumps are apart d has go = nowhere dumps are d has
-
 -- THOSE OF USERS, and of one user more
 gathers_push : (dumps : List Dump) (us : List UserRec) (u : UserRec) (fs : List FileRec) (d : Dump) → Gathers dumps us fs → HasDirectory dumps u.number d
     → Gathers dumps (us ++ u ∷ []) (fs ++ files_of u.number d.files)
@@ -118,9 +115,6 @@ nothing_gathered found users next = record {
 
 next_user : (users : List UserRec) (i : ℕ) (u : UserRec) → i < length users → u ≡ get_or users i u → take (i + 1) users ≡ take i users ++ u ∷ []
 next_user users i u within at = take_more users i u within ∙ ap (λ (x : UserRec). take i users ++ x ∷ []) (sym at)
-
-pub nothing_put : (found : List Found) (users : List UserRec) → ArePut found (take 0 users) []
-nothing_put found users dumps are = ([], refl, refl)
 
 pub one_put : (found : List Found) (users : List UserRec) (i : ℕ) (files now : List FileRec) (u : UserRec) → i < length users → u ≡ get_or users i u
     → ArePut found (take i users) files → IsAdded found u.number files now → ArePut found (take (i + 1) users) now

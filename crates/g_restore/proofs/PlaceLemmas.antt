@@ -115,9 +115,3 @@ one_held found files i x within at before here = All-more (IsHeld found) files i
 -- ONE OF THE DUMPS that has the blocks
 pub any_here : (found : List Found) (copy : TapeCopy) (blocks i : ℕ) (x : Found) → i < length found → x ≡ get_or found i x → HasBlocks copy blocks x → AnyHas found copy blocks
 any_here found copy blocks i x within at has = record { one = x; there = (i, within, sym at); has = has }
-
-pub none_has : (found : List Found) (copy : TapeCopy) (blocks n : ℕ) → length found ≤ n → ((k : ℕ) (d : Found) → k < n → HasBlocks copy blocks (get_or found k d) → ⊥)
-    → AnyHas found copy blocks → ⊥
-none_has found copy blocks n le none any =
-    let (k, within, at) = any.there in
-    none k any.one (omega (arith, within, le)) (subst (HasBlocks copy blocks) (sym at) any.has)

@@ -4,9 +4,8 @@ use Rattle.std.specs.Prelude.{◌==◌, IfErr, is_some, if◌then◌else◌}
 use Rattle.std.specs.Option.{option_map}
 use Rattle.std.proofs.lemmas.Bool.{cases_eq, cond-false, cond-true, eq-eqb, ne_eqb}
 use Rattle.std.proofs.lemmas.List.Elements.{All-map, All-weaker}
-use Rattle.g_base.specs.ToldContent.{Changes}
 use Rattle.g_disc.specs.Disc.{Causes, DiscState}
-use Rattle.g_disc.proofs.CallLemmas.{Causes-for, Causes-none}
+use Rattle.g_disc.proofs.CallLemmas.{Causes-none}
 use Rattle.g_entry.specs.declared.file_rec.FileRec.{FileRec}
 use Rattle.g_entry.specs.declared.head.Head.{Head}
 use Rattle.g_entry.specs.declared.user_rec.UserRec.{UserRec}
@@ -16,16 +15,13 @@ use Rattle.g_tree.specs.Records.{IsRecords}
 use Rattle.g_plain.specs.declared.faults.StoreFault.{StoreFault}
 use Rattle.g_plain.specs.declared.faults.StoreFault.TheVariants.{DiscReadFault, NoMemory, Stopped}
 use Rattle.g_disc_contents.specs.Contents.{Contents, File}
-use Rattle.g_disc_contents.specs.Facts.{OnlineFacts}
 use Rattle.g_incr.specs.Layout.{Dump}
 use Rattle.g_shelf.specs.CompletedDumps.{all_dumps}
 use Rattle.g_store_meaning.specs.Laws.{restored, restored_file}
 use Rattle.g_store_meaning.specs.Meaning.{files_in}
 use Rattle.g_online.specs.AllowedChanges.{KeepsRules, Lies}
-use Rattle.g_online.specs.Faults.{store_fault_of}
-use Rattle.g_online.specs.declared.fault.OnlineFault.{OnlineFault}
 use Rattle.g_online.specs.declared.fault.OnlineFault.TheVariants as online
-use Rattle.g_online.specs.Beginning.{AsBeforeOr, HasMade, first_contents, first_file}
+use Rattle.g_online.specs.Beginning.{first_contents, first_file}
 use Rattle.g_online.specs.Change.{told_bytes}
 use Rattle.g_restore.specs.declared.directory.Dumped.{Dumped}
 use Rattle.g_restore.specs.Losses.{LostIsNamed, NamesLost}
@@ -131,28 +127,6 @@ of_disc (Err e) fault only is = subst IsOfDisc (same_err e.0 fault is) only
 pub idle : (fault : StoreFault) (s : DiscState) → IsOfReels fault → Causes (fault ≡ DiscReadFault) (fault ≡ Stopped) s s
 idle fault s is = Causes-none s (λ wrong. subst IsOfReels wrong is) (λ wrong. subst IsOfReels wrong is)
 
--- THE REFUSALS OF THE ONLINE FILESTORE, as the store has them
-fault_back : (f : OnlineFault) → (store_fault_of f ≡ DiscReadFault → f ≡ online.ReadFault) × (store_fault_of f ≡ Stopped → f ≡ online.Stopped)
-fault_back (online.DiscFull need room) = (λ is. cc, λ is. cc)
-fault_back online.ReadFault = (λ is. refl, λ is. cc)
-fault_back online.Stopped = (λ is. cc, λ is. refl)
-fault_back online.NoFilestore = (λ is. cc, λ is. cc)
-fault_back online.NoMemory = (λ is. cc, λ is. cc)
-
-pub stops : (f : OnlineFault) (P : Type 0) → (f ≡ online.Stopped → P) → store_fault_of f ≡ Stopped → P
-stops f P to is = to ((fault_back f).1 is)
-
-pub goes_on : (f : OnlineFault) (P : Type 0) → (f ≢ online.Stopped → P) → store_fault_of f ≢ Stopped → P
-goes_on f P to isnt = to (λ is. isnt (ap store_fault_of is))
-
-pub causes_by : (f : OnlineFault) (x y : DiscState) → Causes (f ≡ online.ReadFault) (f ≡ online.Stopped) x y → Causes (store_fault_of f ≡ DiscReadFault) (store_fault_of f ≡ Stopped) x y
-causes_by f x y is = Causes-for (λ e. ap store_fault_of e) (fault_back f).0 (λ e. ap store_fault_of e) (fault_back f).1 is
-
-pub one_of_disc : (f : OnlineFault) → (f ≡ online.ReadFault) ⊎ (f ≡ online.Stopped) ⊎ (f ≡ online.NoMemory) → IsOfDisc (store_fault_of f)
-one_of_disc f (inl is) = subst (λ (x : OnlineFault). IsOfDisc (store_fault_of x)) (sym is) tt
-one_of_disc f (inr (inl is)) = subst (λ (x : OnlineFault). IsOfDisc (store_fault_of x)) (sym is) tt
-one_of_disc f (inr (inr is)) = subst (λ (x : OnlineFault). IsOfDisc (store_fault_of x)) (sym is) tt
-
 -- the tree that is put on the disc has the records that were gathered
 same_first : (told : Bool) (d : Dumped) (us : List UserRec) (fs : List FileRec) → us ≡ d.users.items → fs ≡ d.files.items
     → first_contents told (head_of d) us fs ≡ first_contents told (head_of d) d.users.items d.files.items
@@ -161,11 +135,3 @@ same_first told d us fs users files =
 
 pub can_begin : (told : Bool) (d : Dumped) (us : List UserRec) (fs : List FileRec) → us ≡ d.users.items → fs ≡ d.files.items → CanBeMade d → KeepsRules (first_contents told (head_of d) us fs)
 can_begin told d us fs users files can = subst KeepsRules (sym (same_first told d us fs users files)) (keeps_rules told d can)
-
-pub made_of : (disc : DiscState) (d : Dumped) (us : List UserRec) (fs : List FileRec) → us ≡ d.users.items → fs ≡ d.files.items → (o : OnlineFacts)
-    → HasMade (first_contents (is_some disc.held) (head_of d) us fs) disc o → HasMade (first_contents (is_some disc.held) (head_of d) d.users.items d.files.items) disc o
-made_of disc d us fs users files o made = subst (λ (x : Contents). HasMade x disc o) (same_first (is_some disc.held) d us fs users files) made
-
-pub stopped_at : (held after : Option (List (List ℕ))) (d : Dumped) (us : List UserRec) (fs : List FileRec) → us ≡ d.users.items → fs ≡ d.files.items
-    → Changes (AsBeforeOr (first_contents (is_some held) (head_of d) us fs)) held after → Changes (AsBeforeOr (first_contents (is_some held) (head_of d) d.users.items d.files.items)) held after
-stopped_at held after d us fs users files changes = subst (λ (x : Contents). Changes (AsBeforeOr x) held after) (same_first (is_some held) d us fs users files) changes

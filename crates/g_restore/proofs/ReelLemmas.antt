@@ -3,37 +3,20 @@ use Rattle.std.proofs.Common.{◌≡◌, ℕ, ◌+◌, ◌<◌, ◌≤◌, true,
 use Rattle.std.specs.Prelude.{is_some}
 use Rattle.std.proofs.lemmas.List.{append-nil, append_assoc, map-append, take_all}
 use Rattle.std.proofs.lemmas.List.Elements.{All-append, All-cons, All-head, All-nil, All-tail, Contains-append_right}
-use Rattle.g_entry.specs.declared.user_rec.UserRec.{UserRec}
-use Rattle.g_entry.specs.declared.file_rec.FileRec.{FileRec}
 use Rattle.g_tape.specs.Rack.{AreReels, Rack}
 use Rattle.g_tape.specs.Reads.{OnlyReads, blocks_in, blocks_of, unread}
 use Rattle.g_tape.specs.Reel.{Reel}
 use Rattle.g_tape.proofs.ReadLemmas.{blocks_after_reads, more_reads, nothing_read}
-use Rattle.g_incr.specs.declared.note.DumpNote.{DumpNote}
 use Rattle.g_incr.specs.Layout.{Dump, IsDump, ends}
-use Rattle.g_incr.specs.Notes.{IsDirOf}
 use Rattle.g_shelf.specs.CompletedDumps.{AreCompleted, AreShelved}
-use Rattle.g_shelf.specs.FoundDumps.{AreInRow, note_of}
+use Rattle.g_shelf.specs.FoundDumps.{AreInRow}
 use Rattle.g_shelf.specs.Walk.{AreOf, HasMore}
 use Rattle.g_shelf.proofs.RackLemmas.{reel_at}
-use Rattle.g_shelf.proofs.WalkLemmas.{same_note}
 use Rattle.g_store_meaning.specs.Reading.{ReelsTold}
 use Rattle.g_store_meaning.proofs.OneLemmas.{one_shelf}
 use Rattle.g_restore.specs.declared.dumps.Found.{Found}
 use Rattle.g_restore.specs.KnownDumps.{Known, known, known_of}
 use Rattle.g_restore.specs.Reels.{AreAllDumps, AreOn, AreOnReels}
-
--- WHAT IS KNOWN of a dump is what its records say
-abbrev knowing : ℕ → DumpNote → List UserRec → List ℕ → List FileRec → Known
-knowing s n us hs fs = record { serial = s; note = n; users = us; held = hs; files = fs }
-
-pub same_known : (d : Dump) (f : Found) → f.serial ≡ d.serial → IsDirOf d f.dir → known f ≡ known_of d
-same_known d f on is =
-    ap (λ (x : ℕ). knowing x f.dir.note f.dir.users.items f.dir.held.items f.dir.files.items) on
-    ∙ ap (λ (x : DumpNote). knowing d.serial x f.dir.users.items f.dir.held.items f.dir.files.items) (same_note d f.dir.note is.note)
-    ∙ ap (λ (x : List UserRec). knowing d.serial (note_of d) x f.dir.held.items f.dir.files.items) is.users
-    ∙ ap (λ (x : List ℕ). knowing d.serial (note_of d) d.users x f.dir.files.items) is.held
-    ∙ ap (λ (x : List FileRec). knowing d.serial (note_of d) d.users d.held x) is.files
 
 -- what is known of each of them is what is known of all
 knowns_of : (found : List Found) (ds : List Dump) → AreOf (λ f d. known f ≡ known_of d) found ds → map known found ≡ map known_of ds

@@ -136,9 +136,6 @@ not_unnamed users files number is (r, there, at) none =
     let e : None ≡ Some (full_of users r) = none ∙ ap (option_map (full_of users)) (number_found users files is number r there at) in
     (let no : ⊥ = cc in no)
 
-pub rec_used : (o : OnlineFacts) (number : ℕ) (files : List FileRec) → files ≡ recs_in o.contents → (f : File) × Contains o.contents.files f × (f.rec.number ≡ number) × (f.online ≡ false) → IsUsed files number
-rec_used o number files are (f, there, at, offline) = (f.rec, subst (λ (l : List FileRec). Contains l f.rec) (sym are) (mapped_there (λ (g : File). g.rec) o.contents.files f there), at)
-
 pub not_here : (o : OnlineFacts) (number : ℕ) (files : List FileRec) (file : FileRec) → files ≡ recs_in o.contents → ((r : FileRec) → Contains files r → r.number ≡ number → file ≡ r)
     → (f : File) × (c : TapeCopy) × IsOnTape number o f c → file.tape ≡ None → ⊥
 not_here o number files file are one (f, c, away) none =

@@ -117,8 +117,3 @@ pub no_text : (copy : TapeCopy) (len : ℕ) (ds : List Dump) (old : Rack) → Fo
 no_text copy len ds old completed none bs told dumps are text long is =
     let same = completed_are_one copy.serial bs dumps ds are (completed bs told) in
     none (content_held ds copy len text long (subst (λ (es : List Dump). IsContent es copy text) same is))
-
--- a copy that isn't held has bytes
-pub none_filled : (ds : List Dump) (copy : TapeCopy) (len : ℕ) → (AreHeld ds copy (blocks_for len) → ⊥) → 0 < len
-none_filled ds copy zero none = absurd (none (λ k below. absurd (let no : ⊥ = omega (arith, below) in no)))
-none_filled ds copy (suc n) none = omega arith

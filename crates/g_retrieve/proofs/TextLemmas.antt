@@ -4,7 +4,7 @@ use Rattle.std.specs.Prelude.{◌⊎◌}
 use Rattle.std.specs.Option.{ForSome}
 use Rattle.std.proofs.lemmas.Bool.{cases_lt}
 use Rattle.std.proofs.lemmas.Grind.{flat_map-append}
-use Rattle.std.proofs.lemmas.List.{append-nil, length-take, take_all, take_min, take_more}
+use Rattle.std.proofs.lemmas.List.{append-nil, length-take, take_min, take_more}
 use Rattle.std.proofs.lemmas.Option.{get_or_from_slice_get, same_Some, slice_get_within}
 use Rattle.g_base.specs.Block.{blocks_for}
 use Rattle.g_copy.proofs.Blocks.{take-append}
@@ -15,7 +15,7 @@ use Rattle.g_tape.specs.Reel.{Reel}
 use Rattle.g_tape.proofs.ReadLemmas.{blocks_after_reads, is_reel, read_then, then_read}
 use Rattle.g_incr.specs.Reading.{ReadsReel}
 use Rattle.g_incr.proofs.ListLemmas.{get_drop}
-use Rattle.g_incr.proofs.TapeLemmas.{ReadsTape, reads_nothing, reads_then, same_len}
+use Rattle.g_incr.proofs.TapeLemmas.{ReadsTape, reads_then, same_len}
 use Rattle.g_store_meaning.specs.Meaning.{joined}
 
 -- SO FAR: the blocks up to block k were read, and their bytes are there as far as they are asked for
@@ -26,16 +26,6 @@ pub record HasText (s first k len : ℕ) (bytes : List ℕ) (old new : Rack) : T
   pub long : length bytes ≡ min len (512 * count)
   pub text : ForSome (blocks_of s old) (λ bs. bytes ≡ take len (joined (take count (drop first bs))))
   pub read : (j : ℕ) → first ≤ j → j < k → HasRead s j old new
-
-pub nothing_yet : (s first len : ℕ) (rack : Rack) → refuses_unmount (reel s rack.reels) ≡ None → HasText s first first len [] rack rack
-nothing_yet s first len rack free = record {
-  count = 0;
-  at = omega arith;
-  reads = reads_nothing s rack free;
-  long = omega arith;
-  text = λ bs told. sym (take_all len [] (omega arith));
-  read = λ j least below. absurd (let no : ⊥ = omega (arith, least, below) in no);
-}
 
 -- the blocks with one more
 joined_more : (blocks : List (List ℕ)) (n : ℕ) (block : List ℕ) → slice_get blocks n ≡ Some block → joined (take (n + 1) blocks) ≡ joined (take n blocks) ++ block
@@ -76,15 +66,6 @@ module _ (s first k len : ℕ) (bytes : List ℕ) (old mid : Rack) (so : HasText
       by_place : (j : ℕ) → first ≤ j → j < k + 1 → (j < k) ⊎ (k ≤ j) → HasRead s j old new
       by_place j least below (inl before) = read_then s j old mid new (so.read j least before) reads.only
       by_place j least below (inr behind) = subst (λ (n : ℕ). HasRead s n old new) (let same : k ≡ j = omega (arith, behind, below) in same) (then_read s k old mid new so.reads.only has)
-
-  -- all of them
-  pub text_whole : k ≡ first + blocks_for len → length bytes ≡ len
-  text_whole all = let at = so.at in let long = so.long in omega (arith, at, long, all)
-
-  pub text_read : k ≡ first + blocks_for len → ForSome (blocks_of s old) (λ bs. bytes ≡ take len (joined (take (blocks_for len) (drop first bs))))
-  text_read all = λ bs told.
-      let at = so.at in
-      so.text bs told ∙ ap (λ (n : ℕ). take len (joined (take n (drop first bs)))) (let same : so.count ≡ blocks_for len = omega (arith, at, all) in same)
 
   pub all_read : k ≡ first + blocks_for len → (j : ℕ) → first ≤ j → j < first + blocks_for len → HasRead s j old mid
   all_read all j least below = so.read j least (omega (arith, below, all))

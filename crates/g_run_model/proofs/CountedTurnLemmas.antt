@@ -26,10 +26,6 @@ use Rattle.g_run_model.specs.World.{KeepsLines, Stepped, Turned, World, able, is
 use Rattle.g_run_model.proofs.CountLemmas.{event_none, move_counted, moves_then}
 use Rattle.g_run_model.proofs.TurnLemmas.{MayBegin, in_turn, run_append, with_turn}
 
--- no device took part
-pub moves_none : (move : Move) (d : Devices) → EventCounted Plain [] [] d d → MovesCounted [] [] [] d d
-moves_none move d none = none
-
 pub keeps_itself : (w : World) → KeepsLines w w
 keeps_itself w = record { lines = refl; bad = refl; over = refl; count = refl; disc_stops = refl; tape_stops = refl }
 

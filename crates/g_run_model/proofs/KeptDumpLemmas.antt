@@ -17,9 +17,6 @@ use Rattle.g_run_model.proofs.StepLemmas.{call_kept, restore_kept, start_kept}
 abbrev pub KeepsDumps : State → State → Type 0
 KeepsDumps s new = HasDumped s → HasDumped new
 
-same_dumps : (s new : State) → new.dumped ≡ s.dumped → list_all has_none new.reels ≡ list_all has_none s.reels → KeepsDumps s new
-same_dumps s new dumped reels has = λ none. reels ∙ has (sym dumped ∙ none)
-
 dumps_of : (s mid new : State) → new ≡ mid → KeepsDumps s mid → KeepsDumps s new
 dumps_of s mid new is keeps = subst (λ (x : State). KeepsDumps s x) (sym is) keeps
 

@@ -92,10 +92,6 @@ idle_kind w phase idle is =
     ap (λ (t : Option (ℕ × Asks Work)). kind_by t w.phase w.lines (is_due w) (is_dumping w) (has_none (able w))) idle
     ∙ ap (λ (p : Phase). phase_by p w.lines (is_due w) (is_dumping w) (has_none (able w))) is
 
-not_dumping : (a b : Bool) → (not a && b) ≡ true → (a ≡ false) × (b ≡ true)
-not_dumping false b e = (refl, e)
-not_dumping true b e = absurd (false≢true e)
-
 due_takes : (next : Timed) (rest : List Timed) (due dumping none : Bool) → (due ≡ true) ⊎ ((not dumping && none) ≡ true) → between_by (next ∷ rest) due dumping none ≡ Takes
 due_takes next rest true dumping none e = refl
 due_takes next rest false dumping none (inl e) = absurd (false≢true e)
@@ -129,11 +125,6 @@ stepped_begins false e = refl
 stepped_ticks : (none : Bool) → none ≡ true → (if none then Ticks else Begins) ≡ Ticks
 stepped_ticks true e = refl
 stepped_ticks false e = absurd (false≢true e)
-
-nothing_closes : (dumping none : Bool) → (not dumping && none) ≡ true → between_by [] false dumping none ≡ Closes
-nothing_closes true none e = absurd (false≢true e)
-nothing_closes false true e = refl
-nothing_closes false false e = absurd (false≢true e)
 
 -- a charge is the same where both moves end a turn
 abbrev SameCharge : Move → Move → Type 0

@@ -165,12 +165,6 @@ push_none number (x ∷ jobs) job is = by (x.number == number) is (λ e. push_no
     by true is again = absurd (let no : ⊥ = cc in no)
     by false is again = again is
 
-one_terminal : (a b : ℕ) → (let one : Option ℕ = Some a in one ≡ Some b) → a ≡ b
-one_terminal a b is = cc
-
-no_terminal : {P : Type 0} (t : ℕ) → (let none : Option ℕ = None in none ≡ Some t) → P
-no_terminal t is = absurd (let no : ⊥ = cc in no)
-
 -- what is put of a job that comes: its first line, at a terminal
 abbrev coming : Option ℕ → ℕ → List ℕ → List Piece
 coming None number monitor = []

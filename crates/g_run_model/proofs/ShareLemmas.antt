@@ -1,6 +1,6 @@
 -- What the jobs of a run have left, as sums: behind a job that goes on as another, that is gone, or that comes.
-use Rattle.std.proofs.Common.{◌≡◌, ◌<◌, ◌≤◌, ◌+◌, ◌-◌, ◌==◌, ℕ, Bool, true, false, cond, not, List, [], ◌∷◌, ◌++◌, length, sum_by, Some, None, get_or, take, drop, remove, add-one, refl, sym, ◌∙◌, ap, if◌then◌else◌, eqb-true, ne_eqb, arith}
-use Rattle.std.proofs.lemmas.List.Sums.{sum_by-append, sum_by-cons, sum_by-drop_more, sum_by-take-drop}
+use Rattle.std.proofs.Common.{◌≡◌, ◌<◌, ◌≤◌, ◌+◌, ◌-◌, ◌==◌, ℕ, Bool, true, false, cond, not, List, [], ◌∷◌, sum_by, Some, None, refl, ◌∙◌, ap, if◌then◌else◌, eqb-true, ne_eqb, arith}
+use Rattle.std.proofs.lemmas.List.Sums.{sum_by-cons}
 use Rattle.g_job.specs.State.{JobState}
 use Rattle.g_run_model.specs.World.{with_job, without_job}
 use Rattle.g_run_model.proofs.CrewLemmas.{AreRising, no_job, numbered, one_job}
@@ -73,15 +73,6 @@ module _ (f : JobState → ℕ) where
           let left : sum_by f (k ∷ without_job number jobs) ≡ f k + sum_by f (without_job number jobs) = sum_by-cons f k (without_job number jobs) in
           let right : sum_by f (k ∷ jobs) ≡ f k + sum_by f jobs = sum_by-cons f k jobs in
           omega (arith, rest, left, right)
-
--- of any list, by place (std has the same of `set`)
-pub sum_by-remove : {X : Type 0} (f : X → ℕ) (xs : List X) (i : ℕ) (d : X) → i < length xs → sum_by f (remove xs i) + f (get_or xs i d) ≡ sum_by f xs
-sum_by-remove {X} f xs i d within =
-    let less : sum_by f (remove xs i) ≡ sum_by f (take i xs ++ drop (i + 1) xs) = ap (λ (n : ℕ). sum_by f (take i xs ++ drop n xs)) (sym (add-one i)) in
-    let both : sum_by f (take i xs ++ drop (i + 1) xs) ≡ sum_by f (take i xs) + sum_by f (drop (i + 1) xs) = sum_by-append f (take i xs) (drop (i + 1) xs) in
-    let all : sum_by f (take i xs) + sum_by f (drop i xs) ≡ sum_by f xs = sum_by-take-drop f xs i in
-    let rest : sum_by f (drop i xs) ≡ f (get_or xs i d) + sum_by f (drop (i + 1) xs) = sum_by-drop_more f xs i d within in
-    omega (arith, less, both, all, rest)
 
 -- A SHARE FALLS: where units were charged, and where a job that could step can't any more
 pub share-charged : (can : JobState → Bool) (old new : JobState) → can old ≡ true → new.allowance ≡ old.allowance → old.used + 1 ≤ new.used → new.used ≤ new.allowance → share can new + 1 ≤ share can old

@@ -1,5 +1,5 @@
 -- The moves of a tick, and of a line, each with what it leaves and what it adds to the text.
-use Rattle.std.proofs.Common.{◌≡◌, ◌⊎◌, ◌+◌, ℕ, true, false, List, [], ◌∷◌, ◌++◌, Option, Some, None, Result, Ok, Err, is_some, codes, append_assoc, append-nil, refl, sym, ap}
+use Rattle.std.proofs.Common.{◌≡◌, ◌⊎◌, ◌+◌, ℕ, true, false, List, [], ◌∷◌, ◌++◌, None, Result, Ok, Err, codes, append_assoc, append-nil, refl, sym}
 use Rattle.std.specs.Fmt.{decimal}
 use Rattle.std.specs.Fn.{Shared}
 use denote.Ref.{Bor}
@@ -14,14 +14,12 @@ use Rattle.g_plain.specs.declared.faults.StoreFault.TheVariants.{Stopped}
 use Rattle.g_sched.specs.declared.rule.Standing.{Standing}
 use Rattle.g_script.specs.declared.operator.Timed.{Timed}
 use Rattle.g_store_model.specs.CallStep.{Outcome}
-use Rattle.g_store_model.specs.DumpSteps.{Completed, DumpStep, Going, Stepped as DumpStepped}
-use Rattle.g_store_model.specs.State.{Holding, OpenDump, State}
-use Rattle.g_run_model.specs.Events.{IsDumpStep}
+use Rattle.g_store_model.specs.DumpSteps.{Completed, Going, Stepped as DumpStepped}
+use Rattle.g_store_model.specs.State.{State}
 use Rattle.g_run_model.specs.Lines.{LineGives, is_process}
-use Rattle.g_run_model.specs.Moves.{Dumped, Over, Run, TakeLine, Ticked, dump_told, turn_told}
+use Rattle.g_run_model.specs.Moves.{Over, Run, TakeLine, Ticked, dump_told, turn_told}
 use Rattle.g_run_model.specs.Texts.{broken_files, dump_text, ended_file, job_text, operator_line}
 use Rattle.g_run_model.specs.World.{Between, KeepsLines, Stepped, Turned, World, able, closed, has_none, is_due, nothing_steps, with_job}
-use Rattle.g_run_model.proofs.EventToldLemmas.{dump_told as step_told, OutcomeTold}
 
 -- what a step of the dump adds to the text
 abbrev pub dump_added : ℕ → ℕ → Result DumpStepped StoreFault → List JobState → List ℕ
@@ -55,20 +53,7 @@ turn_adds j (turns.Wants serial) w = refl
 turn_adds j (turns.Ran units money) w = sym (append-nil w.text)
 turn_adds j (turns.Ended units money) w = refl
 
-abbrev number_by : Option OpenDump → ℕ
-number_by d = elim d [ None ↦ 0 | Some x ↦ x.number ]
-
 module _ {F U : Type 0} (tariffs : Shared F (Bor Usage × Unit {0}) Charge) (tariff : F) (rules : Shared U (Bor Standing × Unit {0}) ℕ) (rule : U) where
-  -- A STEP OF THE DUMP is a move, with an outcome that its answer tells
-  pub dump_move : (w : World) (k : Holding) (d : OpenDump) (o : Outcome) (r : Result DumpStepped StoreFault) (s : State) → w.phase ≡ Between → w.turn ≡ None → is_due w ≡ false
-      → w.store.holding ≡ Some k → w.store.open_dump ≡ Some d → DumpStep w.store k d o r s
-      → (told : Outcome) × OutcomeTold told r × Run tariffs tariff rules rule w (Dumped told ∷ []) (dump_told d.number r s w)
-  dump_move w k d o r s between idle undue holds opened step =
-      let by = step_told w.store k d o r s step in
-      let event : IsDumpStep w.store by.0 r s = (k, d, holds, opened, by.1, by.2.told) in
-      let number : dump_told d.number r s w ≡ dump_told (number_by w.store.open_dump) r s w = ap (λ (x : Option OpenDump). dump_told (number_by x) r s w) (sym opened) in
-      (by.0, by.2, (dump_told d.number r s w, (between, idle, undue, ap (λ (x : Option OpenDump). is_some x) opened, (r, s, event, number)), refl))
-
   -- the tick is over
   pub tick_move : (w : World) → w.turn ≡ None → ((w.phase ≡ Turned) ⊎ ((w.phase ≡ Stepped) × (has_none (able w) ≡ true)))
       → (let next : World = record w { count = w.count + 1; phase = Between } in Run tariffs tariff rules rule w (Ticked ∷ []) next)

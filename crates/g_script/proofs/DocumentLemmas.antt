@@ -1,13 +1,13 @@
 -- The lines of a document, read one after the other from a text.
-use Rattle.std.proofs.Common.{Bool, eqb, false, true, ◌≡◌, ◌≢◌, ◌∷◌, ◌++◌, ◌+◌, ◌≤◌, ◌∙◌, [], List, ℕ, All, ap, subst, sym, refl, arith, length, take, codes}
+use Rattle.std.proofs.Common.{Bool, eqb, false, true, ◌≡◌, ◌≢◌, ◌∷◌, ◌++◌, ◌+◌, ◌≤◌, ◌∙◌, [], List, ℕ, All, ap, subst, sym, arith, length, take, codes}
 use Rattle.std.proofs.lemmas.Bool.Decides.{Decides-eqb, not_from_Decides}
-use Rattle.std.proofs.lemmas.List.{append-nil, append_assoc, length-append}
-use Rattle.std.proofs.lemmas.List.Elements.{All-nil, All-push}
+use Rattle.std.proofs.lemmas.List.{append_assoc, length-append}
+use Rattle.std.proofs.lemmas.List.Elements.{All-push}
 use Rattle.std.proofs.lemmas.Slice.Eq.{slice_eq-Decides}
 use Rattle.std.specs.Cmp.Lexicographic.{pointwise}
 use Rattle.g_lines.proofs.DocumentLemmas.{front_lines, front_long, lines_in_front, text_more}
 use Rattle.g_lines.specs.Lines.{lines_of, text_of}
-use Rattle.g_script.specs.Reading.{IsBadIn, IsDocumentRead}
+use Rattle.g_script.specs.Reading.{IsDocumentRead}
 use Rattle.g_script.specs.Script.{IsDocumentLine, IsPrinted}
 use Rattle.g_script.specs.declared.read.DocumentRead.TheVariants as document
 
@@ -26,9 +26,6 @@ pub record IsUpTo (lines : List (List ℕ)) (left : List (List ℕ)) (count : �
   pub counted : count ≡ length texts
   pub long : bytes ≡ length (text_of texts)
 
-pub up_to-none : (lines : List (List ℕ)) → IsUpTo lines lines 0 0
-up_to-none lines = record { texts = []; all = refl; good = All-nil IsDocumentLine; counted = refl; long = refl }
-
 -- another line
 module _ (text : List ℕ) (lines left more : List (List ℕ)) (line : List ℕ) (count bytes : ℕ) (here : IsUpTo lines left count bytes) (same : lines_of text ≡ lines) (next : left ≡ line ∷ more) where
   cut : lines ≡ here.texts ++ line ∷ more
@@ -46,9 +43,6 @@ module _ (text : List ℕ) (lines left more : List (List ℕ)) (line : List ℕ)
   pub up_to-room : bytes + (length line + 1) ≤ length text + 1
   up_to-room = omega (arith, more_bytes, front_long text (here.texts ++ line ∷ []) more (same ∙ behind))
 
-  pub up_to-few : count + 1 ≤ length lines
-  up_to-few = omega (arith, here.counted, ap length cut, length-append here.texts (line ∷ more))
-
   pub up_to-more : IsPrinted line → line ≢ codes "****" → IsUpTo lines more (count + 1) (bytes + (length line + 1))
   up_to-more printed other = record {
     texts = here.texts ++ line ∷ [];
@@ -58,18 +52,6 @@ module _ (text : List ℕ) (lines left more : List (List ℕ)) (line : List ℕ)
     long = more_bytes;
   }
 
-  pub up_to-bad : (IsPrinted line → ⊥) → line ≢ codes "****" → IsBadIn lines (count + 1)
-  up_to-bad bad other = record {
-    front = here.texts;
-    line = line;
-    behind = more;
-    good = here.good;
-    all = cut;
-    bad = λ is. bad is.0;
-    no_end = other;
-    place = omega (arith, here.counted);
-  }
-
   pub up_to-whole : (found : List (List ℕ)) → line ≡ codes "****" → found ≡ lines_of (take bytes text) → IsDocumentRead lines more (document.Whole found count)
   up_to-whole found ends copied =
       let is : found ≡ here.texts = copied ∙ ap (λ (n : ℕ). lines_of (take n text)) here.long ∙ front_lines text here.texts more line (same ∙ cut) in (
@@ -77,7 +59,3 @@ module _ (text : List ℕ) (lines left more : List (List ℕ)) (line : List ℕ)
         cut ∙ ap (λ (l : List ℕ). here.texts ++ l ∷ more) ends ∙ ap (λ (ls : List (List ℕ)). ls ++ codes "****" ∷ more) (sym is),
         here.counted ∙ ap length (sym is),
       )
-
-pub up_to-open : (lines left : List (List ℕ)) (count bytes : ℕ) → IsUpTo lines left count bytes → left ≡ [] → All IsDocumentLine lines
-up_to-open lines left count bytes here none =
-    subst (All IsDocumentLine) (sym (here.all ∙ ap (λ (ls : List (List ℕ)). here.texts ++ ls) none ∙ append-nil here.texts)) here.good

@@ -1,7 +1,6 @@
 pub mod DocumentLemmas
 pub mod HeadLemmas
 pub mod ItemLemmas
-pub mod JobLemmas
 pub mod OneReading
 pub mod PieceLemmas
 pub mod PrintedLemmas

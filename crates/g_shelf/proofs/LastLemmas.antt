@@ -136,9 +136,6 @@ pub record SeenSoFar (i : ℕ) (last : Option (ℕ × DumpNote)) (old new : Rack
   pub only : OnlyReads old new
   pub kept : new.read_faults ≡ old.read_faults
 
-pub nothing_seen : (rack : Rack) → SeenSoFar 0 None rack rack
-nothing_seen rack = record { last_is = All-nil (HasDumps (λ ds. ds ≡ [])); read = tt; only = nothing_read rack; kept = refl }
-
 -- the note that stays or comes was read
 still_read : (last : Option (ℕ × DumpNote)) (old mid new : Rack) → OnlyReads mid new → IfSome last (λ l. HasReadDump l.0 l.1 old mid) → IfSome last (λ l. HasReadDump l.0 l.1 old new)
 still_read None old mid new only has = tt

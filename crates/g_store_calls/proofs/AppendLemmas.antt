@@ -67,9 +67,6 @@ module _ (s : StoreFacts) (unspent : s.spent ≡ false) (store : IsStore s) (kee
   abbrev records : IsRecords o.contents.users (recs_in o.contents)
   records = (prepared s unspent store keeps).records
 
-  abbrev IsRight : View → Type 0
-  IsRight v = IsView o.disc.held reels o.contents v
-
   abbrev up : View → State
   up v = state_up v reels o s.dump
 

@@ -1,10 +1,10 @@
 -- How bytes are put behind those of a file, from the answers of what is asked for it in turn: the tape, a plan, the disc, the change.
-use Rattle.std.proofs.Common.{◌≡◌, ◌≢◌, ℕ, ◌+◌, ◌<◌, ◌≤◌, ◌^◌, Bool, true, false, List, ◌++◌, length, length-append, Result, Ok, Err, refl, sym, ◌∙◌, ap, arith, inl, inr, subst}
+use Rattle.std.proofs.Common.{◌≡◌, ◌≢◌, ℕ, ◌+◌, ◌<◌, ◌≤◌, ◌^◌, Bool, true, false, List, ◌++◌, length, length-append, Result, Ok, Err, refl, sym, ◌∙◌, ap, inl, inr, subst}
 use Rattle.std.specs.Prelude.{◌⊎◌, Contains}
 use Rattle.std.proofs.lemmas.Bool.{cases_Bool}
 use Rattle.g_base.specs.Block.{blocks_for}
 use Rattle.g_disc.specs.Disc.{ReadsByCause}
-use Rattle.g_disc.proofs.CallLemmas.{Causes-none, ReadsByCause-none}
+use Rattle.g_disc.proofs.CallLemmas.{ReadsByCause-none}
 use Rattle.g_name.specs.declared.full.Full.{Full}
 use Rattle.g_entry.specs.declared.file_rec.FileRec.{FileRec}
 use Rattle.g_entry.specs.declared.file_rec.TapeCopy.{TapeCopy}
@@ -61,12 +61,6 @@ pub asked_none : {P Q : Type 0} (old new : OnlineFacts) (before after : Rack) �
 asked_none old new before after no_disc no_tape asked = asked_for no_disc (λ no. absurd no) no_tape (λ no. absurd no) asked
 
 module _ (f : File) (bytes : List ℕ) (o : OnlineFacts) where
-  abbrev full : Full
-  full = full_of o.contents.users f.rec
-
-  abbrev blocks : ℕ
-  blocks = blocks_for (f.rec.len + length bytes)
-
   -- A PLAN THAT ISN'T THERE
   pub unplanned : (before after : Rack) (fault : StoreFault) → HasAsked ⊥ ⊥ o o before after → IsAtHand f before → (let r : Result Unjam StoreFault = Err fault in HasPlanned (blocks_for (f.rec.len + length bytes)) o r)
       → HasAppended (full_of o.contents.users f.rec) f bytes o o before after (Err fault)
@@ -178,9 +172,6 @@ module _ (o : OnlineFacts) (rec : FileRec) (old bytes : List ℕ) (live : o.live
   pub whole_long : length (old ++ bytes) ≡ rec.len + length bytes
   whole_long = length-append old bytes ∙ ap (λ (n : ℕ). n + length bytes) long
 
-  pub whole_short : length (old ++ bytes) ≤ 65536
-  whole_short = let same = whole_long in omega (arith, same, short)
-
   is_next : IsNext o (old ++ bytes) (version_of rec o.contents.head.next_stamp (rec.len + length bytes))
   is_next = record {
     stamp = refl;
@@ -203,29 +194,6 @@ module _ (o : OnlineFacts) (rec : FileRec) (old bytes : List ℕ) (live : o.live
         subst (λ (t : List ℕ). IsAllowed (PutFile made t take) o) (sym text_is)
         (subst (λ (r : FileRec). IsAllowed (PutFile r (old ++ bytes) take) o) (sym record_is)
         (put_allowed o (old ++ bytes) (version_of rec o.contents.head.next_stamp (rec.len + length bytes)) (blocks_for (rec.len + length bytes)) take room live tied is_next plan))
-
-    pub as_applied : (new : OnlineFacts) (result : Result (Unit {0}) StoreFault) → HasApplied (PutFile made text take) o new result
-        → HasApplied (PutFile (version_of rec o.contents.head.next_stamp (rec.len + length bytes)) (old ++ bytes) take) o new result
-    as_applied new result is =
-        subst (λ (r : FileRec). HasApplied (PutFile r (old ++ bytes) take) o new result) record_is
-        (subst (λ (t : List ℕ). HasApplied (PutFile made t take) o new result) text_is is)
-
-  -- without memory nothing is made
-  pub starved_put : (take : List ℕ) → HasApplied (PutFile (version_of rec o.contents.head.next_stamp (rec.len + length bytes)) (old ++ bytes) take) o o (Err NoMemory)
-  starved_put take = record {
-    ok = tt;
-    stopped = λ is. absurd (let no : ⊥ = cc in no);
-    same = λ other. refl;
-    causes = Causes-none o.disc (λ no. no) (λ is. let no : ⊥ = cc in no);
-    tied = tied;
-    told = refl;
-    only = inr refl;
-  }
-
--- THE FILE that was looked up
-pub tree_there : (o : OnlineFacts) (number : ℕ) (recs : List FileRec) → recs ≡ recs_in o.contents → (f : File) × Contains o.contents.files f × (f.rec.number ≡ number)
-    → (r : FileRec) × Contains recs r × (r.number ≡ number)
-tree_there o number recs are (f, there, numbered) = (f.rec, subst (λ (l : List FileRec). Contains l f.rec) (sym are) (mapped_there (λ (g : File). g.rec) o.contents.files f there), numbered)
 
 pub rec_is : (o : OnlineFacts) (number : ℕ) (recs : List FileRec) (file : FileRec) → recs ≡ recs_in o.contents → ((r : FileRec) → Contains recs r → r.number ≡ number → file ≡ r)
     → (f : File) → Contains o.contents.files f → f.rec.number ≡ number → f.rec ≡ file

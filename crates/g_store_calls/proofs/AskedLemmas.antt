@@ -210,14 +210,6 @@ module _ (s : StoreFacts) (unspent : s.spent ≡ false) (store : IsStore s) (pla
       told = λ told. absurd (untold told);
     }
 
-  -- WHATEVER IS TOLD
-  pub asked : (Told s → Belongs s) → (u : State) → StandsForState s u → AskedHere u
-  asked belongs u here = by_told (seen s u unspent here) (told_or o.disc.held reels)
-    where
-      by_told : Seen s u → Told s ⊎ (Told s → ⊥) → AskedHere u
-      by_told sn (inl told) = subst AskedHere (sym sn.state_is) (told_by sn.view sn.is sn.opens told (belongs told) s.dump refl)
-      by_told sn (inr untold) = untold_by sn.view sn.is untold sn.view.text sn.is.files u
-
   -- with these bytes as the text of a file, which it has anyway where all is told
   module _ (f : File) (bytes : List ℕ) (there : Contains o.contents.files f) (long : length bytes ≡ f.rec.len) (held : ForSome f.bytes (λ b. b ≡ bytes)) where
     pub record Met (u : State) : Type 0 where

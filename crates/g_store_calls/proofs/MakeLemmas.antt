@@ -1,5 +1,5 @@
 -- The making of a new version: that the filestore allows it, and how it is answered.
-use Rattle.std.proofs.Common.{◌≡◌, ℕ, ◌<◌, ◌≤◌, ◌+◌, Bool, true, false, List, ◌∷◌, get_or, length, None, Ok, Err, is_some, refl, sym, ◌∙◌, ap, arith, inl, inr, subst, All}
+use Rattle.std.proofs.Common.{◌≡◌, ℕ, ◌<◌, ◌≤◌, ◌+◌, Bool, true, false, List, ◌∷◌, get_or, length, None, Err, is_some, refl, sym, ◌∙◌, ap, arith, inl, inr, subst, All}
 use Rattle.std.specs.Prelude.{◌⊎◌, ◌==◌, ◌&&◌, Contains, filter, nat_lt}
 use Rattle.std.proofs.lemmas.Bool.{cases_Bool, cond-false, cond-true, eqb-true, false≢true, ltb-true}
 use Rattle.std.proofs.lemmas.List.Elements.{All-append, All-cons, All-contains, All-filter, All-map, Contains-get_or}
@@ -7,7 +7,7 @@ use Rattle.g_base.specs.Block.{blocks_for}
 use Rattle.g_disc.proofs.CallLemmas.{Causes-for}
 use Rattle.g_entry.specs.declared.file_rec.FileRec.{FileRec}
 use Rattle.g_entry.specs.Rules.{StampsBelow}
-use Rattle.g_plain.specs.declared.faults.StoreFault.TheVariants.{DiscFull, NoMemory, Stopped}
+use Rattle.g_plain.specs.declared.faults.StoreFault.TheVariants.{NoMemory, Stopped}
 use Rattle.g_tree.specs.Records.{IsRecords}
 use Rattle.g_tree.specs.State as records
 use Rattle.g_tree.proofs.PlaceLemmas.{numbered_apart}
@@ -134,28 +134,8 @@ module _ (o new : OnlineFacts) (bytes : List ℕ) (r : FileRec) (need : ℕ) (ta
   plan_is : IsUnjamPlan (blocks_for (length bytes)) o take room
   plan_is = subst (λ (n : ℕ). IsUnjamPlan n o take room) blocks_are plan
 
-  pub made_full : IsTied o → room < need → HasMade r bytes o o (Err (DiscFull need room))
-  made_full tied short = record {
-    makes = record { same = refl; need_is = blocks_are; take = take; plan = plan_is; short = subst (λ (n : ℕ). room < n) blocks_are short };
-    tied = tied;
-    told = refl;
-  }
-
   roomy_is : need ≤ room → HasRoom (blocks_for (length bytes)) o take room
   roomy_is enough = record { plan = plan_is; enough = subst (λ (n : ℕ). n ≤ room) blocks_are enough }
-
-  pub made_ok : need ≤ room → IsApplied (PutFile r bytes take) o new (Ok tt) → HasMade r bytes o new (Ok tt)
-  made_ok enough applied = record {
-    makes = record {
-      take = take;
-      room = room;
-      roomy = roomy_is enough;
-      done = applied.ok;
-      causes = Causes-for (λ no. no) (λ no. no) (λ one. let no : ⊥ = cc in no) (λ no. absurd no) applied.causes;
-    };
-    tied = applied.tied;
-    told = applied.told;
-  }
 
   pub made_stopped : need ≤ room → IsApplied (PutFile r bytes take) o new (Err online.Stopped) → HasMade r bytes o new (Err Stopped)
   made_stopped enough applied = record {

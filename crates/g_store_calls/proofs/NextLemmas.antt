@@ -69,12 +69,6 @@ turned : (q r : FileRec) → SameName q r → SameName r q
 turned q r same = record { owner = sym same.owner; local = sym same.local; generation = sym same.generation; lang = sym same.lang }
 
 module _ (users : List UserRec) (files : List FileRec) (r : FileRec) (was : IsRecords users files) (fits : Fits users files r) where
-  abbrev is_lower : FileRec → Bool
-  is_lower s = nat_lt s.number r.number
-
-  abbrev is_greater : FileRec → Bool
-  is_greater s = nat_lt r.number s.number
-
   abbrev lower : List FileRec
   lower = filter (λ s. nat_lt s.number r.number) files
 

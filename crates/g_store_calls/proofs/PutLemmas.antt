@@ -11,7 +11,6 @@ use Rattle.g_name.specs.declared.full.Full.{Full}
 use Rattle.g_name.specs.declared.path.Path.{Path}
 use Rattle.g_tape.specs.Rack.{Rack}
 use Rattle.g_tape.proofs.ReadLemmas.{nothing_read}
-use Rattle.g_plain.specs.declared.calls.StoreCall.{StoreCall}
 use Rattle.g_plain.specs.declared.calls.StoreCall.TheVariants.{Put}
 use Rattle.g_plain.specs.declared.calls.StoreReply.{StoreReply}
 use Rattle.g_plain.specs.declared.calls.StoreReply.TheVariants.{Made}
@@ -144,9 +143,6 @@ pub record IsPut (o : OnlineFacts) (who : List ℕ) (path : Path) (bytes : List 
 
 module _ (s : StoreFacts) (new : OnlineFacts) (who : List ℕ) (path : Path) (bytes : List ℕ) (full : Full) (r : FileRec) (is : IsPut s.online who path bytes full r)
     (unspent : s.spent ≡ false) (store : IsStore s) (keeps : KeepsPlan s.dump) where
-  abbrev call : StoreCall
-  call = Put path bytes
-
   met : (v : View) → IsView s.online.disc.held (told_reels s.rack) s.online.contents v → IsMet v (told_reels s.rack) s.online s.dump who (Put path bytes) (blocks_for (length bytes))
   met v view = record {
     granted = sym (is.granted (λ q. v.text q.stamp) (texts_fit (AllTold s.online.disc.held (told_reels s.rack)) v s.online.contents view.files));

@@ -90,14 +90,6 @@ same_files : (b : Bool) (e : Contents) → (committed b e).files ≡ e.files
 same_files true e = refl
 same_files false e = refl
 
-same_users : (b : Bool) (e : Contents) → (committed b e).users ≡ e.users
-same_users true e = refl
-same_users false e = refl
-
-same_last : (b : Bool) (e : Contents) → (committed b e).head.last_dump ≡ e.head.last_dump
-same_last true e = refl
-same_last false e = refl
-
 told_back : (held now : Option (List (List ℕ))) (reels : List Reel) → is_some now ≡ is_some held → AllTold now reels → AllTold held reels
 told_back disc now reels same told = record { disc = sym same ∙ told.disc; each = told.each }
 

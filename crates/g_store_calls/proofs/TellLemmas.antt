@@ -20,7 +20,7 @@ use Rattle.g_plain.specs.declared.calls.StoreReply.{StoreReply}
 use Rattle.g_plain.specs.declared.faults.StoreFault.{StoreFault}
 use Rattle.g_plain.specs.declared.faults.StoreFault.TheVariants.{NoUser}
 use Rattle.g_plain.specs.PlainStep.{Checks, checks, fault_of, first_fault}
-use Rattle.g_plain.specs.PlainTree.{Tree, file_row, has_user, input_name, lengths, modes_of, named}
+use Rattle.g_plain.specs.PlainTree.{Tree, file_row, has_user, input_name, lengths, modes_of}
 use Rattle.g_plain.proofs.TextMaps.{full_exact}
 use Rattle.g_plain.proofs.TreeLemmas.{all_map, entries_found}
 use Rattle.g_tree.specs.Answers.{listed}
@@ -29,7 +29,7 @@ use Rattle.g_tree.specs.Records.{ForFile, ForTree, HasLengths, IsRecords, by_nam
 use Rattle.g_tree.proofs.ListLemmas.{filter_of_map, kept_same_on, map_of_map}
 use Rattle.g_tree.proofs.MapLemmas.{found_one, keyed, with_value}
 use Rattle.g_tree.proofs.NamedLemmas.{zeros_fit}
-use Rattle.g_tree.proofs.RecordLemmas.{file_entries, newest_is, user_there}
+use Rattle.g_tree.proofs.RecordLemmas.{file_entries, user_there}
 use Rattle.g_tree.proofs.RuleLemmas.{numbered_is}
 use Rattle.g_disc_contents.specs.Contents.{recs_in}
 use Rattle.g_disc_contents.specs.Facts.{OnlineFacts}
@@ -122,11 +122,6 @@ not_not false is = is
 module _ (users : List UserRec) (files : List FileRec) where
   pub user_any : (user : List ℕ) (bytes other : FileRec → List ℕ) (next then_ : ℕ) → has_user (tree_of users files bytes next) user ≡ has_user (tree_of users files other then_) user
   user_any user bytes other next then_ = sym (user_there users files bytes next user) ∙ user_there users files other then_ user
-
-  pub name_any : IsRecords users files → (who : List ℕ) (path : Path) (bytes other : FileRec → List ℕ) (next then_ : ℕ)
-      → input_name (tree_of users files bytes next) who path ≡ input_name (tree_of users files other then_) who path
-  name_any is who path bytes other next then_ =
-      ap (λ (n : ℕ). named who path (unwrap_or path.generation n)) (newest_is users files bytes next who path is ∙ sym (newest_is users files other then_ who path is))
 
   pub listed_user : (next : ℕ) (who user : List ℕ) → RefusesAs users files next who (ListFiles user) None → ForTree users files (λ t. has_user t user ≡ true)
   listed_user next who user granted bytes then_ =

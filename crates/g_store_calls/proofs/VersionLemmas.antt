@@ -40,7 +40,7 @@ use Rattle.g_store_meaning.specs.Belonging.{BelongWith, DiscBelongs, RackBelongs
 use Rattle.g_store_meaning.specs.Directories.{IsOwnedBy}
 use Rattle.g_store_meaning.specs.Laws.{IsNewVersion, IsQuiet, with_text, with_version}
 use Rattle.g_store_meaning.specs.Meaning.{told_reels}
-use Rattle.g_store_meaning.specs.Reading.{AllTold, DevicesStandFor, IsView, StandsForState, View, holding_of, names_of, open_of, row_of, state_down, state_up, tree_by}
+use Rattle.g_store_meaning.specs.Reading.{DevicesStandFor, IsView, StandsForState, View, holding_of, names_of, open_of, row_of, state_down, state_up, tree_by}
 use Rattle.g_store_meaning.specs.Staying.{AreMarked, behind}
 use Rattle.g_store_meaning.specs.StoreInvariant.{DumpFacts, IsOpen, IsUp, StoreFacts}
 use Rattle.g_store_meaning.proofs.BelongLemmas.{new_version_belongs}
@@ -108,10 +108,6 @@ of_recs : (P : FileRec → Type 0) (files : List File) → All P (map (λ (f : F
 of_recs P files all = λ k d within.
     let long = length-map files (λ (f : File). f.rec) in
     subst P (get_or-map (λ (f : File). f.rec) files k d d.rec within) (all k d.rec (omega (arith, within, long)))
-
-same_last : (b : Bool) (c : Contents) → (committed b c).head.last_dump ≡ c.head.last_dump
-same_last true c = refl
-same_last false c = refl
 
 same_files : (b : Bool) (c : Contents) → (committed b c).files ≡ c.files
 same_files true c = refl
@@ -199,9 +195,6 @@ module _ (s : StoreFacts) (new : OnlineFacts) (full : Full) (bytes : List ℕ) (
   committed_belongs : (text : ℕ → List ℕ) (shelf : ℕ → List Dump) (b : Bool) (x : Contents) → IsQuiet shelf reels x → DiscBelongs text shelf reels x → DiscBelongs text shelf reels (committed b x)
   committed_belongs text shelf true x quiet belongs = belongs
   committed_belongs text shelf false x quiet belongs = intents_belong.dropped text shelf reels x quiet belongs
-
-  told_on : Told s → AllTold new.disc.held reels
-  told_on all = record { disc = tells ∙ all.disc; each = all.each }
 
   -- DONE
   module _ (done : HasChanged (PutFile r bytes take) s.online new) where

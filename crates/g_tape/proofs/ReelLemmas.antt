@@ -1,12 +1,12 @@
 -- What is done to a reel leaves it one.
-use Rattle.std.proofs.Common.{◌≡◌, ℕ, ◌+◌, ◌<◌, ◌≤◌, List, [], ◌∷◌, ◌++◌, Bool, true, false, not, ◌||◌, nat_lt, Option, Some, None, length, take, All, option_map, if◌then◌else◌, refl, subst, ◌∙◌, arith, length-append, length-set}
+use Rattle.std.proofs.Common.{◌≡◌, ℕ, ◌+◌, ◌<◌, ◌≤◌, List, [], ◌∷◌, ◌++◌, Bool, true, false, not, ◌||◌, nat_lt, Option, Some, None, length, take, All, option_map, if◌then◌else◌, refl, subst, arith, length-append}
 use Rattle.std.specs.Option.{ForSome}
 use Rattle.std.proofs.lemmas.Bool.{ltb-true, ltb-false}
 use Rattle.std.proofs.lemmas.List.{length-take-le}
 use Rattle.std.proofs.lemmas.List.Elements.{All-take, All-push}
 use Rattle.g_base.specs.Block.{IsBlock}
 use Rattle.g_tape.specs.declared.fault.TapeFault.TheVariants.{NotMounted, End}
-use Rattle.g_tape.specs.Reel.{Reel, IsReel, with_mounted, cut_at, ending, read_at}
+use Rattle.g_tape.specs.Reel.{Reel, IsReel, with_mounted, cut_at, ending}
 use Rattle.g_tape.specs.Rack.{refuses_write}
 
 -- what holds of each value that is told, through a change of it
@@ -36,11 +36,6 @@ reel_made len mounted blocks times_read r kept within told whole counted =
 
 pub IsReel-mounted : (is : Bool) (r : Reel) → IsReel r → IsReel (with_mounted is r)
 IsReel-mounted is r kept = reel_made r.len is r.blocks r.times_read r kept kept.within kept.told kept.whole kept.counted
-
-pub IsReel-read_at : (k : ℕ) (r : Reel) → IsReel r → IsReel (read_at k r)
-IsReel-read_at k r kept =
-    reel_made r.len r.mounted r.blocks (read_at k r).times_read r kept kept.within kept.told kept.whole
-    (told-map _ (λ ts. length ts ≡ r.capacity) (λ ts. length ts ≡ r.capacity) r.times_read kept.counted (λ ts is. length-set ts k _ ∙ is))
 
 pub IsReel-cut_at : (k : ℕ) (r : Reel) → refuses_write k (Some r) ≡ None → IsReel r → IsReel (cut_at k r)
 IsReel-cut_at k r allowed kept =
