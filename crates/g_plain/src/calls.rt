@@ -20,7 +20,7 @@ pub enum BudgetKind {
 
 /// A call of a job. Where a path names a file for input, an absent generation is the greatest one
 /// there is; for output it is one more.
-#[derive(Debug, Drop, PartialEq, Eq)]
+#[derive(Debug, Drop)]
 pub enum StoreCall {
     /// Makes a user below the caller, with so many blocks of SPACE and units of TIME and MONEY.
     NewUser {

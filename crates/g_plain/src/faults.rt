@@ -7,115 +7,78 @@ use g_base;
 use g_name::{Full, User};
 use g_trap::Mode;
 use std::alloc::{AllocError, AllocFailed};
-use thiserror::Error;
 
 /// Why a store refuses a call or an event. Serials of reels, and `need`, `left` and `room` in
 /// blocks, are numbers.
-#[derive(Debug, Drop, PartialEq, Eq, Error)]
+#[derive(Debug, Drop, PartialEq, Eq)]
 pub enum StoreFault {
     /// A user who is named isn't there.
-    #[error("no user")]
     NoUser,
     /// The name for input names no file.
-    #[error("no file")]
     NoFile,
     /// The new user, or the file under its new name, is there.
-    #[error("exists")]
     Exists,
     /// The caller hasn't the mode that is needed.
-    #[error("trapped")]
     Trapped(Mode),
     /// A name for output gives no generation, and 4,095 exists.
-    #[error("no generation")]
     NoGeneration,
     /// The new version needs more blocks than its owner has left.
-    #[error("over space: need {need}, left {left}")]
     OverSpace { need: u32, left: u32 },
     /// The new version would have so many bytes, more than 65,536.
-    #[error("too long: {0} bytes")]
     TooLong(u64),
     /// A new file would be the 1,025th.
-    #[error("directory full")]
     DirectoryFull,
     /// A new user would be the 64th.
-    #[error("users full")]
     UsersFull,
     /// A ninth other user would be trapped.
-    #[error("traps full")]
     TrapsFull,
     /// The file's bytes are on this reel alone, which isn't mounted.
-    #[error("wait for tape {0}")]
     WaitTape(u32),
     /// The completed dumps of this reel don't hold the place of the file's copy.
-    #[error("no copy on tape {1}")]
     NoCopy(Full, u32),
     /// The disc has room for fewer blocks than are needed.
-    #[error("disc full: need {need}, room {room}")]
     DiscFull { need: u32, room: u32 },
-    #[error("disc read fault")]
     DiscReadFault,
-    #[error("tape read fault")]
     TapeReadFault,
     /// A write of a device failed. The store takes no call any more.
-    #[error("stopped")]
     Stopped,
-    #[error("out of memory")]
     NoMemory,
     /// The caller isn't among those who may.
-    #[error("not owner")]
     NotOwner,
     /// The next stamp, or the next dump's number, would be 2^62.
-    #[error("counters spent")]
     CountersSpent,
     /// There is no running system.
-    #[error("not started")]
     NotStarted,
-    #[error("not mounted")]
     NotMounted,
     /// The reel has room for fewer blocks behind its completed dumps than are needed.
-    #[error("tape full: need {need}, room {room}")]
     TapeFull { need: u32, room: u32 },
     /// The dump of this number is open.
-    #[error("dump {0} is open")]
     DumpOpen(u64),
     /// No reel of the rack has the serial.
-    #[error("no tape")]
     NoTape,
     /// The disc holds no directory.
-    #[error("no filestore")]
     NoFilestore,
     /// No reel has a completed dump.
-    #[error("no dump")]
     NoDump,
     /// This reel is the first of the rack that isn't mounted.
-    #[error("tape {0} of the rack is not mounted")]
     RackNotMounted(u32),
     /// A dump was being written to this reel, which isn't mounted.
-    #[error("mount tape {0} first")]
     MountFirst(u32),
     /// The reel holds the open dump.
-    #[error("tape busy")]
     TapeBusy,
     /// The dump names a place of the file's copy on this reel that no completed dump holds.
-    #[error("lost copy on tape {1}")]
     LostCopy(Full, u32),
     /// The file is on disc and has no tape copy.
-    #[error("not dumped")]
     NotDumped,
     /// The file is offline.
-    #[error("offline")]
     Offline,
     /// The system is running.
-    #[error("running")]
     Running,
     /// This reel is the first of the rack that has a block.
-    #[error("tape {0} of the rack is not empty")]
     RackNotEmpty(u32),
     /// No completed dump holds this user's directory, or it breaks the rules of a directory.
-    #[error("lost directory")]
     LostDirectory(User),
     /// The reel has a completed dump.
-    #[error("reel {0} is not free")]
     ReelNotFree(u32),
 }
 

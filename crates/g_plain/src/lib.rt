@@ -4,6 +4,7 @@
 #![tactic(auto)]
 
 mod calls;
+mod fault_text;
 mod faults;
 mod file_entry;
 mod file_map;

@@ -2,11 +2,10 @@
 //! is printed for each, and what differs.
 #![tactic(auto)]
 
-mod row;
 mod running;
 
-use row::Row;
-use running::{Seen, run_row, wrong_put};
+use g_row::{Row, Seen};
+use running::{run_row, wrong_put};
 use std::fs;
 
 fn main(rt: HostRuntime) -> anyhow::Result<()> {

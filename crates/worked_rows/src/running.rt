@@ -1,12 +1,12 @@
 //! A row's script, run on devices in memory by the program's own rules.
 ghost use Rattle.std.specs.Prelude.{◌<◌, ◌≤◌, IfOk};
 
-use crate::row::Row;
 use anyhow::anyhow;
 use g_disc::{Disc, Leave, MemoryDisc};
 use g_io::{MemorySink, MemorySource};
 use g_look::list;
 use g_program::run_by_rules;
+use g_row::{Row, Seen};
 use g_run::Finish;
 use g_tape::{MemoryTapes, TapeLeave, Tapes};
 use std::alloc::Global;
@@ -16,16 +16,6 @@ const ROOM: usize = 4_194_304;
 
 /// More puts than a run has whose puts fail one by one.
 const MOST_PUTS: u64 = 1_000;
-
-/// How a run ended.
-#[derive(Drop)]
-pub struct Seen {
-    pub status: u8,
-    pub text: String,
-    pub lengths: Vec<u32>,
-    /// A line for each file of the disc, where the row tells of copies.
-    pub files: String,
-}
 
 /// Runs the row's script.
 pub fn run_row(alloc: Global, row: &Row, script: &str) -> anyhow::Result<Seen> {
@@ -40,13 +30,27 @@ pub fn run_row(alloc: Global, row: &Row, script: &str) -> anyhow::Result<Seen> {
         status,
         disc,
         tapes,
-    } = run_by_rules(alloc, &row.words, &mut source, &mut sink, disc, tapes);
+    } = run_over(alloc, &row.words, &mut source, &mut sink, disc, tapes);
     Ok(Seen {
         status: status.code(),
         text: String::from_utf8_lossy(alloc, sink.text())?,
         lengths: lengths_of(alloc, &tapes)?,
         files: files_of(alloc, row, disc)?,
     })
+}
+
+/// The run alone: what follows it is proved without all that it promises.
+fn run_over(
+    alloc: Global,
+    words: &[&str],
+    source: &mut MemorySource,
+    sink: &mut MemorySink,
+    disc: MemoryDisc,
+    tapes: MemoryTapes,
+) -> Finish<MemoryDisc, MemoryTapes>
+    requires size { (2177 < disc.disc.size) × (disc.disc.size ≤ 1048576) }
+{
+    run_by_rules(alloc, words, source, sink, disc, tapes)
 }
 
 /// Where the row asks for it: the first single put that fails and doesn't end the run with status 4 and a front part of

@@ -1,9 +1,19 @@
 //! A row as its line in `rows.txt` has it: the name of its files, and what differs from an empty disc of 4,096 blocks,
 //! one empty reel of 8,192 and the word `run`.
 
-use crate::running::Seen;
 use anyhow::anyhow;
 use std::alloc::{AllocError, Global};
+
+/// What was seen of a run.
+#[derive(Drop)]
+pub struct Seen {
+    pub status: u8,
+    pub text: String,
+    /// The length of each reel.
+    pub lengths: Vec<u32>,
+    /// A line for each file of the disc, where the row tells of copies.
+    pub files: String,
+}
 
 /// What a row asks for.
 #[derive(Drop)]
