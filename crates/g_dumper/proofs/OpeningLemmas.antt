@@ -29,7 +29,7 @@ use Rattle.g_laws_store.specs.Dumping.{AreDumpable, IsPlanOf, PinsText, opened_w
 use Rattle.g_laws_store.proofs.DumpingLemmas.{events_stay_up}
 use Rattle.g_laws_store.proofs.OpeningLemmas.{opening_stays}
 use Rattle.g_laws_store.proofs.UpOneLemmas.{on_all}
-use Rattle.g_laws_memory.proofs.WaitingLemmas.{mapped_there}
+use Rattle.g_laws_store.proofs.WaitingLemmas.{mapped_there}
 use Rattle.g_dumper.specs.Beginning.{Begins, HasOpened, IsEnd, IsSpent, LeftByRefusal, RefusesOpening, StoppedOpening, intent_of, plan_of}
 use Rattle.g_dumper.specs.Invariant.{KeepsStore, behind_opening, spent_with, up_with}
 use Rattle.g_dumper.proofs.BeginLemmas.{after_reads, reel_named}

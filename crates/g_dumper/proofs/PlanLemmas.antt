@@ -22,7 +22,7 @@ use Rattle.g_online.proofs.CloseNoteLemmas.{pairs_map}
 use Rattle.g_store_meaning.specs.StoreInvariant.{ArePinned}
 use Rattle.g_laws_store.proofs.ClosingLemmas.{contains_filter}
 use Rattle.g_laws_store.proofs.RecordLemmas.{from_filter}
-use Rattle.g_laws_memory.proofs.WaitingLemmas.{from_mapped, mapped_there}
+use Rattle.g_laws_store.proofs.WaitingLemmas.{from_mapped, mapped_there}
 use Rattle.g_dumper.specs.Beginning.{held_of, plan_of}
 use Rattle.g_dumper.proofs.HeldLemmas.{held_all, held_few, held_ordered, held_pairs, holds_there, in_held, is_held, one_order}
 use Rattle.g_dumper.proofs.IntentLemmas.{rules_here}

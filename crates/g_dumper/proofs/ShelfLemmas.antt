@@ -23,7 +23,7 @@ use Rattle.g_store_meaning.specs.Meaning.{told_reels}
 use Rattle.g_store_meaning.specs.Reading.{ReelsTold}
 use Rattle.g_store_meaning.specs.StoreInvariant.{DumpFacts, IsOpen, IsReady, IsUp, content_in, with_dump}
 use Rattle.g_laws_store.proofs.UpOneLemmas.{on_all, placed_at_end}
-use Rattle.g_laws_memory.proofs.WaitingLemmas.{mapped_there}
+use Rattle.g_laws_store.proofs.WaitingLemmas.{mapped_there}
 use Rattle.g_dumper.specs.Invariant.{up_with}
 use Rattle.g_dumper.specs.Steps.{WroteBlock}
 use Rattle.g_dumper.proofs.BeginLemmas.{reel_named}

@@ -1,4 +1,16 @@
+pub mod Adoption
+pub mod Calls
 pub mod Commits
 pub mod Dumping
+pub mod ForgottenCopies
+pub mod Moving
+pub mod Opening
+pub mod OpeningNeeds
+pub mod Places
 pub mod Refusals
+pub mod Releasing
+pub mod Rooms
 pub mod States
+pub mod Trees
+pub mod UnjamPlan
+pub mod Users

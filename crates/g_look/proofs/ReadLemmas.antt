@@ -21,7 +21,7 @@ use Rattle.g_shelf.proofs.QuietLemmas.{within}
 use Rattle.g_store_meaning.specs.Meaning.{IsContent, told_reels}
 use Rattle.g_store_meaning.specs.Reading.{ReelsTold}
 use Rattle.g_store_meaning.proofs.OneLemmas.{is_shelved, on_reel}
-use Rattle.g_laws_memory.proofs.UnjamLemmas.{any_found}
+use Rattle.g_laws_store.proofs.UnjamLemmas.{any_found}
 use Rattle.g_restore.specs.Losses.{HasPlace}
 use Rattle.g_look.specs.declared.fault.LookFault.{LookFault}
 use Rattle.g_look.specs.Looks.{ReadsRackByCause}

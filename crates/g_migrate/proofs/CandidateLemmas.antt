@@ -17,7 +17,7 @@ use Rattle.g_disc_contents.specs.Facts.{IsTied, OnlineFacts, room_of}
 use Rattle.g_online.proofs.WalkLemmas.{IsNext, next_of, none_behind}
 use Rattle.g_migrate.specs.declared.candidates.Candidate.{Candidate}
 use Rattle.g_migrate.specs.Candidates.{candidate_in, candidate_of, candidates_in}
-use Rattle.g_laws_memory.specs.UnjamPlan.{is_candidate}
+use Rattle.g_laws_store.specs.UnjamPlan.{is_candidate}
 
 -- the file of a record at a place
 pub record IsFileAt (files : List File) (i : ℕ) (r : FileRec) : Type 0 where

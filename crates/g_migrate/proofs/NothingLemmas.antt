@@ -7,7 +7,7 @@ use Rattle.g_base.specs.Block.{blocks_for}
 use Rattle.g_disc_contents.specs.Contents.{File}
 use Rattle.g_disc_contents.specs.Facts.{OnlineFacts, room_of, room_with}
 use Rattle.g_online.proofs.TwoLemmas.{taken_none}
-use Rattle.g_laws_memory.specs.UnjamPlan.{IsUnjamPlan, is_candidate, is_taken}
+use Rattle.g_laws_store.specs.UnjamPlan.{IsUnjamPlan, is_candidate, is_taken}
 use Rattle.g_migrate.specs.UnjamPlan.{IsRoomWithout}
 
 abbrev counted : File → ℕ

@@ -18,7 +18,7 @@ use Rattle.g_disc_contents.specs.Facts.{OnlineFacts, Pin, is_current, online_blo
 use Rattle.g_online.proofs.UseLemmas.{same_apart}
 use Rattle.g_migrate.specs.declared.candidates.Candidate.{Candidate}
 use Rattle.g_migrate.specs.Candidates.{TakesFirst, blocks_in, candidate_of, candidates_in}
-use Rattle.g_laws_memory.specs.UnjamPlan.{IsUnjamPlan, is_candidate, is_taken, room_until}
+use Rattle.g_laws_store.specs.UnjamPlan.{IsUnjamPlan, is_candidate, is_taken, room_until}
 use Rattle.g_online.specs.Room.{FitsDisc}
 use Rattle.g_migrate.specs.UnjamPlan.{IsOlder, IsRoomWithout}
 use Rattle.g_migrate.proofs.FrontLemmas.{AreRising, IsFront, below, fewer_below, until_front, until_of}

@@ -3,7 +3,7 @@ use Rattle.std.specs.Prelude.{◌≡◌, ◌⊎◌, ℕ, ◌+◌, ◌<◌, ◌�
 use Rattle.g_base.specs.Block.{blocks_for}
 use Rattle.g_disc_contents.specs.Contents.{File}
 use Rattle.g_migrate.specs.declared.candidates.Candidate.{Candidate}
-use Rattle.g_laws_memory.specs.UnjamPlan.{is_candidate}
+use Rattle.g_laws_store.specs.UnjamPlan.{is_candidate}
 
 -- what is noted of a file
 abbrev pub candidate_of : File → Candidate

@@ -1,4 +1,4 @@
--- A PLAN OF UNJAMMING besides what makes it one (`IsUnjamPlan` of g_laws_memory): its order, and the room without its files.
+-- A PLAN OF UNJAMMING besides what makes it one (`IsUnjamPlan` of g_laws_store): its order, and the room without its files.
 use Rattle.std.specs.Prelude.{◌≡◌, ℕ, ◌<◌, List, Contains}
 use Rattle.g_disc_contents.specs.Contents.{File, taken_off}
 use Rattle.g_disc_contents.specs.Facts.{OnlineFacts, room_with}

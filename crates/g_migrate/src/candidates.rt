@@ -3,7 +3,7 @@ ghost use Rattle.std.specs.Prelude.{◌≡◌, ◌&&◌, ◌++◌, true, Contain
 ghost use Rattle.std.specs.Option.{option_to_list};
 ghost use Rattle.g_disc_contents.specs.Contents.{File};
 ghost use Rattle.g_migrate.specs.Candidates.{candidate_in, candidates_in};
-ghost use Rattle.g_laws_memory.specs.UnjamPlan.{is_candidate};
+ghost use Rattle.g_laws_store.specs.UnjamPlan.{is_candidate};
 
 use g_base::{NoMemory, blocks_for};
 use g_disc::Disc;

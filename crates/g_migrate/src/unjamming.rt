@@ -3,7 +3,7 @@ ghost use Rattle.std.specs.Prelude.{◌≡◌, ◌≤◌, true, [], All, AllPair
 ghost use Rattle.std.specs.List.Sorted.{IsNonDecreasingBy, IsPermutation};
 ghost use Rattle.g_disc_contents.specs.Facts.{IsTied, room_of};
 ghost use Rattle.g_migrate.specs.Candidates.{TakesFirst};
-ghost use Rattle.g_laws_memory.specs.UnjamPlan.{IsUnjamPlan};
+ghost use Rattle.g_laws_store.specs.UnjamPlan.{IsUnjamPlan};
 ghost use Rattle.g_migrate.specs.UnjamPlan.{IsOlder, IsRoomWithout};
 
 use crate::candidates::{Candidate, candidates};

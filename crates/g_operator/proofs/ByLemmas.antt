@@ -4,8 +4,8 @@ use Rattle.g_tape.specs.Rack.{Rack}
 use Rattle.g_tape.specs.Reads.{unread}
 use Rattle.g_tape.specs.Reel.{Reel}
 use Rattle.g_store_meaning.specs.Meaning.{told_reels}
-use Rattle.g_laws_process.specs.Moving.{DumpsMove, HasSameReels}
-use Rattle.g_laws_process.proofs.MoveLemmas.{moving_goes_on}
+use Rattle.g_laws_store.specs.Moving.{DumpsMove, HasSameReels}
+use Rattle.g_laws_store.proofs.MoveLemmas.{moving_goes_on}
 use Rattle.g_store_model.specs.CallStep.{Plain}
 use Rattle.g_script.specs.declared.operator.Operator.{Operator}
 use Rattle.g_run_model.specs.Devices.{Devices}

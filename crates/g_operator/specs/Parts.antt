@@ -5,7 +5,7 @@ use Rattle.g_io.specs.Streams.{with_more, HasPutPart}
 use Rattle.g_lines.specs.Documents.{IsOneLine}
 use Rattle.g_tape.specs.Rack.{Rack}
 use Rattle.g_store_model.specs.CallStep.{Outcome, Plain}
-use Rattle.g_laws_process.specs.Moving.{DumpsMove}
+use Rattle.g_laws_store.specs.Moving.{DumpsMove}
 use Rattle.g_script.specs.declared.operator.Operator.{Operator}
 use Rattle.g_script.specs.declared.operator.Operator.TheVariants as line
 use Rattle.g_run_model.specs.Devices.{Devices}

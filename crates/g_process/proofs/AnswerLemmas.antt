@@ -32,15 +32,15 @@ use Rattle.g_store_meaning.specs.Answers.{Belongs, Told, WroteCommits}
 use Rattle.g_store_meaning.specs.Meaning.{told_reels}
 use Rattle.g_store_meaning.specs.Reading.{AllTold}
 use Rattle.g_store_meaning.specs.StoreInvariant.{IsUp, StoreFacts}
-use Rattle.g_laws_process.specs.ForgottenCopies.{bare_rec}
-use Rattle.g_laws_process.proofs.ReleaseLemmas.{one_block_is_none}
+use Rattle.g_laws_store.specs.ForgottenCopies.{bare_rec}
+use Rattle.g_laws_store.proofs.ReleaseLemmas.{one_block_is_none}
 use Rattle.g_dumper.specs.Beginning.{intent_of}
 use Rattle.g_dumper.specs.Invariant.{spent_with, up_with}
 use Rattle.g_dumper.proofs.BeginLemmas.{after_reads, reel_named}
 use Rattle.g_dumper.proofs.IntentLemmas.{rules_here}
 use Rattle.g_dumper.proofs.KeepLemmas.{store_spent}
 use Rattle.g_shelf.specs.declared.rack.Listed.{Listed}
-use Rattle.g_laws_memory.proofs.WaitingLemmas.{mapped_there}
+use Rattle.g_laws_store.proofs.WaitingLemmas.{mapped_there}
 use Rattle.g_process.specs.declared.job.Job.{Job}
 use Rattle.g_process.specs.ProcessPlan.{IsFree, copies_from, process_plan, versions}
 use Rattle.g_process.specs.Preparation.{AtBlock, AtCopies, AtIntent, AtRelease, CarriesOut, HasIntended, IsGranted, IsPrepared, Preparing, StopsAt, copies_of}

@@ -11,7 +11,7 @@ use Rattle.g_tape.specs.Rack.{Rack, changed, reel, with_reel}
 use Rattle.g_tape.specs.Reads.{count_at, time_of, times_in, unread}
 use Rattle.g_tape.specs.Reel.{Reel, Remains, Shortened, Torn, Unchanged, ending, left_by}
 use Rattle.g_disc_contents.specs.Contents.{has}
-use Rattle.g_laws_memory.proofs.WaitingLemmas.{mapped_there}
+use Rattle.g_laws_store.proofs.WaitingLemmas.{mapped_there}
 use Rattle.g_process.specs.Releases.{AreReleased, released, zeros}
 use Rattle.g_process.specs.Progress.{IsBeside, filled}
 use Rattle.g_process.proofs.ReelLemmas.{times_changed, unread_filled}

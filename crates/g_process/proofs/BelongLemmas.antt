@@ -30,17 +30,17 @@ use Rattle.g_laws_store.proofs.DumpingLemmas.{events_stay_up}
 use Rattle.g_laws_store.proofs.OpeningLemmas.{opening_stays}
 use Rattle.g_laws_store.proofs.PinLemmas.{noted_copied, pins_content}
 use Rattle.g_laws_store.proofs.UpOneLemmas.{reel_named as reel_by_name}
-use Rattle.g_laws_process.specs.Releasing.{HasAll, without_reel}
-use Rattle.g_laws_process.proofs.ReleaseLemmas.{releases_stay}
-use Rattle.g_laws_process.specs.ForgottenCopies.{bare, bare_file, bare_rec, every_user, forgotten}
-use Rattle.g_laws_process.proofs.ForgetLemmas.{forgetting_stays}
+use Rattle.g_laws_store.specs.Releasing.{HasAll, without_reel}
+use Rattle.g_laws_store.proofs.ReleaseLemmas.{releases_stay}
+use Rattle.g_laws_store.specs.ForgottenCopies.{bare, bare_file, bare_rec, every_user, forgotten}
+use Rattle.g_laws_store.proofs.ForgetLemmas.{forgetting_stays}
 use Rattle.g_dumper.specs.Invariant.{up_with}
 use Rattle.g_dumper.proofs.BeginLemmas.{reel_named}
 use Rattle.g_dumper.proofs.HeldLemmas.{held_of_one, holds_there}
 use Rattle.g_dumper.proofs.IntentLemmas.{rules_here}
 use Rattle.g_dumper.proofs.KeepLemmas.{without_dump}
 use Rattle.g_dumper.proofs.ShelfLemmas.{reel_there, told_is}
-use Rattle.g_laws_memory.proofs.WaitingLemmas.{mapped_there}
+use Rattle.g_laws_store.proofs.WaitingLemmas.{mapped_there}
 use Rattle.g_process.specs.Exits.{AreParts}
 use Rattle.g_process.specs.ProcessPlan.{IsFree, living, process_plan, versions}
 use Rattle.g_process.specs.NamedCopies.{intended_by, moved_by, process_copies, process_intent}

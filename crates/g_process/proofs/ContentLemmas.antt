@@ -10,7 +10,7 @@ use Rattle.g_disc_contents.specs.Facts.{OnlineFacts}
 use Rattle.g_incr.specs.Plan.{IsContentAt, IsReadyAt, Plan, blocks_of, content_blocks, dump_of, first_content, needs, waiting}
 use Rattle.g_incr.proofs.ListLemmas.{get_some}
 use Rattle.g_incr.proofs.PlanLemmas.{length-made}
-use Rattle.g_laws_process.specs.ForgottenCopies.{bare_rec}
+use Rattle.g_laws_store.specs.ForgottenCopies.{bare_rec}
 use Rattle.g_dumper.proofs.NextLemmas.{at_content}
 use Rattle.g_process.specs.Progress.{HasWritten, IsBlockOf, IsSource}
 use Rattle.g_process.proofs.WriteLemmas.{get_map}

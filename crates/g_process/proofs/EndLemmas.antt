@@ -14,7 +14,7 @@ use Rattle.g_disc_contents.specs.Contents.{has}
 use Rattle.g_shelf.specs.declared.rack.Listed.{Listed}
 use Rattle.g_known.specs.ReelNotes.{AreListed, IsListed}
 use Rattle.g_laws_store.proofs.RecordLemmas.{pairs_head, pairs_tail}
-use Rattle.g_laws_memory.proofs.WaitingLemmas.{mapped_there}
+use Rattle.g_laws_store.proofs.WaitingLemmas.{mapped_there}
 use Rattle.g_process.specs.Exits.{IsBesideDump, IsClearedBy}
 use Rattle.g_process.specs.ProcessPlan.{IsFree, IsTaken}
 use Rattle.g_process.specs.Releases.{is_taken, released, taken, zeros}

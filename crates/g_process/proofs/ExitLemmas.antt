@@ -30,9 +30,9 @@ use Rattle.g_store_meaning.specs.Belonging.{DiscBelongs, KeepsFile, RackBelongs}
 use Rattle.g_store_meaning.specs.Meaning.{told_reels}
 use Rattle.g_store_meaning.specs.Reading.{AllTold, ReelsTold}
 use Rattle.g_store_meaning.specs.StoreInvariant.{IsUp, StoreFacts, with_dump}
-use Rattle.g_laws_process.specs.ForgottenCopies.{bare_rec}
-use Rattle.g_laws_process.specs.Releasing.{without_reel}
-use Rattle.g_laws_process.proofs.ReleaseLemmas.{one_block_is_none}
+use Rattle.g_laws_store.specs.ForgottenCopies.{bare_rec}
+use Rattle.g_laws_store.specs.Releasing.{without_reel}
+use Rattle.g_laws_store.proofs.ReleaseLemmas.{one_block_is_none}
 use Rattle.g_dumper.specs.Invariant.{spent_with, up_with}
 use Rattle.g_dumper.proofs.ShelfLemmas.{reel_there, told_is}
 use Rattle.g_dumper.proofs.KeepLemmas.{belongs_spent, belongs_up, without_dump}

@@ -30,12 +30,12 @@ use Rattle.g_shelf.specs.HeldBlocks.{AreHeld}
 use Rattle.g_known.specs.ReelNotes.{AreListed}
 use Rattle.g_known.proofs.KnownLemmas.{held_fits}
 use Rattle.g_shelf.proofs.OneLemmas.{completed_are_one}
-use Rattle.g_laws_process.specs.ForgottenCopies.{every_user}
+use Rattle.g_laws_store.specs.ForgottenCopies.{every_user}
 use Rattle.g_dumper.proofs.BeginLemmas.{after_reads}
 use Rattle.g_dumper.proofs.HeldLemmas.{held_ordered}
 use Rattle.g_dumper.proofs.IntentLemmas.{rules_here}
 use Rattle.g_dumper.proofs.PlanLemmas.{turns}
-use Rattle.g_laws_memory.proofs.WaitingLemmas.{from_mapped, mapped_there}
+use Rattle.g_laws_store.proofs.WaitingLemmas.{from_mapped, mapped_there}
 use Rattle.g_process.specs.Lists.{IsLost, IsLostIn, IsOfFile, IsThere, notes_at}
 use Rattle.g_process.specs.ProcessPlan.{IsFirstLost, IsHeld, living, process_plan, versions}
 use Rattle.g_process.specs.Preparation.{IsGranted}

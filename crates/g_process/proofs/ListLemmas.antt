@@ -13,7 +13,7 @@ use Rattle.g_shelf.specs.declared.rack.Listed.{Listed}
 use Rattle.g_shelf.specs.FoundDumps.{note_of}
 use Rattle.g_known.specs.ReelNotes.{AreFound, AreListed, IsListed}
 use Rattle.g_shelf.proofs.OneLemmas.{completed_are_one}
-use Rattle.g_laws_memory.proofs.WaitingLemmas.{mapped_there}
+use Rattle.g_laws_store.proofs.WaitingLemmas.{mapped_there}
 use Rattle.g_process.specs.Lists.{notes_at}
 use Rattle.g_process.specs.ProcessPlan.{IsFree, IsTaken}
 

@@ -18,7 +18,7 @@ use Rattle.g_store_meaning.specs.Meaning.{joined}
 use Rattle.g_store_meaning.specs.StoreInvariant.{ArePinned, content_in}
 use Rattle.g_laws_store.specs.Dumping.{PinsText}
 use Rattle.g_laws_store.proofs.PinLemmas.{both_told}
-use Rattle.g_laws_process.specs.ForgottenCopies.{bare_rec}
+use Rattle.g_laws_store.specs.ForgottenCopies.{bare_rec}
 use Rattle.g_process.specs.Exits.{AreParts}
 use Rattle.g_process.specs.ProcessPlan.{copies_from}
 use Rattle.g_process.proofs.DumpLemmas.{from_drop, from_take, get_below}

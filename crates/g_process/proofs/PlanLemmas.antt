@@ -24,12 +24,12 @@ use Rattle.g_online.specs.ReadyCopies.{IsReadyFor, ready_with, Readied}
 use Rattle.g_online.proofs.CopiedLemmas.{KeepsEmpty, records_copied, rules_copied}
 use Rattle.g_store_meaning.specs.Meaning.{files_of}
 use Rattle.g_laws_store.specs.Dumping.{AreDumpable}
-use Rattle.g_laws_process.specs.ForgottenCopies.{bare, bare_file, bare_rec, every_user}
-use Rattle.g_laws_process.proofs.ForgetLemmas.{forgetting_stays}
+use Rattle.g_laws_store.specs.ForgottenCopies.{bare, bare_file, bare_rec, every_user}
+use Rattle.g_laws_store.proofs.ForgetLemmas.{forgetting_stays}
 use Rattle.g_dumper.specs.Beginning.{held_of}
 use Rattle.g_dumper.proofs.HeldLemmas.{held_all, held_few, held_ordered, held_pairs, holds_there, in_held, is_held}
 use Rattle.g_dumper.proofs.IntentLemmas.{rules_here}
-use Rattle.g_laws_memory.proofs.WaitingLemmas.{mapped_there}
+use Rattle.g_laws_store.proofs.WaitingLemmas.{mapped_there}
 use Rattle.g_process.specs.ProcessPlan.{copies_from, is_filled, living, process_plan, versions}
 use Rattle.g_process.proofs.ReleaseLemmas.{take_next}
 use Rattle.g_process.proofs.WriteLemmas.{contained}

@@ -13,7 +13,7 @@ use Rattle.g_tape.proofs.ReadLemmas.{is_reel}
 use Rattle.g_tape.proofs.PlaceLemmas.{reel-found}
 use Rattle.g_disc_contents.specs.Contents.{has}
 use Rattle.g_shelf.specs.declared.rack.Listed.{Listed}
-use Rattle.g_laws_memory.proofs.WaitingLemmas.{mapped_there}
+use Rattle.g_laws_store.proofs.WaitingLemmas.{mapped_there}
 use Rattle.g_process.specs.Releases.{AreReleased, IsCutAt, is_taken, released, taken, zeros}
 use Rattle.g_process.proofs.WriteLemmas.{free_there, element}
 

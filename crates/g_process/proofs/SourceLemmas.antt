@@ -22,7 +22,7 @@ use Rattle.g_disc_contents.specs.Contents.{File}
 use Rattle.g_disc_contents.specs.Facts.{OnlineFacts}
 use Rattle.g_disc_contents.specs.Parts.{IsPart}
 use Rattle.g_incr.specs.Plan.{IsContentAt, Plan}
-use Rattle.g_laws_process.specs.ForgottenCopies.{bare_rec}
+use Rattle.g_laws_store.specs.ForgottenCopies.{bare_rec}
 use Rattle.g_process.specs.Progress.{AreReadable, FailedAt, Fills, IsReadable, ReadsSource}
 use Rattle.g_process.proofs.WriteLemmas.{element, element_below, placed}
 

@@ -13,7 +13,7 @@ use Rattle.g_incr.specs.Layout.{Dump}
 use Rattle.g_shelf.specs.CompletedDumps.{AreCompleted}
 use Rattle.g_shelf.specs.HeldBlocks.{AreHeld}
 use Rattle.g_dumper.specs.Beginning.{held_of, plan_of}
-use Rattle.g_laws_process.specs.ForgottenCopies.{bare, every_user}
+use Rattle.g_laws_store.specs.ForgottenCopies.{bare, every_user}
 
 -- the filestore as if no version had a copy and every directory had changed
 abbrev pub forgotten_online : OnlineFacts → OnlineFacts

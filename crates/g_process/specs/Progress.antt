@@ -14,7 +14,7 @@ use Rattle.g_disc_contents.specs.Contents.{File}
 use Rattle.g_disc_contents.specs.Facts.{OnlineFacts}
 use Rattle.g_disc_contents.specs.Parts.{IsPart}
 use Rattle.g_incr.specs.Plan.{IsContentAt, IsReadyAt, Plan, needs, waiting}
-use Rattle.g_laws_process.specs.ForgottenCopies.{bare_rec}
+use Rattle.g_laws_store.specs.ForgottenCopies.{bare_rec}
 
 -- a reel that holds these blocks from its first one on, once one was written
 abbrev pub filled : List (List ℕ) → Reel → Reel

@@ -1,7 +1,7 @@
 //! The versions that are written, and the copies that they get.
 ghost use Rattle.std.specs.Prelude.{◌≡◌, ◌+◌, ◌<◌, ◌^◌, IfOk, filter, map, true};
 ghost use Rattle.g_incr.specs.Plan.{blocks_of};
-ghost use Rattle.g_laws_process.specs.ForgottenCopies.{bare_rec};
+ghost use Rattle.g_laws_store.specs.ForgottenCopies.{bare_rec};
 ghost use Rattle.g_process.specs.ProcessPlan.{copies_from, is_filled, living, versions};
 
 use g_base::{NoMemory, blocks_for};

@@ -17,9 +17,9 @@ use Rattle.g_online.specs.Change.{changed, told_bytes, with_files}
 use Rattle.g_online.specs.Room.{FitsDisc}
 use Rattle.g_online.proofs.KeepLemmas.{rules_of}
 use Rattle.g_online.proofs.OffRuleLemmas.{MayGo, committed_rules, off_rules, same_recs, rec_off}
-use Rattle.g_laws_memory.specs.UnjamPlan.{IsUnjamPlan, is_candidate, is_taken}
-use Rattle.g_laws_memory.proofs.UnjamLemmas.{any_found, numbers_apart}
-use Rattle.g_laws_memory.proofs.UserLemmas.{any_there}
+use Rattle.g_laws_store.specs.UnjamPlan.{IsUnjamPlan, is_candidate, is_taken}
+use Rattle.g_laws_store.proofs.UnjamLemmas.{any_found, numbers_apart}
+use Rattle.g_laws_store.proofs.UserLemmas.{any_there}
 use Rattle.g_retrieve.specs.Retrieval.{IsOnTape}
 
 -- THE RULES of the contents, from what ties them to the disc

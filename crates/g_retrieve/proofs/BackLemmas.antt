@@ -26,11 +26,11 @@ use Rattle.g_online.specs.declared.fault.OnlineFault.TheVariants as online
 use Rattle.g_online.specs.declared.unjam.Unjam.{Unjam}
 use Rattle.g_online.specs.AllowedChanges.{IsAllowed}
 use Rattle.g_online.specs.Outcomes.{HasChanged, IsApplied, room_for}
-use Rattle.g_laws_memory.proofs.WaitingLemmas.{mapped_there}
+use Rattle.g_laws_store.proofs.WaitingLemmas.{mapped_there}
 use Rattle.g_retrieve.specs.Retrieval.{HasBroughtBack, HasCopied, HasReadCopy, IsOnTape, IsBrought, IsPutBack, IsTapeRefusal, ReadsTapes}
 use Rattle.g_retrieve.specs.Invariant.{HasLostCopy, KeepsDevices}
 use Rattle.g_retrieve.proofs.AllowLemmas.{away_filled, may_bring, rules_here}
-use Rattle.g_laws_memory.specs.UnjamPlan.{IsUnjamPlan}
+use Rattle.g_laws_store.specs.UnjamPlan.{IsUnjamPlan}
 use Rattle.g_retrieve.proofs.HeldLemmas.{is_lost}
 use Rattle.g_retrieve.proofs.KeepsLemmas.{keeps_done, keeps_same, keeps_stopped}
 

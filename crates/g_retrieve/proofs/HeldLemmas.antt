@@ -22,7 +22,7 @@ use Rattle.g_store_meaning.specs.Reading.{ReelsTold}
 use Rattle.g_store_meaning.specs.StoreInvariant.{IsUp, StoreFacts}
 use Rattle.g_store_meaning.proofs.OneLemmas.{are_right, is_shelved, on_reel, one_content}
 use Rattle.g_laws_store.proofs.UpOneLemmas.{on_all}
-use Rattle.g_laws_memory.proofs.WaitingLemmas.{mapped_there}
+use Rattle.g_laws_store.proofs.WaitingLemmas.{mapped_there}
 use Rattle.g_retrieve.specs.Retrieval.{HasCopied, IsOnTape, IsNowhere}
 use Rattle.g_retrieve.specs.Invariant.{HasLostCopy, IsOver}
 

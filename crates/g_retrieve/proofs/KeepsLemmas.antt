@@ -30,7 +30,7 @@ use Rattle.g_store_meaning.proofs.ChangeLemmas.{files_belong}
 use Rattle.g_store_meaning.proofs.StayLemmas.{stays_open, stays_up}
 use Rattle.g_laws_store.proofs.DumpingLemmas.{events_stay_up}
 use Rattle.g_laws_store.proofs.TiedLemmas.{committed_belongs, devices_belong, moved, spent_store, spent_then}
-use Rattle.g_laws_memory.proofs.UnjamLemmas.{numbers_apart}
+use Rattle.g_laws_store.proofs.UnjamLemmas.{numbers_apart}
 use Rattle.g_retrieve.specs.Retrieval.{HasCopied, IsOnTape}
 use Rattle.g_retrieve.specs.Invariant.{IsOver, KeepsDevices}
 use Rattle.g_retrieve.proofs.AllowLemmas.{rules_here}

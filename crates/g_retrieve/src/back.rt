@@ -10,7 +10,7 @@ ghost use Rattle.g_tree.specs.Records.{IsRecords, name_of_file};
 ghost use Rattle.g_disc_contents.specs.Contents.{File};
 ghost use Rattle.g_disc_contents.specs.Facts.{IsTied};
 ghost use Rattle.g_online.specs.AllowedChanges.{IsAllowed};
-ghost use Rattle.g_laws_memory.specs.UnjamPlan.{IsUnjamPlan};
+ghost use Rattle.g_laws_store.specs.UnjamPlan.{IsUnjamPlan};
 ghost use Rattle.g_retrieve.specs.Retrieval.{HasBroughtBack, HasReadCopy, IsOnTape, IsPutBack, as_read};
 ghost use Rattle.g_retrieve.specs.Invariant.{HasLostCopy, KeepsDevices};
 

@@ -7,7 +7,7 @@ use Rattle.g_script.specs.Script.{IsParsed}
 use Rattle.g_script.specs.declared.operator.Timed.{Timed}
 use Rattle.g_script.proofs.OneReading.{reading_unique}
 use Rattle.g_laws_store.proofs.ClosingLemmas.{all_left, all_right}
-use Rattle.g_laws_process.specs.Moving.{DumpsMove}
+use Rattle.g_laws_store.specs.Moving.{DumpsMove}
 use Rattle.g_run_model.specs.Lines.{is_process}
 use Rattle.g_operator.specs.Parts.{DumpsBy}
 use Rattle.g_operator.specs.System.{DumpsGrow, labels}

@@ -7,7 +7,7 @@ use Rattle.g_budget.specs.declared.tariff.Usage.{Usage}
 use Rattle.g_sched.specs.declared.rule.Standing.{Standing}
 use Rattle.g_io.specs.Streams.{HasPutPart, with_more}
 use Rattle.g_tape.specs.Rack.{Rack}
-use Rattle.g_laws_process.specs.Moving.{DumpsMove}
+use Rattle.g_laws_store.specs.Moving.{DumpsMove}
 use Rattle.g_script.specs.declared.operator.Timed.{Timed}
 use Rattle.g_run_model.specs.Lines.{is_process}
 use Rattle.g_run_model.specs.Moves.{Move, MovesCounted, Run}

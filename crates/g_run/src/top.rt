@@ -11,7 +11,7 @@ ghost use Rattle.g_lines.specs.Lines.{lines_of};
 ghost use Rattle.g_sched.specs.Rule.{IsWeighRule};
 ghost use Rattle.g_script.specs.Script.{IsParsed};
 ghost use Rattle.g_script.specs.declared.operator.Timed.{Timed};
-ghost use Rattle.g_laws_process.specs.Moving.{DumpsMove};
+ghost use Rattle.g_laws_store.specs.Moving.{DumpsMove};
 ghost use Rattle.g_run_model.specs.Top.{AreArmings, AreFused, IsCutWords, words_line};
 ghost use Rattle.g_laws_runs.specs.Filestores.{HasFilestore};
 ghost use Rattle.g_run.specs.Input.{IsRun};

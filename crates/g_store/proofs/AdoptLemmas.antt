@@ -14,7 +14,7 @@ use Rattle.g_online.specs.Change.{changed}
 use Rattle.g_online.proofs.CopiedLemmas.{none_copied, rules_copied}
 use Rattle.g_online.proofs.KeepLemmas.{rules_of}
 use Rattle.g_store_meaning.specs.Laws.{closed}
-use Rattle.g_laws_memory.proofs.WaitingLemmas.{mapped_there}
+use Rattle.g_laws_store.proofs.WaitingLemmas.{mapped_there}
 use Rattle.g_store.specs.Starting.{adoption, copies_named, has_empty}
 use Rattle.g_store.proofs.OwnPlaceLemmas.{empty_there, named_all}
 

@@ -9,7 +9,7 @@ use Rattle.g_store_meaning.specs.Answers.{IsStore, WroteCommits, Raised}
 use Rattle.g_store_meaning.specs.Meaning.{told_reels}
 use Rattle.g_store_meaning.specs.Reading.{StandsForState, View, state_up}
 use Rattle.g_store_meaning.specs.StoreInvariant.{StoreFacts}
-use Rattle.g_laws_memory.specs.Rooms.{held_in}
+use Rattle.g_laws_store.specs.Rooms.{held_in}
 use Rattle.g_store.specs.Events.{AnswersEvent, LeadsBy, StepsBy, WroteBy}
 use Rattle.g_store_calls.proofs.SeenLemmas.{Seen, seen}
 

@@ -36,11 +36,11 @@ use Rattle.g_store_meaning.specs.Meaning.{IsContent, told_reels}
 use Rattle.g_store_meaning.specs.Reading.{AllTold, HasText, IsView, View, holding_of, names_of, open_of, open_tree, own_opened, place_of, row_of, state_down, state_up, tree_by, users_in, users_not_in, waiting_of}
 use Rattle.g_store_meaning.specs.StoreInvariant.{DumpFacts, StoreFacts}
 use Rattle.g_store_meaning.proofs.OneLemmas.{same_dumps, shelves_agree}
-use Rattle.g_laws_memory.specs.Places.{AreDistinct, IsOfStamp}
-use Rattle.g_laws_memory.specs.Rooms.{held_in}
-use Rattle.g_laws_memory.proofs.RoomLemmas.{files_apart}
-use Rattle.g_laws_memory.proofs.UnjamLemmas.{numbers_apart as files_numbered}
-use Rattle.g_laws_calls.proofs.FileLemmas.{of_stamp, offline_recs}
+use Rattle.g_laws_store.specs.Places.{AreDistinct, IsOfStamp}
+use Rattle.g_laws_store.specs.Rooms.{held_in}
+use Rattle.g_laws_store.proofs.RoomLemmas.{files_apart}
+use Rattle.g_laws_store.proofs.UnjamLemmas.{numbers_apart as files_numbered}
+use Rattle.g_laws_store.proofs.FileLemmas.{of_stamp, offline_recs}
 use Rattle.g_migrate.proofs.MigrationLemmas.{rec_there}
 use Rattle.g_migrate.proofs.UsedLemmas.{used_there}
 use Rattle.g_store_calls.proofs.BehindLemmas.{rack_seen, told_then, CopyHolds, off, off_text}

@@ -32,7 +32,7 @@ use Rattle.g_store_meaning.specs.Meaning.{told_reels}
 use Rattle.g_store_meaning.specs.Reading.{AllTold, DevicesStandFor, IsOpenView, IsView, StandsForState, View, holding_of, state_down, state_up, users_not_in}
 use Rattle.g_store_meaning.specs.StoreInvariant.{DumpFacts, IsOpen, StoreFacts}
 use Rattle.g_store_meaning.proofs.ViewLemmas.{Stands, back}
-use Rattle.g_laws_memory.specs.Rooms.{held_in}
+use Rattle.g_laws_store.specs.Rooms.{held_in}
 use Rattle.g_migrate.specs.Invariant.{KeepsStore, with_online}
 use Rattle.g_migrate.specs.Migration.{HasMigrated}
 use Rattle.g_store.specs.Events.{IsOfMigration, LeadsBy, Migrates, StepsBy, WroteBy}

@@ -19,10 +19,10 @@ use Rattle.g_store_meaning.specs.Meaning.{told_reels}
 use Rattle.g_store_meaning.specs.Reading.{AllTold}
 use Rattle.g_store_meaning.specs.StoreInvariant.{IsUp, StoreFacts, with_dump}
 use Rattle.g_laws_store.proofs.UpOneLemmas.{on_all}
-use Rattle.g_laws_process.specs.Moving.{AreKept, DumpsMove, IsReplaced}
+use Rattle.g_laws_store.specs.Moving.{AreKept, DumpsMove, IsReplaced}
 use Rattle.g_dumper.proofs.ShelfLemmas.{told_is}
 use Rattle.g_process.specs.Exits.{Exits, MayFill, StopsBefore, StopsCopies, StopsIntent, StopsMark, StopsRelease, cleared, new_dump}
-use Rattle.g_laws_memory.proofs.WaitingLemmas.{mapped_there, from_mapped}
+use Rattle.g_laws_store.proofs.WaitingLemmas.{mapped_there, from_mapped}
 use Rattle.g_store.proofs.ProcessedRowsLemmas.{IsLabelled, below_this}
 use Rattle.g_store.proofs.ProcessedStepLemmas.{all_same, unread_names, zip_names}
 use Rattle.g_store.proofs.ProcessedTreeLemmas.{held_all}

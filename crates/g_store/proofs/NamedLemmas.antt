@@ -18,9 +18,9 @@ use Rattle.g_known.specs.ReelNotes.{AreFound}
 use Rattle.g_shelf.proofs.OneLemmas.{completed_are_one, same_next}
 use Rattle.g_store_model.specs.Rising.{is_intended}
 use Rattle.g_store_meaning.specs.Reading.{shelved_of}
-use Rattle.g_laws_memory.proofs.UnjamLemmas.{any_found}
-use Rattle.g_laws_memory.proofs.UserLemmas.{any_there}
-use Rattle.g_laws_memory.proofs.WaitingLemmas.{from_mapped, mapped_there}
+use Rattle.g_laws_store.proofs.UnjamLemmas.{any_found}
+use Rattle.g_laws_store.proofs.UserLemmas.{any_there}
+use Rattle.g_laws_store.proofs.WaitingLemmas.{from_mapped, mapped_there}
 use Rattle.g_store.specs.Starting.{HasNamed, IsNamed, NamesNone, names}
 
 -- each completed dump stands on the reel

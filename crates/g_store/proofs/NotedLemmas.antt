@@ -35,11 +35,11 @@ use Rattle.g_store_meaning.specs.Reading.{dumped_place, dumped_places, names_of,
 use Rattle.g_store_meaning.specs.StoreInvariant.{ArePinned}
 use Rattle.g_laws_store.proofs.ClosingLemmas.{IsOf, all_left, all_right, contains_filter, pins_are}
 use Rattle.g_laws_store.proofs.PinLemmas.{OtherStamp}
-use Rattle.g_laws_memory.specs.Places.{AreNotedIn}
-use Rattle.g_laws_memory.specs.Users.{IsNamed}
-use Rattle.g_laws_memory.proofs.NeedsLemmas.{pins_differ, users_named}
-use Rattle.g_laws_memory.proofs.RoomLemmas.{pins_apart}
-use Rattle.g_laws_memory.proofs.UserLemmas.{any_none, any_there, called, is_called, named_any}
+use Rattle.g_laws_store.specs.Places.{AreNotedIn}
+use Rattle.g_laws_store.specs.Users.{IsNamed}
+use Rattle.g_laws_store.proofs.NeedsLemmas.{pins_differ, users_named}
+use Rattle.g_laws_store.proofs.RoomLemmas.{pins_apart}
+use Rattle.g_laws_store.proofs.UserLemmas.{any_none, any_there, called, is_called, named_any}
 
 -- THE USERS who weren't touched are kept
 abbrev user_entry : List UserRec → UserRec → List ℕ × UserRow

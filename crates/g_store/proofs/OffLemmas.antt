@@ -14,8 +14,8 @@ use Rattle.g_dirs.specs.Directory.{Directory, FileEntry}
 use Rattle.g_disc_contents.specs.Contents.{File, contents_of, file_of, offline_in, taken_off}
 use Rattle.g_store_model.specs.State.{Place, place_at, with_online}
 use Rattle.g_store_meaning.specs.Reading.{place_of, places_of}
-use Rattle.g_laws_memory.specs.Places.{AreDistinct, IsOfStamp}
-use Rattle.g_laws_memory.proofs.PlaceLemmas.{find_mapped, get_place, place_found, stamp_of}
+use Rattle.g_laws_store.specs.Places.{AreDistinct, IsOfStamp}
+use Rattle.g_laws_store.proofs.PlaceLemmas.{find_mapped, get_place, place_found, stamp_of}
 
 entry_by : Bool → Option TapeCopy → Place
 entry_by online copy = record { online = online; copy = copy }

@@ -42,11 +42,11 @@ use Rattle.g_store_meaning.proofs.ViewLemmas.{Stands, back, reads_keep_state}
 use Rattle.g_laws_store.specs.Dumping.{IsPlanOf, opened_with}
 use Rattle.g_laws_store.proofs.StateLemmas.{is_view, view_by, with_there}
 use Rattle.g_laws_store.proofs.UpOneLemmas.{store_is_one}
-use Rattle.g_laws_memory.specs.Rooms.{HasLength, held_in}
-use Rattle.g_laws_memory.proofs.NeedsLemmas.{opening_takes}
-use Rattle.g_laws_memory.proofs.WaitingLemmas.{mapped_there}
-use Rattle.g_laws_opening.specs.Opening.{IsOpening}
-use Rattle.g_laws_opening.proofs.OwnLemmas.{opening_is_step}
+use Rattle.g_laws_store.specs.Rooms.{HasLength, held_in}
+use Rattle.g_laws_store.proofs.NeedsLemmas.{opening_takes}
+use Rattle.g_laws_store.proofs.WaitingLemmas.{mapped_there}
+use Rattle.g_laws_store.specs.Opening.{IsOpening}
+use Rattle.g_laws_store.proofs.OwnLemmas.{opening_is_step}
 use Rattle.g_dumper.specs.Beginning.{Begins, IsEnd, IsKeptBack, LeftByRefusal, RefusesOpening, StoppedOpening, held_of, intent_of, plan_of}
 use Rattle.g_dumper.specs.Invariant.{KeepsStore, behind_opening, spent_with, up_with}
 use Rattle.g_dumper.proofs.BeginLemmas.{after_reads, reel_named}

@@ -17,11 +17,11 @@ use Rattle.g_disc_contents.specs.Contents.{File, copy_of, with_copies, with_copy
 use Rattle.g_store_model.specs.State.{Place, copy_entry}
 use Rattle.g_store_model.specs.Rising.{other_copy}
 use Rattle.g_store_meaning.specs.Reading.{place_of, places_of}
-use Rattle.g_laws_opening.proofs.CopyLemmas.{copies_by, find_copy, no_copy_of, same_flat}
-use Rattle.g_laws_opening.proofs.OwnLemmas.{chosen_copy}
-use Rattle.g_laws_memory.proofs.PlaceLemmas.{get_by, mapped_places}
-use Rattle.g_laws_memory.proofs.UnjamLemmas.{any_found}
-use Rattle.g_laws_memory.proofs.UserLemmas.{any_there}
+use Rattle.g_laws_store.proofs.CopyLemmas.{copies_by, find_copy, no_copy_of, same_flat}
+use Rattle.g_laws_store.proofs.OwnLemmas.{chosen_copy}
+use Rattle.g_laws_store.proofs.PlaceLemmas.{get_by, mapped_places}
+use Rattle.g_laws_store.proofs.UnjamLemmas.{any_found}
+use Rattle.g_laws_store.proofs.UserLemmas.{any_there}
 use Rattle.g_store.specs.Starting.{copies_named, copy_named, has_empty}
 
 -- what is so of each copy that is named

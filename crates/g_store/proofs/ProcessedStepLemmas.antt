@@ -43,8 +43,8 @@ use Rattle.g_store_meaning.specs.StoreInvariant.{DumpFacts, IsUp, StoreFacts, wi
 use Rattle.g_store_meaning.proofs.OneLemmas.{on_reel, dumped_parts}
 use Rattle.g_laws_store.proofs.StateLemmas.{is_view, view_by}
 use Rattle.g_laws_store.proofs.UpOneLemmas.{on_all, store_is_one}
-use Rattle.g_laws_memory.specs.Rooms.{HasLength, held_in}
-use Rattle.g_laws_memory.proofs.WaitingLemmas.{from_mapped, mapped_there}
+use Rattle.g_laws_store.specs.Rooms.{HasLength, held_in}
+use Rattle.g_laws_store.proofs.WaitingLemmas.{from_mapped, mapped_there}
 use Rattle.g_store_calls.proofs.SeenLemmas.{Seen, stands}
 use Rattle.g_dumper.specs.Invariant.{spent_with, up_with}
 use Rattle.g_dumper.proofs.BeginLemmas.{reel_named}

@@ -43,20 +43,20 @@ use Rattle.g_laws_store.specs.Dumping.{opened_with}
 use Rattle.g_laws_store.proofs.RecordLemmas.{OtherUser, gathered_by, pairs_tail, users_apart}
 use Rattle.g_laws_store.proofs.StateLemmas.{view_by, with_there}
 use Rattle.g_laws_store.proofs.UpOneLemmas.{in_with}
-use Rattle.g_laws_memory.specs.Places.{AreDistinct}
-use Rattle.g_laws_memory.specs.Rooms.{HasLength, held_in}
-use Rattle.g_laws_memory.proofs.PlaceLemmas.{find_mapped, get_place, stamp_of}
-use Rattle.g_laws_memory.proofs.NeedsLemmas.{content_is, opening_takes}
-use Rattle.g_laws_memory.proofs.RoomLemmas.{current_is, files_apart, sum_is}
-use Rattle.g_laws_memory.proofs.UnjamLemmas.{any_found}
-use Rattle.g_laws_memory.proofs.UserLemmas.{any_there}
-use Rattle.g_laws_memory.proofs.WaitingLemmas.{entries_all, entry_there, mapped_there}
-use Rattle.g_laws_opening.specs.Opening.{IsOpening}
-use Rattle.g_laws_opening.proofs.CopyLemmas.{copies_by, find_copy, no_copy_of, same_flat}
-use Rattle.g_laws_opening.proofs.OpenedLemmas.{are, are_noted, copy_before, long_of, place_of_rec, tree_is}
-use Rattle.g_laws_opening.proofs.OwnLemmas.{own_is}
-use Rattle.g_laws_process.specs.ForgottenCopies.{bare, bare_file, bare_rec, every_user, forgotten}
-use Rattle.g_laws_process.proofs.ForgetLemmas.{forgetting_stays}
+use Rattle.g_laws_store.specs.Places.{AreDistinct}
+use Rattle.g_laws_store.specs.Rooms.{HasLength, held_in}
+use Rattle.g_laws_store.proofs.PlaceLemmas.{find_mapped, get_place, stamp_of}
+use Rattle.g_laws_store.proofs.NeedsLemmas.{content_is, opening_takes}
+use Rattle.g_laws_store.proofs.RoomLemmas.{current_is, files_apart, sum_is}
+use Rattle.g_laws_store.proofs.UnjamLemmas.{any_found}
+use Rattle.g_laws_store.proofs.UserLemmas.{any_there}
+use Rattle.g_laws_store.proofs.WaitingLemmas.{entries_all, entry_there, mapped_there}
+use Rattle.g_laws_store.specs.Opening.{IsOpening}
+use Rattle.g_laws_store.proofs.CopyLemmas.{copies_by, find_copy, no_copy_of, same_flat}
+use Rattle.g_laws_store.proofs.OpenedLemmas.{are, are_noted, copy_before, long_of, place_of_rec, tree_is}
+use Rattle.g_laws_store.proofs.OwnLemmas.{own_is}
+use Rattle.g_laws_store.specs.ForgottenCopies.{bare, bare_file, bare_rec, every_user, forgotten}
+use Rattle.g_laws_store.proofs.ForgetLemmas.{forgetting_stays}
 use Rattle.g_dumper.specs.Invariant.{up_with}
 use Rattle.g_dumper.proofs.BeginLemmas.{reel_named}
 use Rattle.g_dumper.proofs.HeldLemmas.{holds_there}

@@ -33,7 +33,7 @@ use Rattle.g_store_meaning.proofs.ChangeLemmas.{closing_belongs}
 use Rattle.g_store_meaning.proofs.OneLemmas.{are_right, devices_are_one, is_shelved, on_reel}
 use Rattle.g_laws_store.proofs.StateLemmas.{is_view, rack_view, view_by}
 use Rattle.g_laws_store.proofs.UpOneLemmas.{on_all}
-use Rattle.g_laws_memory.proofs.WaitingLemmas.{from_mapped}
+use Rattle.g_laws_store.proofs.WaitingLemmas.{from_mapped}
 use Rattle.g_dumper.proofs.BeginLemmas.{reel_named}
 use Rattle.g_dumper.proofs.ShelfLemmas.{reel_there, told_is}
 use Rattle.g_store.specs.Starting.{HasNamed, IsNamed, NamesNone, copies_named}

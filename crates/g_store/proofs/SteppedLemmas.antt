@@ -40,9 +40,9 @@ use Rattle.g_laws_store.proofs.ClosingLemmas.{closing_stays}
 use Rattle.g_laws_store.proofs.PinLemmas.{OtherStamp}
 use Rattle.g_laws_store.proofs.StateLemmas.{is_view, view_by, with_there}
 use Rattle.g_laws_store.proofs.UpOneLemmas.{in_with, store_is_one}
-use Rattle.g_laws_memory.specs.Rooms.{held_in}
-use Rattle.g_laws_memory.proofs.PlaceLemmas.{places_go_by_change}
-use Rattle.g_laws_memory.proofs.RoomLemmas.{files_apart}
+use Rattle.g_laws_store.specs.Rooms.{held_in}
+use Rattle.g_laws_store.proofs.PlaceLemmas.{places_go_by_change}
+use Rattle.g_laws_store.proofs.RoomLemmas.{files_apart}
 use Rattle.g_store_calls.proofs.SeenLemmas.{Seen, stands}
 use Rattle.g_dumper.specs.Invariant.{spent_with, up_with}
 use Rattle.g_dumper.specs.Steps.{Abandoned, FailedWrite, WroteBlock}

@@ -26,7 +26,7 @@ use Rattle.g_store_meaning.specs.StoreInvariant.{DumpFacts, IsOpen, IsUp, StoreF
 use Rattle.g_store_meaning.proofs.StayLemmas.{stays_open}
 use Rattle.g_laws_store.proofs.DumpingLemmas.{events_stay_up}
 use Rattle.g_laws_store.proofs.TiedLemmas.{devices_belong}
-use Rattle.g_laws_memory.specs.Rooms.{held_in}
+use Rattle.g_laws_store.specs.Rooms.{held_in}
 use Rattle.g_store.specs.Refusing.{DoneOr, is_on, mount_refuses, rack_answer, unmount_refuses}
 use Rattle.g_store.specs.Events.{AnswersEvent, LeadsBy, Mounts, Unmounts}
 use Rattle.g_store.proofs.EventLemmas.{held_by, leads_same, none_written, refused}

@@ -7,7 +7,7 @@ use Rattle.g_store_model.specs.Process.{ProcessStep}
 use Rattle.g_store_meaning.specs.Answers.{Belongs, Told}
 use Rattle.g_store_meaning.specs.Reading.{StandsForState}
 use Rattle.g_store_meaning.specs.StoreInvariant.{StoreFacts}
-use Rattle.g_laws_process.specs.Moving.{DumpsMove}
+use Rattle.g_laws_store.specs.Moving.{DumpsMove}
 use Rattle.g_store.specs.Events.{StepsBy}
 
 -- from the state that it stands for it goes by the step of a process, where its devices tell and belong together

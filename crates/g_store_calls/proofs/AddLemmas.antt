@@ -29,8 +29,8 @@ use Rattle.g_incr.specs.Layout.{holds}
 use Rattle.g_store_meaning.specs.Staying.{behind}
 use Rattle.g_store_meaning.specs.StoreInvariant.{DumpFacts, IsUp}
 use Rattle.g_store_meaning.proofs.ChangeLemmas.{files_belong}
-use Rattle.g_laws_calls.specs.Calls.{marked}
-use Rattle.g_laws_calls.proofs.CallLemmas.{calls_go_by_step}
+use Rattle.g_laws_store.specs.Calls.{marked}
+use Rattle.g_laws_store.proofs.CallLemmas.{calls_go_by_step}
 use Rattle.g_laws_store.specs.Dumping.{WereThere}
 use Rattle.g_laws_store.proofs.DumpingLemmas.{events_stay_up}
 use Rattle.g_online.specs.declared.change.Change.TheVariants.{AddUser}

@@ -19,10 +19,10 @@ use Rattle.g_store_meaning.specs.Meaning.{DumpedDirectory, told_reels}
 use Rattle.g_store_meaning.specs.Reading.{AllTold, HasText, IsOpenView, IsView, Opened, OpensTo, ReelsTold, StandsForState, View, state_up}
 use Rattle.g_store_meaning.specs.StoreInvariant.{DumpFacts, IsOpen, IsReady, IsUp, StoreFacts, content_in, with_dump}
 use Rattle.g_store_meaning.proofs.OneLemmas.{Agree, same_dumps, shelves_agree}
-use Rattle.g_laws_calls.specs.Calls.{IsAsked}
-use Rattle.g_laws_memory.specs.Rooms.{ArePins, HasLength}
-use Rattle.g_laws_memory.specs.UnjamPlan.{ArePlanned}
-use Rattle.g_laws_memory.proofs.NeedsLemmas.{pins_differ}
+use Rattle.g_laws_store.specs.Calls.{IsAsked}
+use Rattle.g_laws_store.specs.Rooms.{ArePins, HasLength}
+use Rattle.g_laws_store.specs.UnjamPlan.{ArePlanned}
+use Rattle.g_laws_store.proofs.NeedsLemmas.{pins_differ}
 use Rattle.g_online.specs.AllowedChanges.{KeepsRules}
 use Rattle.g_migrate.proofs.MigrationLemmas.{rules_here}
 use Rattle.g_store_calls.specs.Answering.{KeepsPlan}

@@ -25,8 +25,8 @@ use Rattle.g_disc_contents.specs.Contents.{File, recs_in}
 use Rattle.g_disc_contents.specs.Facts.{IsTied, OnlineFacts}
 use Rattle.g_store_meaning.specs.Answers.{Answers, IsStore}
 use Rattle.g_store_meaning.specs.StoreInvariant.{StoreFacts}
-use Rattle.g_laws_calls.specs.Calls.{IsVersionOf}
-use Rattle.g_laws_memory.proofs.WaitingLemmas.{from_mapped, mapped_there}
+use Rattle.g_laws_store.specs.Calls.{IsVersionOf}
+use Rattle.g_laws_store.proofs.WaitingLemmas.{from_mapped, mapped_there}
 use Rattle.g_online.specs.declared.change.Change.TheVariants.{PutFile}
 use Rattle.g_migrate.proofs.MigrationLemmas.{rules_here}
 use Rattle.g_retrieve.specs.Retrieval.{HasCopied}

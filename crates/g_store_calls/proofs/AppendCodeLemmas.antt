@@ -23,7 +23,7 @@ use Rattle.g_online.specs.declared.fault.OnlineFault.TheVariants as online
 use Rattle.g_online.specs.declared.unjam.Unjam.{Unjam}
 use Rattle.g_online.specs.AllowedChanges.{Lies}
 use Rattle.g_online.specs.Faults.{store_fault_of}
-use Rattle.g_laws_memory.proofs.UnjamLemmas.{numbers_apart}
+use Rattle.g_laws_store.proofs.UnjamLemmas.{numbers_apart}
 use Rattle.g_migrate.proofs.MigrationLemmas.{rules_here}
 use Rattle.g_retrieve.specs.Retrieval.{HasReadCopy, IsOnTape}
 use Rattle.g_retrieve.proofs.AllowLemmas.{away_filled}

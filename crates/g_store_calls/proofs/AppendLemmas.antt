@@ -26,9 +26,9 @@ use Rattle.g_store_meaning.specs.Answers.{Answers, Belongs, IsLostCopy, IsStore,
 use Rattle.g_store_meaning.specs.Meaning.{told_reels}
 use Rattle.g_store_meaning.specs.Reading.{AllTold, HasText, IsView, View, state_up}
 use Rattle.g_store_meaning.specs.StoreInvariant.{StoreFacts}
-use Rattle.g_laws_memory.specs.Rooms.{held_in}
-use Rattle.g_laws_memory.specs.UnjamPlan.{ArePlanned, IsUnjamPlan}
-use Rattle.g_laws_memory.proofs.UnjamLemmas.{unjam_is}
+use Rattle.g_laws_store.specs.Rooms.{held_in}
+use Rattle.g_laws_store.specs.UnjamPlan.{ArePlanned, IsUnjamPlan}
+use Rattle.g_laws_store.proofs.UnjamLemmas.{unjam_is}
 use Rattle.g_retrieve.specs.Retrieval.{IsNowhere, IsOnTape}
 use Rattle.g_retrieve.specs.Invariant.{HasLostCopy, IsOver}
 use Rattle.g_retrieve.proofs.HeldLemmas.{is_lost}

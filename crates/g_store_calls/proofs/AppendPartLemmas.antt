@@ -19,8 +19,8 @@ use Rattle.g_online.specs.declared.change.Change.TheVariants.{PutFile}
 use Rattle.g_online.specs.declared.unjam.Unjam.{Unjam}
 use Rattle.g_online.specs.AllowedChanges.{IsAllowed}
 use Rattle.g_migrate.proofs.MigrationLemmas.{rules_here}
-use Rattle.g_laws_memory.specs.UnjamPlan.{IsUnjamPlan}
-use Rattle.g_laws_memory.proofs.WaitingLemmas.{mapped_there}
+use Rattle.g_laws_store.specs.UnjamPlan.{IsUnjamPlan}
+use Rattle.g_laws_store.proofs.WaitingLemmas.{mapped_there}
 use Rattle.g_retrieve.specs.Retrieval.{HasCopied, HasReadCopy, IsOnTape, IsTapeRefusal, ReadsTapes}
 use Rattle.g_retrieve.proofs.BackLemmas.{named}
 use Rattle.g_store_calls.specs.Appending.{HasAppended, HasPutBehind, IsAtHand, IsAway, IsOldText, version_of}

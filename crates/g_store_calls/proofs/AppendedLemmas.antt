@@ -35,9 +35,9 @@ use Rattle.g_store_meaning.specs.Meaning.{IsContent, told_reels}
 use Rattle.g_store_meaning.specs.Reading.{AllTold, HasText, IsView, ReelsTold, StandsForState, View, state_up}
 use Rattle.g_store_meaning.specs.StoreInvariant.{StoreFacts}
 use Rattle.g_store_meaning.proofs.ViewLemmas.{reads_belong}
-use Rattle.g_laws_calls.specs.Calls.{IsVersionOf, version_made}
-use Rattle.g_laws_memory.specs.Rooms.{held_in}
-use Rattle.g_laws_memory.specs.UnjamPlan.{IsUnjamPlan}
+use Rattle.g_laws_store.specs.Calls.{IsVersionOf, version_made}
+use Rattle.g_laws_store.specs.Rooms.{held_in}
+use Rattle.g_laws_store.specs.UnjamPlan.{IsUnjamPlan}
 use Rattle.g_online.specs.declared.change.Change.{Change}
 use Rattle.g_online.specs.declared.change.Change.TheVariants.{PutFile}
 use Rattle.g_online.specs.Outcomes.{HasChanged, HasStopped}

@@ -19,7 +19,7 @@ use Rattle.g_store_meaning.specs.Meaning.{DumpedDirectory, IsContent, files_in, 
 use Rattle.g_store_meaning.specs.Reading.{AllTold, HasText, IsOpenView, IsRackView, IsView, Opened, OpensTo, View}
 use Rattle.g_store_meaning.specs.StoreInvariant.{DumpFacts, StoreFacts, content_in}
 use Rattle.g_store_meaning.proofs.OneLemmas.{same_dumps, shelves_agree}
-use Rattle.g_laws_calls.proofs.FileLemmas.{offline_rec}
+use Rattle.g_laws_store.proofs.FileLemmas.{offline_rec}
 
 pub told_then : (held now : Option (List (List ℕ))) (reels : List Reel) → is_some now ≡ is_some held → AllTold now reels → AllTold held reels
 told_then held now reels same told = record { disc = sym same ∙ told.disc; each = told.each }

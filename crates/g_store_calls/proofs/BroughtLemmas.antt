@@ -35,14 +35,14 @@ use Rattle.g_store_meaning.specs.Meaning.{IsContent, told_reels}
 use Rattle.g_store_meaning.specs.Reading.{AllTold, DevicesStandFor, HasText, IsOpenView, IsRackView, IsView, StandsForState, View, holding_of, names_of, open_of, row_of, state_down, state_up, tree_by}
 use Rattle.g_store_meaning.specs.StoreInvariant.{DumpFacts, StoreFacts}
 use Rattle.g_store_meaning.proofs.ViewLemmas.{Stands, back, reads_keep_state}
-use Rattle.g_laws_calls.specs.Calls.{IsAsked, IsBehind}
-use Rattle.g_laws_calls.proofs.CallLemmas.{calls_go_by_step}
-use Rattle.g_laws_calls.proofs.FileLemmas.{of_stamp, offline_recs}
-use Rattle.g_laws_memory.specs.Places.{AreDistinct}
-use Rattle.g_laws_memory.specs.Rooms.{held_in}
-use Rattle.g_laws_memory.specs.UnjamPlan.{IsUnjamPlan}
-use Rattle.g_laws_memory.proofs.RoomLemmas.{files_apart}
-use Rattle.g_laws_memory.proofs.UnjamLemmas.{numbers_apart, unjam_is}
+use Rattle.g_laws_store.specs.Calls.{IsAsked, IsBehind}
+use Rattle.g_laws_store.proofs.CallLemmas.{calls_go_by_step}
+use Rattle.g_laws_store.proofs.FileLemmas.{of_stamp, offline_recs}
+use Rattle.g_laws_store.specs.Places.{AreDistinct}
+use Rattle.g_laws_store.specs.Rooms.{held_in}
+use Rattle.g_laws_store.specs.UnjamPlan.{IsUnjamPlan}
+use Rattle.g_laws_store.proofs.RoomLemmas.{files_apart}
+use Rattle.g_laws_store.proofs.UnjamLemmas.{numbers_apart, unjam_is}
 use Rattle.g_retrieve.specs.Retrieval.{HasCopied, IsOnTape}
 use Rattle.g_retrieve.specs.Invariant.{KeepsDevices}
 use Rattle.g_retrieve.proofs.HeldLemmas.{copied_one}

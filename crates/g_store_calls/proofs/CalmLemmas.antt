@@ -24,7 +24,7 @@ use Rattle.g_store_meaning.specs.Answers.{Answers, Did, IsStore, Leads, Steps}
 use Rattle.g_store_meaning.specs.Meaning.{told_reels}
 use Rattle.g_store_meaning.specs.Reading.{AllTold, HasText, IsView, StandsForState, View, state_up}
 use Rattle.g_store_meaning.specs.StoreInvariant.{StoreFacts}
-use Rattle.g_laws_memory.specs.Rooms.{held_in}
+use Rattle.g_laws_store.specs.Rooms.{held_in}
 use Rattle.g_migrate.specs.Invariant.{with_online}
 use Rattle.g_store_calls.specs.Answering.{AnswersIn}
 use Rattle.g_store_calls.specs.Replies.{RefusesAs}

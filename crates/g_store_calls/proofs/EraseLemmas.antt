@@ -26,9 +26,9 @@ use Rattle.g_store_meaning.specs.Staying.{behind}
 use Rattle.g_store_meaning.specs.StoreInvariant.{DumpFacts, IsUp}
 use Rattle.g_store_meaning.proofs.ChangeLemmas.{files_belong}
 use Rattle.g_store_meaning.proofs.StayLemmas.{stays_up}
-use Rattle.g_laws_calls.specs.Calls.{IsBehind, marked}
-use Rattle.g_laws_calls.proofs.CallLemmas.{calls_go_by_step}
-use Rattle.g_laws_memory.proofs.WaitingLemmas.{from_mapped, mapped_there}
+use Rattle.g_laws_store.specs.Calls.{IsBehind, marked}
+use Rattle.g_laws_store.proofs.CallLemmas.{calls_go_by_step}
+use Rattle.g_laws_store.proofs.WaitingLemmas.{from_mapped, mapped_there}
 use Rattle.g_online.specs.declared.change.Change.TheVariants.{EraseFile}
 use Rattle.g_online.specs.AllowedChanges.{IsAllowed, KeepsRules, Lies}
 use Rattle.g_online.specs.Change.{changed, owner_in}

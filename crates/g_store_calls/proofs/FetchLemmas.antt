@@ -35,9 +35,9 @@ use Rattle.g_store_meaning.specs.Answers.{Answers, IsStore}
 use Rattle.g_store_meaning.specs.Meaning.{told_reels}
 use Rattle.g_store_meaning.specs.Reading.{AllTold, IsView, View}
 use Rattle.g_store_meaning.specs.StoreInvariant.{StoreFacts}
-use Rattle.g_laws_memory.specs.Rooms.{held_in}
-use Rattle.g_laws_memory.proofs.UnjamLemmas.{numbers_apart}
-use Rattle.g_laws_memory.proofs.WaitingLemmas.{from_mapped, mapped_there}
+use Rattle.g_laws_store.specs.Rooms.{held_in}
+use Rattle.g_laws_store.proofs.UnjamLemmas.{numbers_apart}
+use Rattle.g_laws_store.proofs.WaitingLemmas.{from_mapped, mapped_there}
 use Rattle.g_retrieve.specs.Retrieval.{HasCopied, IsOnTape}
 use Rattle.g_retrieve.specs.Invariant.{KeepsDevices}
 use Rattle.g_retrieve.proofs.AllowLemmas.{away_is, rules_here}

@@ -22,8 +22,8 @@ use Rattle.g_store_meaning.specs.Meaning.{told_reels}
 use Rattle.g_store_meaning.specs.Reading.{HasText, IsOpenView, IsView, StandsForState, View, state_up}
 use Rattle.g_store_meaning.specs.StoreInvariant.{StoreFacts}
 use Rattle.g_store_meaning.proofs.StayLemmas.{dump_stays_open}
-use Rattle.g_laws_calls.proofs.CallLemmas.{calls_go_by_step}
-use Rattle.g_laws_memory.specs.Rooms.{held_in}
+use Rattle.g_laws_store.proofs.CallLemmas.{calls_go_by_step}
+use Rattle.g_laws_store.specs.Rooms.{held_in}
 use Rattle.g_migrate.proofs.MigrationLemmas.{rules_here}
 use Rattle.g_store_calls.specs.Answering.{KeepsPlan, with_devices}
 use Rattle.g_store_calls.proofs.AskedLemmas.{has_bytes, met}

@@ -20,10 +20,10 @@ use Rattle.g_online.specs.AllowedChanges.{AreUnjammable, IsAllowed, IsUnjammable
 use Rattle.g_online.specs.Change.{changed, told_bytes}
 use Rattle.g_online.specs.Outcomes.{IsApplied}
 use Rattle.g_store_meaning.specs.Laws.{with_version}
-use Rattle.g_laws_calls.proofs.FileLemmas.{offline_recs, recs_with}
-use Rattle.g_laws_memory.specs.UnjamPlan.{IsUnjamPlan, is_taken}
-use Rattle.g_laws_memory.proofs.UnjamLemmas.{any_found}
-use Rattle.g_laws_memory.proofs.WaitingLemmas.{mapped_there}
+use Rattle.g_laws_store.proofs.FileLemmas.{offline_recs, recs_with}
+use Rattle.g_laws_store.specs.UnjamPlan.{IsUnjamPlan, is_taken}
+use Rattle.g_laws_store.proofs.UnjamLemmas.{any_found}
+use Rattle.g_laws_store.proofs.WaitingLemmas.{mapped_there}
 use Rattle.g_migrate.proofs.MigrationLemmas.{rules_here}
 use Rattle.g_store_calls.specs.Versions.{HasMade, HasRoom, IsNext}
 use Rattle.g_store_calls.proofs.AddLemmas.{or_false}

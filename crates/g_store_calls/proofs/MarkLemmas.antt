@@ -7,8 +7,8 @@ use Rattle.g_disc_contents.specs.Contents.{with_number}
 use Rattle.g_store_meaning.specs.Directories.{Grows}
 use Rattle.g_store_meaning.specs.Staying.{OnlyGrow}
 use Rattle.g_store_meaning.specs.StoreInvariant.{DumpFacts, StoreFacts}
-use Rattle.g_laws_calls.specs.Calls.{marked}
-use Rattle.g_laws_memory.proofs.UserLemmas.{apart_any, has_new}
+use Rattle.g_laws_store.specs.Calls.{marked}
+use Rattle.g_laws_store.proofs.UserLemmas.{apart_any, has_new}
 
 -- one more
 pub grows_with : (n : ℕ) (numbers : List ℕ) → Grows numbers (with_number n numbers)

@@ -25,7 +25,7 @@ use Rattle.g_tree.proofs.RightLemmas.{number_found}
 use Rattle.g_disc_contents.specs.Contents.{recs_in}
 use Rattle.g_disc_contents.specs.Facts.{IsTied, OnlineFacts}
 use Rattle.g_online.specs.AllowedChanges.{KeepsRules}
-use Rattle.g_laws_calls.specs.Calls.{IsVersionOf}
+use Rattle.g_laws_store.specs.Calls.{IsVersionOf}
 use Rattle.g_laws_store.proofs.RecordLemmas.{apart_in, from_filter, pairs_append}
 use Rattle.g_migrate.proofs.MigrationLemmas.{rules_here}
 use Rattle.g_store_calls.specs.Versions.{IsNext}

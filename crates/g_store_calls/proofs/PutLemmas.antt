@@ -30,8 +30,8 @@ use Rattle.g_store_meaning.specs.Answers.{Answers, Belongs, From, IsStore, Steps
 use Rattle.g_store_meaning.specs.Meaning.{told_reels}
 use Rattle.g_store_meaning.specs.Reading.{AllTold, IsView, View, StandsForState}
 use Rattle.g_store_meaning.specs.StoreInvariant.{StoreFacts}
-use Rattle.g_laws_calls.specs.Calls.{IsVersionOf, version_made}
-use Rattle.g_laws_memory.specs.Rooms.{held_in}
+use Rattle.g_laws_store.specs.Calls.{IsVersionOf, version_made}
+use Rattle.g_laws_store.specs.Rooms.{held_in}
 use Rattle.g_migrate.specs.Invariant.{with_online}
 use Rattle.g_migrate.proofs.MigrationLemmas.{rules_here}
 use Rattle.g_store_calls.specs.Answering.{AnswersOver, KeepsPlan, with_devices}

@@ -20,7 +20,7 @@ use Rattle.g_store_meaning.specs.Meaning.{told_reels}
 use Rattle.g_store_meaning.specs.Reading.{IsOpenView, IsView, ReelsTold, StandsForState, View, state_up}
 use Rattle.g_store_meaning.specs.StoreInvariant.{IsUp, StoreFacts}
 use Rattle.g_store_meaning.proofs.StayLemmas.{dump_stays_open}
-use Rattle.g_laws_memory.specs.Rooms.{held_in}
+use Rattle.g_laws_store.specs.Rooms.{held_in}
 use Rattle.g_retrieve.specs.Invariant.{IsOver}
 use Rattle.g_retrieve.proofs.KeepsLemmas.{keeps_same}
 use Rattle.g_store_calls.specs.Answering.{with_devices}

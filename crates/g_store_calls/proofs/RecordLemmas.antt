@@ -34,10 +34,10 @@ use Rattle.g_store_meaning.specs.StoreInvariant.{DumpFacts, IsOpen, IsUp, StoreF
 use Rattle.g_store_meaning.proofs.ChangeLemmas.{intents_belong}
 use Rattle.g_store_meaning.proofs.ViewLemmas.{Stands, back}
 use Rattle.g_store_meaning.proofs.StayLemmas.{stays_open}
-use Rattle.g_laws_calls.specs.Calls.{IsBehind, IsKnown, marked}
+use Rattle.g_laws_store.specs.Calls.{IsBehind, IsKnown, marked}
 use Rattle.g_laws_store.proofs.DumpingLemmas.{events_stay_up}
 use Rattle.g_laws_store.proofs.TiedLemmas.{devices_belong, moved}
-use Rattle.g_laws_memory.specs.Rooms.{held_in}
+use Rattle.g_laws_store.specs.Rooms.{held_in}
 use Rattle.g_migrate.specs.Invariant.{with_online}
 use Rattle.g_store_calls.specs.Answering.{AnswersIn}
 use Rattle.g_store_calls.specs.AppliedChange.{HasApplied, answer_with}

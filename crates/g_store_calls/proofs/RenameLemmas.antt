@@ -21,7 +21,7 @@ use Rattle.g_tree.proofs.RecordLemmas.{file_there}
 use Rattle.g_tree.proofs.RightLemmas.{found_named}
 use Rattle.g_disc_contents.specs.Contents.{recs_in, set_rec}
 use Rattle.g_disc_contents.specs.Facts.{IsTied, OnlineFacts}
-use Rattle.g_laws_calls.proofs.CallLemmas.{calls_go_by_step}
+use Rattle.g_laws_store.proofs.CallLemmas.{calls_go_by_step}
 use Rattle.g_online.specs.declared.change.Change.TheVariants.{SetFile}
 use Rattle.g_store_calls.specs.ReplacedRecords.{IsRenamed}
 use Rattle.g_store_calls.specs.Replies.{RefusesAs}

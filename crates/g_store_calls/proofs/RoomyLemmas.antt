@@ -16,7 +16,7 @@ use Rattle.g_online.specs.Change.{need_of}
 use Rattle.g_online.specs.Outcomes.{IsApplied, room_for}
 use Rattle.g_online.specs.Faults.{store_fault_of}
 use Rattle.g_migrate.specs.UnjamPlan.{IsRoomWithout}
-use Rattle.g_laws_memory.specs.UnjamPlan.{IsUnjamPlan}
+use Rattle.g_laws_store.specs.UnjamPlan.{IsUnjamPlan}
 use Rattle.g_store_calls.specs.AppliedChange.{HasApplied}
 use Rattle.g_store_calls.specs.Versions.{HasMade, IsNext}
 use Rattle.g_store_calls.proofs.MakeLemmas.{made_starved, made_stopped}

@@ -33,9 +33,9 @@ use Rattle.g_store_meaning.specs.Staying.{AreMarked, behind}
 use Rattle.g_store_meaning.specs.StoreInvariant.{DumpFacts, IsUp}
 use Rattle.g_store_meaning.proofs.ChangeLemmas.{files_belong}
 use Rattle.g_store_meaning.proofs.StayLemmas.{stays_up}
-use Rattle.g_laws_calls.specs.Calls.{IsBehind, IsKnown, IsRecordOf, marked}
-use Rattle.g_laws_memory.specs.Rooms.{held_in}
-use Rattle.g_laws_memory.proofs.WaitingLemmas.{from_mapped, mapped_there}
+use Rattle.g_laws_store.specs.Calls.{IsBehind, IsKnown, IsRecordOf, marked}
+use Rattle.g_laws_store.specs.Rooms.{held_in}
+use Rattle.g_laws_store.proofs.WaitingLemmas.{from_mapped, mapped_there}
 use Rattle.g_online.specs.declared.change.Change.TheVariants.{SetFile}
 use Rattle.g_online.specs.AllowedChanges.{IsAllowed, KeepsRules, Lies}
 use Rattle.g_online.specs.Change.{changed}

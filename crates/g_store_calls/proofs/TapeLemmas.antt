@@ -26,9 +26,9 @@ use Rattle.g_store_meaning.specs.Meaning.{told_reels}
 use Rattle.g_store_meaning.specs.Reading.{AllTold, HasText, IsView, StandsForState, View, state_up}
 use Rattle.g_store_meaning.specs.StoreInvariant.{StoreFacts}
 use Rattle.g_store_meaning.proofs.ViewLemmas.{reads_keep_state}
-use Rattle.g_laws_memory.specs.Rooms.{held_in}
-use Rattle.g_laws_memory.specs.UnjamPlan.{ArePlanned, IsUnjamPlan, room_until as plan_room}
-use Rattle.g_laws_memory.proofs.UnjamLemmas.{unjam_is}
+use Rattle.g_laws_store.specs.Rooms.{held_in}
+use Rattle.g_laws_store.specs.UnjamPlan.{ArePlanned, IsUnjamPlan, room_until as plan_room}
+use Rattle.g_laws_store.proofs.UnjamLemmas.{unjam_is}
 use Rattle.g_migrate.proofs.MigrationLemmas.{rules_here}
 use Rattle.g_retrieve.specs.Invariant.{HasLostCopy, IsOver, KeepsDevices}
 use Rattle.g_retrieve.proofs.KeepsLemmas.{keeps_same}

@@ -39,9 +39,9 @@ use Rattle.g_store_meaning.specs.Answers.{Did, IsStore, Steps}
 use Rattle.g_store_meaning.specs.Meaning.{told_reels}
 use Rattle.g_store_meaning.specs.Reading.{AllTold, StandsForState, state_up}
 use Rattle.g_store_meaning.specs.StoreInvariant.{StoreFacts}
-use Rattle.g_laws_calls.proofs.CallLemmas.{calls_go_by_step}
+use Rattle.g_laws_store.proofs.CallLemmas.{calls_go_by_step}
 use Rattle.g_laws_store.specs.Refusals.{only_tells}
-use Rattle.g_laws_memory.specs.Rooms.{held_in}
+use Rattle.g_laws_store.specs.Rooms.{held_in}
 use Rattle.g_store_calls.specs.Answering.{AnswersIn}
 use Rattle.g_store_calls.specs.Replies.{AreLengths, IsThere, RefusesAs, row_by, row_of}
 use Rattle.g_store_calls.proofs.CalmLemmas.{leads_same, step_done, still, texts_fit}

@@ -29,8 +29,8 @@ use Rattle.g_tree.proofs.TrapLemmas.{are_trapped, ninth_by_number}
 use Rattle.g_disc_contents.specs.Contents.{recs_in, set_rec}
 use Rattle.g_disc_contents.specs.Facts.{IsTied, OnlineFacts}
 use Rattle.g_store_meaning.specs.Reading.{View}
-use Rattle.g_laws_calls.specs.Calls.{modes_by, trapped}
-use Rattle.g_laws_calls.proofs.CallLemmas.{calls_go_by_step}
+use Rattle.g_laws_store.specs.Calls.{modes_by, trapped}
+use Rattle.g_laws_store.proofs.CallLemmas.{calls_go_by_step}
 use Rattle.g_online.specs.declared.change.Change.TheVariants.{SetFile}
 use Rattle.g_store_calls.specs.ReplacedRecords.{IsTrapped}
 use Rattle.g_store_calls.specs.Replies.{RefusesAs}

@@ -47,15 +47,15 @@ use Rattle.g_store_meaning.proofs.BelongLemmas.{new_version_belongs}
 use Rattle.g_store_meaning.proofs.ChangeLemmas.{files_belong, intents_belong}
 use Rattle.g_store_meaning.proofs.StayLemmas.{stays_open, stays_up}
 use Rattle.g_store_meaning.proofs.ViewLemmas.{Stands, back, reads_keep_state}
-use Rattle.g_laws_calls.specs.Calls.{IsAsked, IsBehind, IsVersionOf, marked, version_made}
-use Rattle.g_laws_calls.proofs.CallLemmas.{calls_go_by_step}
-use Rattle.g_laws_calls.proofs.FileLemmas.{offline_recs}
+use Rattle.g_laws_store.specs.Calls.{IsAsked, IsBehind, IsVersionOf, marked, version_made}
+use Rattle.g_laws_store.proofs.CallLemmas.{calls_go_by_step}
+use Rattle.g_laws_store.proofs.FileLemmas.{offline_recs}
 use Rattle.g_laws_store.proofs.DumpingLemmas.{events_stay_up}
 use Rattle.g_laws_store.proofs.TiedLemmas.{devices_belong, moved}
-use Rattle.g_laws_memory.specs.Rooms.{held_in}
-use Rattle.g_laws_memory.specs.UnjamPlan.{ArePlanned, IsUnjamPlan}
-use Rattle.g_laws_memory.proofs.UnjamLemmas.{unjam_is}
-use Rattle.g_laws_memory.proofs.WaitingLemmas.{mapped_there}
+use Rattle.g_laws_store.specs.Rooms.{held_in}
+use Rattle.g_laws_store.specs.UnjamPlan.{ArePlanned, IsUnjamPlan}
+use Rattle.g_laws_store.proofs.UnjamLemmas.{unjam_is}
+use Rattle.g_laws_store.proofs.WaitingLemmas.{mapped_there}
 use Rattle.g_migrate.specs.Invariant.{with_online}
 use Rattle.g_store_calls.specs.Answering.{KeepsPlan}
 use Rattle.g_store_calls.specs.Versions.{HasRoom}

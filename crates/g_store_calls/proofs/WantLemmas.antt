@@ -22,10 +22,10 @@ use Rattle.g_store_model.specs.CallStep.{copy_serial, is_offline, len_of, place_
 use Rattle.g_store_meaning.specs.Meaning.{told_reels}
 use Rattle.g_store_meaning.specs.Reading.{AllTold, IsView, View, place_of as place_by, row_of, state_up}
 use Rattle.g_store_meaning.specs.StoreInvariant.{DumpFacts}
-use Rattle.g_laws_memory.specs.Rooms.{held_in}
-use Rattle.g_laws_memory.proofs.PlaceLemmas.{place_found}
-use Rattle.g_laws_memory.proofs.RoomLemmas.{files_apart}
-use Rattle.g_laws_memory.proofs.WaitingLemmas.{mapped_there}
+use Rattle.g_laws_store.specs.Rooms.{held_in}
+use Rattle.g_laws_store.proofs.PlaceLemmas.{place_found}
+use Rattle.g_laws_store.proofs.RoomLemmas.{files_apart}
+use Rattle.g_laws_store.proofs.WaitingLemmas.{mapped_there}
 use Rattle.g_store_calls.specs.Replies.{RefusesAs}
 use Rattle.g_store_calls.proofs.CalmLemmas.{texts_fit}
 

@@ -11,7 +11,7 @@ use Rattle.g_plain.specs.declared.faults.StoreFault.TheVariants.{DiscFull, DiscR
 use Rattle.g_disc_contents.specs.Contents.{File}
 use Rattle.g_disc_contents.specs.Facts.{OnlineFacts}
 use Rattle.g_online.specs.declared.change.Change.TheVariants.{PutFile}
-use Rattle.g_laws_memory.specs.UnjamPlan.{IsUnjamPlan}
+use Rattle.g_laws_store.specs.UnjamPlan.{IsUnjamPlan}
 use Rattle.g_retrieve.specs.Retrieval.{HasCopied, IsNowhere}
 use Rattle.g_store_calls.specs.AppliedChange.{HasApplied}
 use Rattle.g_store_calls.specs.Asking.{HasAsked, IsReached}

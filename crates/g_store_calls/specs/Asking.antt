@@ -8,7 +8,7 @@ use Rattle.g_plain.specs.declared.faults.StoreFault.{StoreFault}
 use Rattle.g_plain.specs.declared.faults.StoreFault.TheVariants.{DiscFull, NoMemory}
 use Rattle.g_disc_contents.specs.Facts.{IsTied, OnlineFacts}
 use Rattle.g_online.specs.declared.unjam.Unjam.{Unjam}
-use Rattle.g_laws_memory.specs.UnjamPlan.{IsUnjamPlan}
+use Rattle.g_laws_store.specs.UnjamPlan.{IsUnjamPlan}
 
 -- NOTHING BUT READS: the counts of failed reads rose just where it answered for one
 pub record HasAsked (disc_fault tape_fault : Type 0) (old new : OnlineFacts) (before after : Rack) : Type 0 where

@@ -12,7 +12,7 @@ use Rattle.g_plain.specs.declared.faults.StoreFault.TheVariants.{DiscFull, DiscR
 use Rattle.g_disc_contents.specs.Contents.{File}
 use Rattle.g_disc_contents.specs.Facts.{IsTied, OnlineFacts}
 use Rattle.g_online.specs.declared.unjam.Unjam.{Unjam}
-use Rattle.g_laws_memory.specs.UnjamPlan.{IsUnjamPlan}
+use Rattle.g_laws_store.specs.UnjamPlan.{IsUnjamPlan}
 use Rattle.g_retrieve.specs.Retrieval.{HasBroughtBack, IsOnTape}
 use Rattle.g_retrieve.specs.Invariant.{HasLostCopy}
 

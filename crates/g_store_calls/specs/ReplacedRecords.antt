@@ -11,7 +11,7 @@ use Rattle.g_plain.specs.PlainTree.{input_name}
 use Rattle.g_trap.specs.TrapList.{modes_of, with_modes}
 use Rattle.g_tree.specs.Records.{ForTree, IsRecords, full_of, name_of}
 use Rattle.g_tree.specs.State.{with_file}
-use Rattle.g_laws_calls.specs.Calls.{modes_by}
+use Rattle.g_laws_store.specs.Calls.{modes_by}
 
 -- the record of a user with another budget
 abbrev pub budgeted : UserRec → BudgetKind → ℕ → UserRec

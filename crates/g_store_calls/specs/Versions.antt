@@ -12,7 +12,7 @@ use Rattle.g_disc_contents.specs.Contents.{recs_in}
 use Rattle.g_disc_contents.specs.Facts.{IsTied, OnlineFacts}
 use Rattle.g_online.specs.declared.change.Change.TheVariants.{PutFile}
 use Rattle.g_online.specs.Outcomes.{HasChanged, HasStopped}
-use Rattle.g_laws_memory.specs.UnjamPlan.{IsUnjamPlan}
+use Rattle.g_laws_store.specs.UnjamPlan.{IsUnjamPlan}
 
 -- the record of the next version, with these bytes
 pub record IsNext (o : OnlineFacts) (bytes : List ℕ) (r : FileRec) : Type 0 where

@@ -7,7 +7,7 @@ ghost use Rattle.g_name.specs.declared.path.Path.{Path};
 ghost use Rattle.g_plain.specs.declared.calls.StoreCall.TheVariants as call;
 ghost use Rattle.g_tape.specs.Rack.{Rack};
 ghost use Rattle.g_tree.specs.declared.asked.Granted.TheVariants as grant;
-ghost use Rattle.g_laws_memory.specs.UnjamPlan.{IsUnjamPlan};
+ghost use Rattle.g_laws_store.specs.UnjamPlan.{IsUnjamPlan};
 ghost use Rattle.g_tree.specs.Records.{full_of};
 ghost use Rattle.g_disc_contents.specs.Contents.{File, taken_off};
 ghost use Rattle.g_disc_contents.specs.Facts.{IsTied, room_with};

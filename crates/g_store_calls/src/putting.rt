@@ -6,7 +6,7 @@ ghost use Rattle.g_name.specs.declared.full.Full.{Full};
 ghost use Rattle.g_name.specs.declared.path.Path.{Path};
 ghost use Rattle.g_plain.specs.declared.calls.StoreCall.TheVariants as call;
 ghost use Rattle.g_plain.specs.PlainTree as plain;
-ghost use Rattle.g_laws_calls.specs.Calls.{IsVersionOf};
+ghost use Rattle.g_laws_store.specs.Calls.{IsVersionOf};
 ghost use Rattle.g_tape.specs.Rack.{Rack};
 ghost use Rattle.g_tree.specs.declared.asked.Granted.TheVariants as grant;
 ghost use Rattle.g_tree.specs.Records.{ForTree, name_of_file, number_of};

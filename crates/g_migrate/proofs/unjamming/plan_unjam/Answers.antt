@@ -1,5 +1,5 @@
 use Rattle.std.proofs.Common.{ℕ, List, [], sym, subst}
-use Rattle.g_laws_memory.specs.UnjamPlan.{IsUnjamPlan}
+use Rattle.g_laws_store.specs.UnjamPlan.{IsUnjamPlan}
 use Rattle.g_migrate.specs.UnjamPlan.{IsRoomWithout}
 use Rattle.g_migrate.proofs.NothingLemmas.{nothing_is_a_plan, room_of_nothing}
 use Rattle.g_migrate.proofs.unjamming.plan_unjam.Goals as goal

@@ -5,7 +5,7 @@ use Rattle.g_plain.specs.declared.faults.StoreFault.{StoreFault}
 use Rattle.g_disc_contents.specs.Contents.{File}
 use Rattle.g_online.specs.declared.change.Change.TheVariants.{Bring}
 use Rattle.g_online.specs.AllowedChanges.{IsAllowed}
-use Rattle.g_laws_memory.specs.UnjamPlan.{IsUnjamPlan}
+use Rattle.g_laws_store.specs.UnjamPlan.{IsUnjamPlan}
 use Rattle.g_retrieve.specs.Retrieval.{IsOnTape}
 use Rattle.g_retrieve.proofs.AllowLemmas.{away_is}
 use Rattle.g_retrieve.proofs.BackLemmas.{IsAnswered, by_disc, by_tape, filled_here, may_here, not_here, read_here, used_here}

@@ -1,5 +1,5 @@
 use Rattle.std.proofs.Common.{ℕ, inr, subst}
-use Rattle.g_laws_memory.specs.UnjamPlan.{IsUnjamPlan}
+use Rattle.g_laws_store.specs.UnjamPlan.{IsUnjamPlan}
 use Rattle.g_store_calls.proofs.FetchLemmas.{need_of_file}
 use Rattle.g_store_calls.proofs.fetching.brought_bytes.Goals as goal
 

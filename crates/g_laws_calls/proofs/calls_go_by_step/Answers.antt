@@ -1,5 +1,0 @@
-use Rattle.g_laws_calls.proofs.CallLemmas as lemmas
-use Rattle.g_laws_calls.proofs.calls_go_by_step.Goals as goal
-
-pub returns : goal.returns
-returns c = lemmas.calls_go_by_step

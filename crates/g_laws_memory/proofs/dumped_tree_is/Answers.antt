@@ -1,5 +1,0 @@
-use Rattle.g_laws_memory.proofs.TreeLemmas as lemmas
-use Rattle.g_laws_memory.proofs.dumped_tree_is.Goals as goal
-
-pub returns : goal.returns
-returns c = record { tree = lemmas.dumped_tree_is }

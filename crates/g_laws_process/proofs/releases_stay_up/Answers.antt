@@ -1,5 +1,0 @@
-use Rattle.g_laws_process.proofs.ReleaseLemmas.{one_block_is_none}
-use Rattle.g_laws_process.proofs.releases_stay_up.Goals as goal
-
-pub returns-clause-none : goal.returns-clause-none
-returns-clause-none c = one_block_is_none
