@@ -24,14 +24,14 @@ pub struct Row<'a> {
     /// Whether each line of its files has in front how often it stands.
     packed: bool,
     pub words: Vec<&'a str>,
-    pub blocks: u32,
+    pub(crate) blocks: u32,
     /// The capacities of the reels, 1 and so on.
-    pub reels: Vec<u32>,
+    pub(crate) reels: Vec<u32>,
     /// What a failing write of a tape leaves: `old`, `cut`, `half` or `whole`.
-    pub leaves: &'a str,
+    pub(crate) leaves: &'a str,
     /// What a failing write of the disc leaves, `old` or `whole`, and the byte of which it leaves a block; 0: none.
-    pub disc: &'a str,
-    pub torn: u8,
+    pub(crate) disc: &'a str,
+    pub(crate) torn: u8,
     /// Which take of the script and which put of the text fails; 0: none.
     pub take: u64,
     pub put: u64,
@@ -41,7 +41,7 @@ pub struct Row<'a> {
     /// The lengths of the reels at the end, where they are told.
     lengths: Vec<u32>,
     /// The files whose copies are told.
-    pub copies: Vec<Taped<'a>>,
+    pub(crate) copies: Vec<Taped<'a>>,
     absent: Vec<&'a str>,
 }
 

@@ -72,7 +72,7 @@ fn drawn_event(dice: &mut Dice) -> Event<'static> {
 fn operate(alloc: Global, system: &mut System, dice: &mut Dice) {
     for _ in 0..6 {
         let _answer = system.happens(alloc, &drawn_event(dice));
-        if system.up.is_none() {
+        if system.store().is_none() {
             let _answer = system.happens(alloc, &Event::Start);
         }
     }

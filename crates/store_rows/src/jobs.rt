@@ -67,7 +67,7 @@ fn over_whole(rt: &HostRuntime, document: &[u8]) -> Result<Job, Wrong> {
 
 fn over_system(rt: &HostRuntime, system: &mut System, document: &[u8]) -> Result<Job, Wrong> {
     play(rt, system, "format")?;
-    match &mut system.up {
+    match system.store() {
         Some(store) => {
             if store.spent() {
                 return Err(Wrong("a store that is spent"));

@@ -71,7 +71,9 @@ impl<'a> Setting<'a> {
         let leave = leave_of(self.leave)?;
         let mut disc = MemoryDisc::new(alloc, self.blocks)?;
         disc.set_leave(leave);
-        Ok(System::new(disc, KnownReels::new(alloc, tapes)))
+        let mut system = System::new(alloc)?;
+        system.lie_on(disc, KnownReels::new(alloc, tapes));
+        Ok(system)
     }
 
     fn tapes(&self, alloc: Global) -> Result<MemoryTapes, Wrong> {

@@ -4,19 +4,19 @@ use crate::down::{comes_up, turned};
 use crate::events::{Answer, Device, Event};
 use crate::operating::operated;
 use crate::rows::Outcome;
+use g_base::NoMemory;
 use g_disc::MemoryDisc;
 use g_known::KnownReels;
 use g_plain::StoreFault;
 use g_store::{Refused, Store};
 use g_tape::MemoryTapes;
-use std::alloc::Global;
+use std::alloc::{AllocFailed, Global};
 
-/// A store, or the devices of one that is down. It is handed on by reference and changed where it lies, so that what lets it go is
-/// proved for a single function.
+/// A store, or the devices of one that is down. Each lies in a box, since a check of a function that owns it wants a minute.
 #[derive(Drop)]
 pub(crate) struct System {
-    pub(crate) up: Option<Store<MemoryDisc, MemoryTapes>>,
-    down: Option<Devices>,
+    up: Box<Option<Store<MemoryDisc, MemoryTapes>>>,
+    down: Box<Option<Devices>>,
 }
 
 /// The devices of a system that is down.
@@ -27,12 +27,26 @@ pub(crate) struct Devices {
 }
 
 impl System {
-    /// A system that is down, on these devices.
-    pub(crate) fn new(disc: MemoryDisc, tapes: KnownReels<MemoryTapes>) -> System {
-        System {
-            up: None,
-            down: Some(Devices { disc, tapes }),
-        }
+    /// A system without devices.
+    pub(crate) fn new(alloc: Global) -> Result<System, NoMemory> {
+        Ok(System {
+            up: no_store(alloc)?,
+            down: no_devices(alloc)?,
+        })
+    }
+
+    /// It is down, on these devices.
+    pub(crate) fn lie_on(&mut self, disc: MemoryDisc, tapes: KnownReels<MemoryTapes>) {
+        *self.down = Some(Devices { disc, tapes });
+    }
+
+    /// The store that is up.
+    pub(crate) fn store(&mut self) -> Option<&mut Store<MemoryDisc, MemoryTapes>> {
+        (*self.up).as_mut()
+    }
+
+    fn come_up(&mut self, store: Store<MemoryDisc, MemoryTapes>) {
+        *self.up = Some(store);
     }
 
     /// What happens. An event that the system can't take as it is, up or down, is refused by `Running` or `NotStarted`.
@@ -41,13 +55,13 @@ impl System {
             Event::Format | Event::Start | Event::Restore => self.opened(alloc, event),
             Event::Shut => self.shut(),
             Event::Device(Device::UnreadTape, call) => self.unread_tape(alloc, *call),
-            _ => match &mut self.up {
+            _ => match &mut *self.up {
                 Some(store) => {
                     let answer = happens_up(alloc, store, event);
                     self.settle();
                     answer
                 }
-                None => match &mut self.down {
+                None => match &mut *self.down {
                     Some(devices) => turned(alloc, devices, event),
                     None => Err(StoreFault::NotStarted),
                 },
@@ -57,10 +71,10 @@ impl System {
 
     /// A system that is down comes up, if it does.
     fn opened(&mut self, alloc: Global, event: &Event) -> Outcome {
-        match self.down.take() {
+        match (*self.down).take() {
             Some(devices) => match comes_up(alloc, devices, event) {
                 Ok((store, answer)) => {
-                    self.up = Some(store);
+                    self.come_up(store);
                     Ok(answer)
                 }
                 Err(refused) => self.stays_down(refused),
@@ -71,15 +85,15 @@ impl System {
 
     fn stays_down(&mut self, refused: Refused<MemoryDisc, MemoryTapes>) -> Outcome {
         let Refused { fault, disc, tapes } = refused;
-        self.down = Some(Devices { disc, tapes });
+        self.lie_on(disc, tapes);
         Err(fault)
     }
 
     fn shut(&mut self) -> Outcome {
-        match self.up.take() {
+        match (*self.up).take() {
             Some(store) => {
                 let (disc, tapes) = store.into_devices();
-                self.down = Some(Devices { disc, tapes });
+                self.lie_on(disc, tapes);
                 Ok(Answer::Done)
             }
             None => Err(StoreFault::NotStarted),
@@ -89,12 +103,11 @@ impl System {
     /// A read of the tapes of a system that is down fails.
     fn unread_tape(&mut self, alloc: Global, call: u32) -> Outcome {
         let calls = [u64::from(call)].to_vec(alloc)?;
-        match self.down.take() {
+        match (*self.down).take() {
             Some(Devices { disc, tapes }) => {
                 let mut tapes = tapes.into_tapes();
                 tapes.fail_reads(calls);
-                let tapes = KnownReels::new(alloc, tapes);
-                self.down = Some(Devices { disc, tapes });
+                self.lie_on(disc, KnownReels::new(alloc, tapes));
                 Ok(Answer::Done)
             }
             None => Err(StoreFault::NotStarted),
@@ -103,13 +116,29 @@ impl System {
 
     /// A store that is spent is down.
     fn settle(&mut self) {
-        let is_spent = match &self.up {
+        let is_spent = match &*self.up {
             Some(store) => store.spent(),
             None => false,
         };
         if is_spent {
             let _down = self.shut();
         }
+    }
+}
+
+/// A box for a store, made before there is one.
+fn no_store(alloc: Global) -> Result<Box<Option<Store<MemoryDisc, MemoryTapes>>>, NoMemory> {
+    match Box::new(alloc, None) {
+        Ok(place) => Ok(place),
+        Err(AllocFailed { .. }) => Err(NoMemory),
+    }
+}
+
+/// The same for devices.
+fn no_devices(alloc: Global) -> Result<Box<Option<Devices>>, NoMemory> {
+    match Box::new(alloc, None) {
+        Ok(place) => Ok(place),
+        Err(AllocFailed { .. }) => Err(NoMemory),
     }
 }
 
