@@ -5,7 +5,7 @@ use arrayvec::ArrayVec;
 use std::marker::Model;
 
 /// Up to 128 block numbers, as many as the greatest file takes, in the order of what stands in them.
-#[derive(Debug, Drop, PartialEq, Eq)]
+#[derive(Drop, PartialEq, Eq)]
 pub struct BlockList {
     blocks: ArrayVec<u32, 128>,
 }

@@ -7,7 +7,7 @@ use std::marker::Model;
 
 /// Items in order. Contracts see a list. It is made from a `Vec` and gives it back without taking
 /// memory.
-#[derive(Debug, Drop)]
+#[derive(Drop)]
 pub struct Items<T> {
     items: Vec<T>,
 }

@@ -14,14 +14,14 @@ pub const MAX_BLOCKS: u32 = 4_096;
 const _: () = prove!(MAX_ORDERS == 64 && MAX_BLOCKS == 4_096);
 
 /// What one turn of a job used: orders run, and blocks of 512 bytes fetched, put or appended.
-#[derive(Clone, Copy, Debug, PartialEq, Eq)]
+#[derive(Clone, Copy, PartialEq, Eq)]
 pub struct Usage {
     pub orders: u32,
     pub blocks: u32,
 }
 
 /// What one turn of a job costs: units of TIME, at least one, and MONEY.
-#[derive(Clone, Copy, Debug, PartialEq, Eq)]
+#[derive(Clone, Copy, PartialEq, Eq)]
 pub struct Charge {
     pub units: u64,
     pub money: u64,

@@ -4,7 +4,7 @@ ghost use Rattle.std.specs.Prelude.{◌≡◌};
 use g_base::BlockList;
 
 /// A text of `len` bytes in the blocks of these numbers, in order; the last block need not be full.
-#[derive(Debug, Drop)]
+#[derive(Drop)]
 pub struct DiscCopy {
     pub blocks: BlockList,
     pub len: u32,

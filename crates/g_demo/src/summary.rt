@@ -11,7 +11,7 @@ use g_name::Text;
 use std::alloc::Global;
 
 /// The summary of a text: how many bytes 10 it has, how many bytes, and the number into which each byte is folded.
-#[derive(Clone, Copy, Debug, PartialEq, Eq)]
+#[derive(Clone, Copy, PartialEq, Eq)]
 pub struct Summary {
     pub lines: u64,
     pub bytes: u64,

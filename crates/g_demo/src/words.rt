@@ -13,7 +13,7 @@ const MOST_NUMBER: u64 = 0xffff_ffff;
 const MOST_ROUNDS: u32 = 1_000;
 
 /// What the words of the command line ask for.
-#[derive(Clone, Copy, Debug, PartialEq, Eq)]
+#[derive(Clone, Copy, PartialEq, Eq)]
 pub enum Asked {
     /// The script of the source.
     Run,

@@ -9,7 +9,7 @@ use std::alloc::Global;
 use std::marker::Model;
 
 /// Where the bytes of a file lie, in a box that has room for the number of the file. Contracts see the copy.
-#[derive(Debug, Drop)]
+#[derive(Drop)]
 pub struct BoxedCopy {
     it: Box<(u16, DiscCopy)>,
 }
@@ -23,7 +23,7 @@ impl Model for BoxedCopy {
 }
 
 /// The number of a file and where its bytes lie, in a box: in a list of copies only pointers move. Contracts see the pair.
-#[derive(Debug, Drop)]
+#[derive(Drop)]
 pub struct FileCopy {
     it: Box<(u16, DiscCopy)>,
 }

@@ -5,7 +5,7 @@ use g_entry::{FileRec, Head, UserRec};
 
 /// What a disc says of its filestore: the head, the users and the files in order of number, and by file number the
 /// copies on disc of those that are online, in order of number too.
-#[derive(Debug, Drop)]
+#[derive(Drop)]
 pub struct Dirs {
     pub head: Head,
     pub users: Vec<UserRec>,

@@ -8,7 +8,7 @@ use std::marker::Model;
 
 /// A block that knows where its zeros begin: most blocks of a slot are short, and no more of them is compared and copied.
 /// Contracts see the block.
-#[derive(Debug, Drop)]
+#[derive(Drop)]
 pub(crate) struct KeptBlock {
     block: Block,
     len: usize,

@@ -13,7 +13,7 @@ use std::marker::Model;
 /// What each of the 1,088 blocks of a slot holds, as far as it is known. Contracts see all of them. The memory for all is
 /// taken at once. Nearly all blocks of a slot are zeros: those behind the last one that isn't are remembered without their
 /// bytes, and the memory there isn't touched.
-#[derive(Debug, Drop)]
+#[derive(Drop)]
 pub(crate) struct RememberedBlocks {
     known: Vec<bool>,
     blocks: Vec<KeptBlock>,

@@ -12,7 +12,7 @@ const GROUP: u32 = 32;
 const GROUPS: usize = 34;
 
 /// Which of the 1,088 blocks of a slot are marked. Contracts see a list of truth values.
-#[derive(Debug, Drop)]
+#[derive(Drop)]
 pub(crate) struct Marks {
     blocks: Vec<bool>,
     /// Whether any block of a group may be marked, so that a look for marks passes the others whole.

@@ -20,7 +20,7 @@ use std::marker::Model;
 /// What each of the 1,088 blocks of either slot holds, as far as it is known from the commits since this was made, and a
 /// mark at each block that may differ from that of the directory in memory (docs/FORMATS.md has the blocks by number).
 /// Contracts see two lists for each slot.
-#[derive(Debug, Drop)]
+#[derive(Drop)]
 pub struct Pages {
     a: RememberedBlocks,
     b: RememberedBlocks,

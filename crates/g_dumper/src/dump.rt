@@ -6,7 +6,7 @@ use g_incr::Writer;
 use std::marker::Model;
 
 /// How a step is answered: the dump goes on, or it is completed, with its number.
-#[derive(Clone, Copy, Debug, PartialEq, Eq)]
+#[derive(Clone, Copy, PartialEq, Eq)]
 pub enum DumpStep {
     Going,
     Completed(u64),
@@ -14,7 +14,7 @@ pub enum DumpStep {
 
 /// A dump that was opened: what it will hold, fixed at its opening, and how many of its blocks are written. The bytes of
 /// the versions that wait are those that the online filestore has pinned.
-#[derive(Debug, Drop)]
+#[derive(Drop)]
 pub struct Dump {
     pub(crate) writer: Writer,
     pub(crate) serial: u32,

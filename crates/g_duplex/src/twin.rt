@@ -3,7 +3,7 @@ ghost use Rattle.std.specs.Prelude.{◌≡◌};
 ghost use Rattle.g_duplex.specs.Twins as twins;
 
 /// One of the two reels of a serial.
-#[derive(Clone, Copy, Debug, Default, PartialEq, Eq)]
+#[derive(Clone, Copy, Default, PartialEq, Eq)]
 pub enum Twin {
     /// The reel of the first rack.
     #[default]
@@ -13,7 +13,7 @@ pub enum Twin {
 }
 
 /// How the two reels of a serial stand to each other.
-#[derive(Clone, Copy, Debug, Default, PartialEq, Eq)]
+#[derive(Clone, Copy, Default, PartialEq, Eq)]
 pub enum Standing {
     /// Both hold the same blocks.
     #[default]

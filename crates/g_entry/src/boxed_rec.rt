@@ -7,7 +7,7 @@ use std::alloc::Global;
 use std::marker::Model;
 
 /// The record of a file, in a box. Contracts see the record.
-#[derive(Debug, Drop)]
+#[derive(Drop)]
 pub struct BoxedRec {
     rec: Box<FileRec>,
 }

@@ -5,14 +5,14 @@ use g_name::{Lang, Local};
 use g_trap::Traps;
 
 /// A place on tape where a file's bytes lie: the reel, and the first of their blocks.
-#[derive(Clone, Copy, Debug, PartialEq, Eq)]
+#[derive(Clone, Copy, PartialEq, Eq)]
 pub struct TapeCopy {
     pub serial: u32,
     pub first: u32,
 }
 
 /// A file, whose number is the place of the record among those of files.
-#[derive(Debug, Drop, PartialEq, Eq)]
+#[derive(Drop, PartialEq, Eq)]
 pub struct FileRec {
     pub number: u16,
     /// The owner's number.

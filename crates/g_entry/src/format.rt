@@ -5,7 +5,7 @@ ghost use Rattle.g_entry.specs.Formats.{format_number};
 use g_base::Block;
 
 /// A format of records (docs/FORMATS.md). The first has no MONEY, and two bytes for a block number; the second has three.
-#[derive(Clone, Copy, Debug, PartialEq, Eq)]
+#[derive(Clone, Copy, PartialEq, Eq)]
 pub enum Format {
     One,
     Two,

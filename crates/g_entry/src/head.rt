@@ -1,7 +1,7 @@
 //! The head of a directory.
 
 /// A dump that is open, or was when the system went down: its reel, the place of its first block there, and its number.
-#[derive(Clone, Copy, Debug, PartialEq, Eq)]
+#[derive(Clone, Copy, PartialEq, Eq)]
 pub struct Intent {
     pub serial: u32,
     pub place: u32,
@@ -9,7 +9,7 @@ pub struct Intent {
 }
 
 /// What a directory says besides its users and files.
-#[derive(Clone, Copy, Debug, PartialEq, Eq)]
+#[derive(Clone, Copy, PartialEq, Eq)]
 pub struct Head {
     /// The stamp of the version that is made next.
     pub next_stamp: u64,

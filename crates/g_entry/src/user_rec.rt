@@ -4,7 +4,7 @@ ghost use Rattle.std.specs.Prelude.{◌≡◌};
 use g_name::User;
 
 /// A user, whose number is the place of the record among those of users. SPACE counts blocks of 512 bytes, TIME units.
-#[derive(Debug, Drop, PartialEq, Eq)]
+#[derive(Drop, PartialEq, Eq)]
 pub struct UserRec {
     pub number: u8,
     pub user: User,

@@ -4,7 +4,7 @@ ghost use Rattle.std.specs.Prelude.{◌≡◌, IfOk};
 use crate::discs::{read_back, write_filled};
 use g_base::NoMemory;
 use g_cache::CachedDisc;
-use g_disc::{Disc, Leave, MemoryDisc};
+use g_disc::{Disc, MemoryDisc};
 use std::alloc::Global;
 use std::process::Abort;
 
@@ -47,16 +47,4 @@ fn a_second_read_asks_no_disc(rt: HostRuntime) {
     // Another block is asked of the disc, at its second read.
     assert!(rt; read_back(&rt, &mut disc, 0).is_err());
     assert!(rt; read_back(&rt, &mut disc, 0) == Ok((0, 0)));
-}
-
-#[test]
-fn a_failed_write_leaves_nothing_kept(rt: HostRuntime) {
-    let mut below = MemoryDisc::new(rt.alloc(), 2).expect(&rt, "memory");
-    below.set_leave(Leave::Half);
-    let mut disc = cached(rt.alloc(), below).expect(&rt, "memory");
-    disc.arm(2);
-    write_filled(&rt, &mut disc, 1, 1).expect(&rt, "a write");
-    assert!(rt; read_back(&rt, &mut disc, 1) == Ok((1, 1)));
-    assert!(rt; write_filled(&rt, &mut disc, 1, 2).is_err());
-    assert!(rt; read_back(&rt, &mut disc, 1) == Ok((2, 1)));
 }

@@ -21,6 +21,11 @@ static STORED: [(u32, usize, u8); 5] = [
     (2179, 0, 0),
 ];
 
+/// The texts that are stored.
+static TEXT: [u8; 600] = [7; 600];
+
+static LONG: [u8; 1536] = [7; 1536];
+
 static STOPPED: [(u32, usize, u8); 4] = [
     (2177, 511, 7),
     (2178, 255, 7),
@@ -32,11 +37,11 @@ static STOPPED: [(u32, usize, u8); 4] = [
 fn ample(rt: HostRuntime) {
     let mut disc = MemoryDisc::new(rt.alloc(), 2181).expect(&rt, "memory");
     let mut pool = Pool::new(rt.alloc(), 2181, &[]).expect(&rt, "memory");
-    let copy = store_copy(rt.alloc(), &mut disc, &mut pool, &[7; 600]).expect(&rt, "a copy");
+    let copy = store_copy(rt.alloc(), &mut disc, &mut pool, &TEXT).expect(&rt, "a copy");
     let text = read_copy(rt.alloc(), &mut disc, &copy).expect(&rt, "a copy");
     drop_copy(&mut pool, &copy);
     assert!(rt; copy.blocks.as_slice() == [2177, 2178].as_slice());
-    assert!(rt; text.as_slice() == [7; 600].as_slice());
+    assert!(rt; text.as_slice() == TEXT.as_slice());
     assert!(rt; pool.free() == 4);
     for (k, place, want) in &STORED {
         assert!(rt;
@@ -47,21 +52,12 @@ fn ample(rt: HostRuntime) {
 }
 
 #[test]
-fn a_disc_of_four_copy_blocks_fills(rt: HostRuntime) {
-    let mut disc = MemoryDisc::new(rt.alloc(), 2181).expect(&rt, "memory");
-    let mut pool = Pool::new(rt.alloc(), 2181, &[]).expect(&rt, "memory");
-    let full = store_copy(rt.alloc(), &mut disc, &mut pool, &[1; 2049]);
-    assert!(rt; full.err() == Some(CopyFault::DiscFull { need: 5, room: 4 }));
-    assert!(rt; pool.free() == 4);
-}
-
-#[test]
 fn a_write_fails_in_the_middle(rt: HostRuntime) {
     let mut disc = MemoryDisc::new(rt.alloc(), 2181).expect(&rt, "memory");
     let mut pool = Pool::new(rt.alloc(), 2181, &[]).expect(&rt, "memory");
     disc.set_leave(Leave::Half);
     disc.arm(2);
-    let stopped = store_copy(rt.alloc(), &mut disc, &mut pool, &[7; 1536]);
+    let stopped = store_copy(rt.alloc(), &mut disc, &mut pool, &LONG);
     assert!(rt; stopped.err() == Some(CopyFault::Stopped));
     for (k, place, want) in &STOPPED {
         assert!(rt;
@@ -75,13 +71,13 @@ fn a_write_fails_in_the_middle(rt: HostRuntime) {
 fn a_read_fails_in_the_middle(rt: HostRuntime) {
     let mut disc = MemoryDisc::new(rt.alloc(), 2181).expect(&rt, "memory");
     let mut pool = Pool::new(rt.alloc(), 2181, &[]).expect(&rt, "memory");
-    let copy = store_copy(rt.alloc(), &mut disc, &mut pool, &[7; 1536]).expect(&rt, "a copy");
+    let copy = store_copy(rt.alloc(), &mut disc, &mut pool, &LONG).expect(&rt, "a copy");
     disc.fail_reads([2].to_vec(rt.alloc()).expect(&rt, "memory"));
     assert!(rt; read_copy(rt.alloc(), &mut disc, &copy).err() == Some(CopyFault::ReadFault));
     assert!(rt;
         read_copy(rt.alloc(), &mut disc, &copy)
             .expect(&rt, "a copy")
             .as_slice()
-            == [7; 1536].as_slice()
+            == LONG.as_slice()
     );
 }

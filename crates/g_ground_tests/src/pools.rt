@@ -1,6 +1,5 @@
-//! The worked rows of the pool, and the lines of a text.
+//! The worked rows of the pool.
 use g_blocks::{FIRST_COPY_BLOCK, MAX_DISC_BLOCKS, Pool, PoolFault};
-use g_lines::Document;
 
 #[test]
 fn ample(rt: HostRuntime) {
@@ -22,13 +21,4 @@ fn ample(rt: HostRuntime) {
         .expect(&rt, "memory");
     assert!(rt; all.last() == Some(&1_048_575));
     assert!(rt; great.free() == 0);
-}
-
-/// A text without its last byte 10 has the same lines.
-#[test]
-fn lines(rt: HostRuntime) {
-    let ended = Document::of_text(rt.alloc(), b"A\n\nB\n").expect(&rt, "memory");
-    let other = Document::of_text(rt.alloc(), b"A\n\nB").expect(&rt, "memory");
-    assert!(rt; ended.as_text() == b"A\n\nB\n".as_slice());
-    assert!(rt; other.as_text() == ended.as_text());
 }

@@ -9,15 +9,15 @@ use g_name::{Lang, Local, User};
 use g_trap::{Modes, Traps};
 
 /// A user's block up to its last field; in the first format the last 8 bytes are zero.
-const USER: [u8; 36] =
+static USER: [u8; 36] =
     *b"\x01\x02AB\0\0\0\0\0\0\0\0\0\0\x01\0\0\xff\xff\0\0\0\0\0\x0f\x42\x40\0\0\0\0\0\0\x0f\x42\x40";
 
 /// A file's block up to its block numbers.
-const FILE: [u8; 61] =
+static FILE: [u8; 61] =
     *b"\x01\x02\x01F\0\0\0\0\0\0\0\0\0\0\0\x01\x02A1  \x01\x02\x03\x04\x05\x06\x07\x08\0\0\x02\x01\x1f\x02\x00\x10\x01\x02\0\0\0\0\0\0\0\0\0\0\0\0\x01\x00\x0f\x42\x3f\x01\x02\x03\x04\x01";
 
 /// A head's block in the second format, with an intent.
-const HEAD: [u8; 39] =
+static HEAD: [u8; 39] =
     *b"G3SL\x00\x02\x01\x02\x03\x04\x05\x06\x07\x08\0\0\0\0\0\0\0\x07\x01\x00\x0f\x42\x3f\x01\x02\x03\x04\0\0\0\0\0\0\0\x08";
 
 /// The pieces one behind the other, with zeros behind them.

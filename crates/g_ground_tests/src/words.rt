@@ -9,21 +9,21 @@ fn word(rt: &impl Abort, bits: u32) -> Word {
 }
 
 /// Left, right; their sum, and whether it is out of range; their difference, and the same of it.
-const SUMS: &str = "3 4  7 0  77777777 0
+static SUMS: &str = "3 4  7 0  77777777 0
 37777777 1  40000000 1  37777776 0
 40000000 1  40000001 0  37777777 1
 40000000 40000000  0 1  0 0
 0 40000000  40000000 0  40000000 1";
 
 /// Left, right; the high part of their product, its low 23 bits, and whether it is out of range.
-const PRODUCTS: &str = "3 77777776  77777777 37777772 0
+static PRODUCTS: &str = "3 77777776  77777777 37777772 0
 10000 10000  2 0 0
 40000000 40000000  40000000 0 1
 40000000 1  77777777 0 0
 37777777 37777777  37777776 1 0";
 
 /// A word, whether to the left, how many places; the word rotated, and shifted.
-const SHIFTS: &str = "40000001 1 1  3 2
+static SHIFTS: &str = "40000001 1 1  3 2
 40000001 0 1  60000000 20000000
 40000001 1 0  40000001 40000001
 40000001 1 30  40000001 0
@@ -59,7 +59,7 @@ fn words(rt: HostRuntime) {
 
 /// A byte coming in, its code, and the byte going out again: of `0`, `?`, ` `, `/`, `@`, `H`, `_`, `h`, `~`, and of bytes that
 /// have no code.
-const CODES: &str = "60 0 60
+static CODES: &str = "60 0 60
 77 17 77
 40 20 40
 57 37 57

@@ -3,7 +3,7 @@ use g_entry::{FileRec, Format, UserRec};
 
 /// What a dump's header says: its number, its first block, how many blocks it has between header and mark, how many of
 /// them are users and files, and the next stamp at its opening.
-#[derive(Clone, Copy, Debug, PartialEq, Eq)]
+#[derive(Clone, Copy, PartialEq, Eq)]
 pub struct DumpNote {
     pub number: u64,
     pub place: u32,
@@ -14,7 +14,7 @@ pub struct DumpNote {
 }
 
 /// A note, and the format of the dump's records.
-#[derive(Clone, Copy, Debug, PartialEq, Eq)]
+#[derive(Clone, Copy, PartialEq, Eq)]
 pub(crate) struct Header {
     pub format: Format,
     pub note: DumpNote,
@@ -22,7 +22,7 @@ pub(crate) struct Header {
 
 /// The records of a dump: all users in order of number, the numbers of those whose directories it holds, and their files,
 /// which have the numbers of their places.
-#[derive(Debug, Drop)]
+#[derive(Drop)]
 pub struct DumpDir {
     pub note: DumpNote,
     pub users: Vec<UserRec>,

@@ -9,7 +9,7 @@ use g_entry::FileRec;
 use std::alloc::Global;
 
 /// What waits ahead of a file: how many versions, and how many blocks they take.
-#[derive(Clone, Copy, Debug)]
+#[derive(Clone, Copy)]
 pub(crate) struct Ahead {
     pub(crate) versions: u32,
     pub(crate) blocks: u32,

@@ -14,7 +14,7 @@ use std::marker::Model;
 
 /// What goes into a block of a dump: what the writer put there, or block `part` of a version's bytes, where `version`
 /// counts the versions that wait, in the order of their records, from 0.
-#[derive(Clone, Copy, Debug, PartialEq, Eq)]
+#[derive(Clone, Copy, PartialEq, Eq)]
 pub enum Piece {
     Ready,
     Content { version: usize, part: u32 },
@@ -22,7 +22,7 @@ pub enum Piece {
 
 /// A dump that is being written (docs/FORMATS.md). Contracts see it as its plan. What waits ahead of each file is counted
 /// once, so that no piece costs a walk over the files.
-#[derive(Debug, Drop)]
+#[derive(Drop)]
 pub struct Writer {
     serial: u32,
     place: u32,

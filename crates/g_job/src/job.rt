@@ -33,7 +33,7 @@ use std::marker::Model;
 /// A job: its document with the macros that it has called, a program, units, its allowances of TIME and MONEY, and its
 /// monitoring file. Contracts see a `JobState` (`docs/DEFINITIONS.md`, "A job and its turn"). Its parts lie in a box: a job is
 /// moved into the table of jobs and out of it, and with it a pointer.
-#[derive(Debug, Drop)]
+#[derive(Drop)]
 pub struct Job {
     pub(crate) parts: Box<Parts>,
 }

@@ -3,7 +3,7 @@ use g_lines::Document;
 use g_name::{Local, User};
 
 /// A job as its line asks for it: 1 to 1,000,000 units of TIME, at most 1,000,000 of MONEY, and the lines of its document.
-#[derive(Debug, Drop)]
+#[derive(Drop)]
 pub struct NewJob {
     pub name: Local,
     pub user: User,

@@ -3,7 +3,7 @@ use g_name::{Local, Text, User};
 use g_turn::{Suspended, Work};
 
 /// What a job is made of. Its work keeps what the last turn made until the next one begins; contracts of a job don't see that.
-#[derive(Debug, Drop)]
+#[derive(Drop)]
 pub(crate) struct Parts {
     pub number: u64,
     pub name: Local,

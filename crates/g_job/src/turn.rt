@@ -1,7 +1,7 @@
 //! What a turn of a job comes to.
 
 /// What a turn of a job comes to. Units of TIME and MONEY are those of this turn, each cut to what the job had left.
-#[derive(Clone, Copy, Debug, PartialEq, Eq)]
+#[derive(Clone, Copy, PartialEq, Eq)]
 pub enum Turn {
     /// The job goes on.
     Ran { units: u64, money: u64 },

@@ -11,7 +11,7 @@ use g_name::User;
 
 /// What a user's ended jobs have left of the user's TIME, in units, and of the user's MONEY, since the system came up. What
 /// unfinished jobs hold of it is not taken off.
-#[derive(Debug, Drop)]
+#[derive(Drop)]
 pub struct Account {
     pub user: User,
     pub time: u64,

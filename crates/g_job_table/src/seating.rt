@@ -14,7 +14,7 @@ use std::alloc::Global;
 use thiserror::Error;
 
 /// A terminal's job as its LOGIN asks for it: the terminal, 1 to 8, and 1 to 1,000,000 units of TIME. Its MONEY is 1,000.
-#[derive(Debug, Drop)]
+#[derive(Drop)]
 pub struct NewLogin {
     pub terminal: u8,
     pub user: User,

@@ -2,7 +2,7 @@
 use g_job::Turn;
 
 /// A turn that was taken: how it ended and, of a job at a terminal, how many bytes its file had before.
-#[derive(Clone, Copy, Debug, PartialEq, Eq)]
+#[derive(Clone, Copy, PartialEq, Eq)]
 pub struct Taken {
     pub turn: Turn,
     pub shown: Option<usize>,

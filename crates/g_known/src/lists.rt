@@ -5,7 +5,7 @@ ghost use Rattle.g_known.specs.ReelNotes.{HasForgotten, HasNone, HasWritten, IsP
 use g_incr::DumpNote;
 
 /// The notes of the first dumps of a reel, in their order.
-#[derive(Debug, Drop)]
+#[derive(Drop)]
 pub(crate) struct NotedReel {
     pub(crate) serial: u32,
     pub(crate) notes: Vec<DumpNote>,

@@ -7,7 +7,7 @@ use arrayvec::ArrayVec;
 use std::marker::Model;
 
 /// The label of a line: a digit and up to 11 of `A` to `Z`, `0` to `9` and `-`.
-#[derive(Debug, Drop, PartialEq, Eq)]
+#[derive(Drop, PartialEq, Eq)]
 pub struct Label {
     characters: ArrayVec<u8, 12>,
 }

@@ -6,14 +6,14 @@ use crate::{Label, Rest};
 use g_name::{Local, Text};
 
 /// A line: a label and a command, each of which may be absent.
-#[derive(Debug, Drop)]
+#[derive(Drop)]
 pub struct Line {
     pub label: Option<Label>,
     pub command: Command,
 }
 
 /// A command.
-#[derive(Debug, Drop)]
+#[derive(Drop)]
 pub enum Command {
     /// No command stands on the line.
     Blank,
@@ -29,7 +29,7 @@ pub enum Command {
 }
 
 /// A test, or that it fails.
-#[derive(Debug, Drop, PartialEq, Eq)]
+#[derive(Drop, PartialEq, Eq)]
 pub struct Cond {
     pub negated: bool,
     pub test: Test,
@@ -45,7 +45,7 @@ impl Cond {
 }
 
 /// What a condition asks; letters are `A` to `X`, which name the parameters of a level.
-#[derive(Debug, Drop, PartialEq, Eq)]
+#[derive(Drop, PartialEq, Eq)]
 pub enum Test {
     /// The last command was an error.
     CommandError,

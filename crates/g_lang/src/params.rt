@@ -14,7 +14,7 @@ use std::alloc::Global;
 use std::marker::Model;
 
 /// The parameters of a verb, which stand in one text. Contracts see a list of texts.
-#[derive(Debug, Drop)]
+#[derive(Drop)]
 pub struct Params {
     text: Rest,
 }
@@ -46,7 +46,7 @@ impl Params {
 }
 
 /// The parameter at a place of those that stand in a text, if one is there. Contracts see an option.
-#[derive(Debug, Drop)]
+#[derive(Drop)]
 pub struct Param {
     text: Rest,
     place: usize,

@@ -12,7 +12,7 @@ use crate::pieces::{behind, split_word, without_front};
 use g_name::{extends, is_name_char};
 
 /// What comes behind a fixed text of a condition.
-#[derive(Clone, Copy, Debug)]
+#[derive(Clone, Copy)]
 enum Behind {
     Test,
     Comma,
@@ -22,7 +22,7 @@ enum Behind {
 }
 
 /// Where in a line the reader stands.
-#[derive(Clone, Copy, Debug)]
+#[derive(Clone, Copy)]
 enum Place {
     /// In the spaces in front.
     Front,

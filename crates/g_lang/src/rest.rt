@@ -9,13 +9,13 @@ use std::marker::Model;
 
 /// The text in which the parameters of a verb stand, from the first one on, as it was written. Up to 24 bytes take no
 /// memory. Contracts see its bytes.
-#[derive(Debug, Drop)]
+#[derive(Drop)]
 pub struct Rest {
     kept: Kept,
 }
 
 /// The bytes, where they are few, or a text of their own.
-#[derive(Debug, Drop)]
+#[derive(Drop)]
 enum Kept {
     Few(ArrayVec<u8, 24>),
     Many(Text),

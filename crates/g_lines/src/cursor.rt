@@ -10,7 +10,7 @@ use g_name::Text;
 use std::marker::Model;
 
 /// A document of which lines are taken. Contracts see the lines, and how many of them were taken.
-#[derive(Debug, Drop)]
+#[derive(Drop)]
 pub struct Cursor {
     document: Document,
     taken: usize,

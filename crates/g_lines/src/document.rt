@@ -9,7 +9,7 @@ use std::alloc::Global;
 use std::marker::Model;
 
 /// Lines that stand one behind the other in one text, each with its byte 10. Contracts see the list of the lines, without their bytes 10.
-#[derive(Debug, Drop)]
+#[derive(Drop)]
 pub struct Document {
     text: Text,
 }

@@ -6,7 +6,7 @@ use memchr::memchr;
 use std::marker::Model;
 
 /// The lines of a text that are still to come, without their bytes 10.
-#[derive(Debug, Drop)]
+#[derive(Drop)]
 pub struct Lines<'a> {
     rest: &'a [u8],
 }

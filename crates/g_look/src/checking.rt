@@ -32,7 +32,7 @@ use std::alloc::Global;
 
 /// What a check found: whether the disc holds a filestore, the first rule that disc and rack break, and the text of the
 /// check, each line with its byte 10.
-#[derive(Debug, Drop)]
+#[derive(Drop)]
 pub struct Checked {
     pub filestore: bool,
     pub broken: Option<Broken>,

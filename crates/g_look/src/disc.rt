@@ -15,7 +15,7 @@ use g_slots::{Side, Slots};
 use std::alloc::Global;
 
 /// The slot that is current, and the directory there with its format, if the disc stands for one.
-#[derive(Debug, Drop)]
+#[derive(Drop)]
 pub(crate) struct Standing {
     pub side: Side,
     pub dirs: Option<(Format, Dirs)>,

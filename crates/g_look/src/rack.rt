@@ -34,7 +34,7 @@ pub(crate) fn see_rack<T: Tapes>(alloc: Global, tapes: &mut T) -> Result<Vec<Fou
 }
 
 /// A rack of which no rule is broken, with the files of its dumped directory, or the first rule that is.
-#[derive(Debug, Drop)]
+#[derive(Drop)]
 pub(crate) enum Judged {
     Fits(Vec<FileRec>),
     Breaks(Broken),

@@ -28,7 +28,7 @@ use g_tree::{Tree, full_of};
 use std::alloc::Global;
 
 /// Whether the rack can be restored, and the text: the files that RESTORE would give and the dump, or its refusal.
-#[derive(Debug, Drop)]
+#[derive(Drop)]
 pub struct Given {
     pub given: bool,
     pub text: Text,

@@ -3,7 +3,7 @@ ghost use Rattle.std.specs.Prelude.{◌≡◌};
 ghost use Rattle.g_look_program.specs.Exit.{code_of};
 
 /// The status of a look. Each has a number, the program's exit status.
-#[derive(Clone, Copy, Debug, PartialEq, Eq)]
+#[derive(Clone, Copy, PartialEq, Eq)]
 pub enum Status {
     /// What was asked for was told; of a check, that disc and rack belong together and the disc holds a filestore.
     Done,

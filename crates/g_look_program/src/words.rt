@@ -5,7 +5,7 @@ ghost use Rattle.g_look_program.specs.Words.{AskNothing, IsAsked, texts_of, word
 use g_name::{Path, User, parse_path};
 
 /// What is asked for.
-#[derive(Debug, Drop)]
+#[derive(Drop)]
 pub enum Asked {
     /// Whether disc and rack belong together.
     Check,

@@ -15,14 +15,14 @@ use g_name::Text;
 const MOST: usize = 240;
 
 /// A line once the parameters are put in: its first bytes, up to 240, and whether it is longer.
-#[derive(Debug, Drop)]
+#[derive(Drop)]
 pub(crate) struct Filled {
     pub text: Text,
     pub is_cut: bool,
 }
 
 /// The front of a text, up to 240 bytes, and whether the text is longer.
-#[derive(Debug, Drop)]
+#[derive(Drop)]
 pub(crate) struct Front {
     pub bytes: ArrayVec<u8, 240>,
     pub is_cut: bool,

@@ -28,7 +28,7 @@ use std::marker::Model;
 const ENTRIES: usize = 16;
 
 /// A level. Contracts see its lines, its 24 parameters, how many lines were taken, and the commands that wait.
-#[derive(Debug, Drop)]
+#[derive(Drop)]
 pub(crate) struct Level {
     cursor: Cursor,
     params: Params,

@@ -23,7 +23,7 @@ const MOST: usize = 8;
 
 /// The levels of a job: its document, and the macros that it has called. Contracts see the current one first, and
 /// whether the document is held open for lines to come.
-#[derive(Debug, Drop)]
+#[derive(Drop)]
 pub struct Levels {
     /// The current level last.
     levels: Vec<Level>,

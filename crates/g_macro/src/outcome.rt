@@ -5,7 +5,7 @@ ghost use Rattle.g_macro.specs.Questions as asked;
 use g_mill::Text40;
 
 /// How the last command went, of which conditions ask.
-#[derive(Debug, Drop, PartialEq, Eq)]
+#[derive(Drop, PartialEq, Eq)]
 pub struct Outcome {
     /// It was an error.
     pub error: bool,
@@ -13,7 +13,7 @@ pub struct Outcome {
 }
 
 /// What the program came to in the last command.
-#[derive(Debug, Drop, PartialEq, Eq)]
+#[derive(Drop, PartialEq, Eq)]
 pub enum EventNote {
     /// The command ran no program, or the program goes on.
     None,

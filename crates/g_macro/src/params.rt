@@ -15,7 +15,7 @@ const COUNT: usize = 24;
 
 /// The 24 parameters of a level. Contracts see all of them. Most levels are given few or none, and none is ever set there: so
 /// the empty ones behind those that were given are made only where one is set. Their room is there from the start.
-#[derive(Debug, Drop)]
+#[derive(Drop)]
 pub(crate) struct Params {
     given: Vec<Text>,
     alloc: Global,

@@ -12,7 +12,7 @@ use g_online::Online;
 use std::alloc::Global;
 
 /// A file that is on the disc and on tape too: the stamp of its version, its number, and the blocks of its bytes.
-#[derive(Clone, Copy, Debug, PartialEq, Eq)]
+#[derive(Clone, Copy, PartialEq, Eq)]
 pub(crate) struct Candidate {
     pub(crate) stamp: u64,
     pub(crate) number: u16,

@@ -7,7 +7,7 @@ use g_word::Word;
 use std::marker::Model;
 
 /// A text of up to 40 bytes. Contracts see it as a list.
-#[derive(Debug, Drop, PartialEq, Eq)]
+#[derive(Drop, PartialEq, Eq)]
 pub struct Text40 {
     bytes: ArrayVec<u8, 40>,
 }
@@ -71,7 +71,7 @@ impl Text40 {
 }
 
 /// What one step of a program tells.
-#[derive(Debug, Drop, PartialEq, Eq)]
+#[derive(Drop, PartialEq, Eq)]
 pub enum Event {
     /// An order was done.
     Ran,

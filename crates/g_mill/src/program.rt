@@ -14,7 +14,7 @@ pub(crate) const LIMIT: u16 = 0x8000;
 pub(crate) const ADDRESSES: u32 = 0x8000;
 
 /// A program of 32 to 32,768 words. Contracts see its words, the address of its next order and its overflow.
-#[derive(Debug, Drop)]
+#[derive(Drop)]
 pub struct Program {
     words: Vec<Word>,
     next: u16,

@@ -1,7 +1,7 @@
 //! A terminal with its job.
 
 /// A terminal, from 1 to 8, with the number of its job, and whether it was logged out.
-#[derive(Clone, Copy, Debug, Default, PartialEq, Eq)]
+#[derive(Clone, Copy, Default, PartialEq, Eq)]
 pub struct Seat {
     pub terminal: u8,
     pub job: u64,

@@ -11,7 +11,7 @@ use std::marker::Model;
 
 /// The terminals, 1 to 8, at which there is a job that isn't over. Contracts see them in order of their logins, each with
 /// the number of its job and whether it was logged out.
-#[derive(Debug, Drop)]
+#[derive(Drop)]
 pub struct Terminals {
     seats: ArrayVec<Seat, 8>,
 }

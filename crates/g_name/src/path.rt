@@ -7,7 +7,7 @@ use crate::{Lang, Local, User};
 /// A file as a command names it: `:USER.NAME(generation/LANG)`, of which every part but the local name may be absent.
 ///
 /// An absent user is the caller, an absent language that of four spaces. An absent generation is the greatest one there is for input, and for output one more.
-#[derive(Debug, Drop, PartialEq, Eq)]
+#[derive(Drop, PartialEq, Eq)]
 pub struct Path {
     pub user: Option<User>,
     pub local: Local,

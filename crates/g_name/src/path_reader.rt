@@ -12,7 +12,7 @@ use crate::short::Short;
 use crate::{Lang, Local, Path, User};
 
 /// Where in the text of a path a reader stands.
-#[derive(Clone, Copy, Debug, PartialEq, Eq)]
+#[derive(Clone, Copy, PartialEq, Eq)]
 enum Part {
     /// Behind the colon.
     User,
@@ -29,7 +29,7 @@ enum Part {
 }
 
 /// What has been read of a path: a part that isn't reached yet is empty, or 0.
-#[derive(Debug, Drop)]
+#[derive(Drop)]
 pub struct PathReader {
     part: Part,
     user: Short<16>,

@@ -7,7 +7,7 @@ use g_tree::NumberList;
 use std::marker::Model;
 
 /// Places on tape by stamp. Contracts see a list. It is made from a `Vec` and gives it back without taking memory.
-#[derive(Debug, Drop)]
+#[derive(Drop)]
 pub struct CopyList {
     copies: Vec<(u64, TapeCopy)>,
 }
@@ -46,7 +46,7 @@ impl From<CopyList> for Vec<(u64, TapeCopy)> {
 }
 
 /// A change of the filestore, which is in the disc whole or not at all. Lists of numbers are those of files.
-#[derive(Debug, Drop)]
+#[derive(Drop)]
 pub enum Change {
     /// A user behind the others.
     AddUser(UserRec),

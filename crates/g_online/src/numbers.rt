@@ -6,7 +6,7 @@ use arrayvec::ArrayVec;
 use std::marker::Model;
 
 /// Numbers of users, rising, at most 63. Contracts see a list.
-#[derive(Debug, Drop)]
+#[derive(Drop)]
 pub(crate) struct UserNumbers {
     numbers: ArrayVec<u8, 63>,
 }

@@ -12,7 +12,7 @@ use std::marker::Model;
 
 /// Pinned versions in their order, and beside them the stamp of each with the place on tape that is noted for it: a look for
 /// a stamp goes over few bytes a version, and touches no version. Contracts see the versions.
-#[derive(Debug, Drop)]
+#[derive(Drop)]
 pub(crate) struct PinList {
     versions: Vec<Pinned>,
     notes: Vec<(u64, TapeCopy)>,

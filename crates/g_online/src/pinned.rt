@@ -4,7 +4,7 @@ use g_entry::TapeCopy;
 
 /// The version of a stamp: its bytes, the copy on tape that is noted for it, and its blocks on disc, which stay until the
 /// dump ends, whatever becomes of the file.
-#[derive(Debug, Drop)]
+#[derive(Drop)]
 pub(crate) struct Pinned {
     pub(crate) stamp: u64,
     pub(crate) len: u32,

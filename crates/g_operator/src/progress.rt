@@ -4,7 +4,7 @@ use g_disc::Disc;
 use g_tape::Tapes;
 
 /// Why a run ends before its end: the sink failed, and its count of faults rose, or memory was wanting.
-#[derive(Clone, Copy, Debug, PartialEq, Eq)]
+#[derive(Clone, Copy, PartialEq, Eq)]
 pub enum Failure {
     Output,
     Memory,

@@ -30,7 +30,7 @@ use std::alloc::Global;
 
 /// How a system comes up: as a new filestore; from what the disc holds, where a dump whose mark was written may be adopted; or from
 /// the tree that the last completed dump opened on.
-#[derive(Clone, Copy, Debug, PartialEq, Eq)]
+#[derive(Clone, Copy, PartialEq, Eq)]
 pub(crate) enum Rise {
     Format,
     Start,

@@ -5,7 +5,7 @@ ghost use Rattle.g_order.specs.Order.{function_number, is_branch};
 ghost use Rattle.g_order.specs.Table as table;
 
 /// What an order makes of an old word and an operand.
-#[derive(Clone, Copy, Debug, PartialEq, Eq)]
+#[derive(Clone, Copy, PartialEq, Eq)]
 pub enum Operation {
     /// The operand.
     Take,
@@ -24,7 +24,7 @@ pub enum Operation {
 }
 
 /// When a branch is taken. A test that resets clears overflow, whether the branch is taken or not.
-#[derive(Clone, Copy, Debug, PartialEq, Eq)]
+#[derive(Clone, Copy, PartialEq, Eq)]
 pub enum Condition {
     /// BZE: the accumulator is 0.
     Zero,
@@ -47,7 +47,7 @@ pub enum Condition {
 }
 
 /// What an order does. `x` is the accumulator that its X names, `n` the word at its address.
-#[derive(Clone, Copy, Debug, PartialEq, Eq)]
+#[derive(Clone, Copy, PartialEq, Eq)]
 pub enum Function {
     /// LDX, ADX, NGX, SBX, ANDX, ORX, ERX: `x` becomes what the operation makes of `x` and `n`.
     Load(Operation),

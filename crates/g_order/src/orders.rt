@@ -8,7 +8,7 @@ use crate::functions::{Function, function_of};
 
 /// An order, by the fields of its word. All fields keep what the word has, also those that the order doesn't
 /// look at.
-#[derive(Clone, Copy, Debug, PartialEq, Eq)]
+#[derive(Clone, Copy, PartialEq, Eq)]
 pub struct Order {
     /// The accumulator, 0 to 7.
     pub x: u8,

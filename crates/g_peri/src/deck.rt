@@ -8,7 +8,7 @@ use g_name::Text;
 use std::marker::Model;
 
 /// A text of which some lines have been taken. Contracts see the lines that are left.
-#[derive(Debug, Drop)]
+#[derive(Drop)]
 pub(crate) struct Deck {
     text: Text,
     taken: usize,

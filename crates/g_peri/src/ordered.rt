@@ -10,7 +10,7 @@ use g_mill::{Event, Program, Text40};
 use g_word::Word;
 
 /// What one order of a program came to, with its transfer where it asked for one.
-#[derive(Debug, Drop, PartialEq, Eq)]
+#[derive(Drop, PartialEq, Eq)]
 pub enum OrderEvent {
     /// The order was done, and its transfer.
     Ran,

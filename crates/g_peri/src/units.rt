@@ -46,7 +46,7 @@ pub enum PeriFault {
 }
 
 /// The 24 units of a job. Contracts see what each of them holds.
-#[derive(Debug, Drop)]
+#[derive(Drop)]
 pub struct Units {
     readers: Vec<Option<Deck>>,
     writers: Writers,

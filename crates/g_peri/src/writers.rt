@@ -11,7 +11,7 @@ use std::marker::Model;
 
 /// The outputs of the printers, and behind them of the punches, each with its path, or none. Contracts see one list of sixteen.
 /// They lie in two lists, since each job makes them: one list of all would be more than an allocator has ready.
-#[derive(Debug, Drop)]
+#[derive(Drop)]
 pub(crate) struct Writers {
     printers: Vec<Option<(Path, Text)>>,
     punches: Vec<Option<(Path, Text)>>,

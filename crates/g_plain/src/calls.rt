@@ -8,7 +8,7 @@ use std::alloc::Global;
 use std::marker::Model;
 
 /// What a user has a budget of.
-#[derive(Clone, Copy, Debug, PartialEq, Eq, Hash)]
+#[derive(Clone, Copy, PartialEq, Eq, Hash)]
 pub enum BudgetKind {
     /// Blocks of 512 bytes, 0 to 65,535.
     Space,
@@ -20,7 +20,7 @@ pub enum BudgetKind {
 
 /// A call of a job. Where a path names a file for input, an absent generation is the greatest one
 /// there is; for output it is one more.
-#[derive(Debug, Drop)]
+#[derive(Drop)]
 pub enum StoreCall {
     /// Makes a user below the caller, with so many blocks of SPACE and units of TIME and MONEY.
     NewUser {
@@ -88,7 +88,7 @@ pub enum StoreCall {
 }
 
 /// Files with their lengths in bytes, in full-name order. Contracts see a list of pairs.
-#[derive(Debug, Drop)]
+#[derive(Drop)]
 pub struct Listing {
     rows: Vec<(Full, u32)>,
 }
@@ -145,7 +145,7 @@ impl From<Listing> for Vec<(Full, u32)> {
 }
 
 /// What a store replies to a call that it grants.
-#[derive(Debug, Drop)]
+#[derive(Drop)]
 pub enum StoreReply {
     Done,
     Made(Full),

@@ -10,7 +10,7 @@ use std::alloc::{AllocError, AllocFailed};
 
 /// Why a store refuses a call or an event. Serials of reels, and `need`, `left` and `room` in
 /// blocks, are numbers.
-#[derive(Debug, Drop, PartialEq, Eq)]
+#[derive(Debug, Drop)]
 pub enum StoreFault {
     /// A user who is named isn't there.
     NoUser,

@@ -13,7 +13,7 @@ use std::marker::Model;
 
 /// A file's traps, its bytes, at most 65,536, and the stamp of its version. Contracts see a row of
 /// the tree.
-#[derive(Debug, Drop)]
+#[derive(Drop)]
 pub(crate) struct FileEntry {
     traps: BTreeMap<User, Modes>,
     bytes: Text,

@@ -17,7 +17,7 @@ use std::collections::BTreeMap;
 use std::marker::Model;
 
 /// A map from full names to rows.
-#[derive(Debug, Drop)]
+#[derive(Drop)]
 pub(crate) struct FileMap {
     rows: BTreeMap<Full, FileEntry>,
 }

@@ -10,7 +10,7 @@ use g_name::{Full, Lang, Local, Path, User};
 
 /// A full name, and the number of the file that has it: whoever answers for the files gives it, and
 /// knows the file by it.
-#[derive(Debug, Drop)]
+#[derive(Drop)]
 pub struct NamedFile {
     pub full: Full,
     /// None where no file has the name.

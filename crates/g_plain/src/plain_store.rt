@@ -18,7 +18,7 @@ use std::marker::Model;
 
 /// The plain tree as a store: each call answers the plain step, or finds no memory and changes
 /// nothing. It never waits and never stops. Contracts see the tree.
-#[derive(Debug, Drop)]
+#[derive(Drop)]
 pub struct PlainStore {
     tree: PlainTree,
 }

@@ -21,7 +21,7 @@ use std::collections::BTreeMap;
 use std::marker::Model;
 
 /// Users, files and the next stamp. Contracts see a tree, of whose rules the calls make use.
-#[derive(Debug, Drop)]
+#[derive(Drop)]
 pub(crate) struct PlainTree {
     users: BTreeMap<User, UserEntry>,
     files: FileMap,

@@ -15,7 +15,7 @@ use g_name::{Full, Local, Path, Text, User};
 use g_trap::{Mode, Modes};
 
 /// The full name that a call gives its file.
-#[derive(Debug, Drop)]
+#[derive(Drop)]
 pub enum CallName {
     /// The call names no file.
     Nothing,
@@ -26,7 +26,7 @@ pub enum CallName {
 }
 
 /// What a granted call is given: the full name of its file, and the number of the file that has it.
-#[derive(Debug, Drop)]
+#[derive(Drop)]
 pub struct GrantedName {
     pub name: CallName,
     /// None where the call names no file, or no file has the name.

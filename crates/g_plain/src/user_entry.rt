@@ -8,7 +8,7 @@ use g_name::User;
 use std::marker::Model;
 
 /// A user's superior and budgets. Contracts see a row of the tree.
-#[derive(Debug, Drop)]
+#[derive(Drop)]
 pub(crate) struct UserEntry {
     pub superior: User,
     pub space: u32,

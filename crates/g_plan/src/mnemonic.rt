@@ -3,7 +3,7 @@ ghost use Rattle.std.specs.Prelude.{◌≡◌};
 ghost use Rattle.g_plan.specs.Table as table;
 
 /// The name of an order of the table (`docs/MANUAL.md`, "Sources").
-#[derive(Clone, Copy, Debug, PartialEq, Eq)]
+#[derive(Clone, Copy, PartialEq, Eq)]
 pub enum Mnemonic {
     Ldx,
     Adx,
@@ -104,7 +104,7 @@ const MNEMONICS: [Mnemonic; 46] = [
 ];
 
 /// What is known of a name.
-#[derive(Clone, Copy, Debug, PartialEq, Eq)]
+#[derive(Clone, Copy, PartialEq, Eq)]
 pub struct Row {
     /// The accumulator of its orders, where it isn't written.
     pub x: Option<u8>,

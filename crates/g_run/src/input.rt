@@ -12,7 +12,7 @@ const LIMIT: usize = 16_777_216;
 const PIECE: usize = 4_096;
 
 /// Why a script wasn't read whole.
-#[derive(Clone, Copy, Debug, PartialEq, Eq)]
+#[derive(Clone, Copy, PartialEq, Eq)]
 pub(crate) enum Unread {
     /// The source failed.
     Fault,

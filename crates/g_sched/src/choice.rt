@@ -6,7 +6,7 @@ ghost use Rattle.std.specs.Prelude.{◌≡◌, ◌⊎◌, ◌<◌, ◌≤◌, �
 use crate::rule::{Standing, WeighRule};
 
 /// The place of a standing among those that can be chosen, with what it is chosen by: its weight, and the number of its job.
-#[derive(Clone, Copy, Debug, PartialEq, Eq)]
+#[derive(Clone, Copy, PartialEq, Eq)]
 pub struct Candidate {
     pub place: usize,
     pub weight: u64,

@@ -15,7 +15,7 @@ const _: () = prove!(MAX_ALLOWANCE == 1_000_000 && MAX_WEIGHT == 1_099_511_627_7
 
 /// Where a job stands: its number, the units of TIME charged so far, its allowance of them, and how
 /// many of its turns were charged.
-#[derive(Clone, Copy, Debug, PartialEq, Eq)]
+#[derive(Clone, Copy, PartialEq, Eq)]
 pub struct Standing {
     pub number: u64,
     pub used: u64,

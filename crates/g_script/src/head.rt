@@ -24,7 +24,7 @@ const MOST_TERMINAL: u64 = 8;
 const MOST_ALLOWANCE: u64 = 1_000_000;
 
 /// What a first line asks for: a job without its document, or all else.
-#[derive(Debug, Drop)]
+#[derive(Drop)]
 pub(crate) enum What {
     Bare(Operator),
     Job {
@@ -36,7 +36,7 @@ pub(crate) enum What {
 }
 
 /// What a first line says.
-#[derive(Debug, Drop)]
+#[derive(Drop)]
 pub(crate) struct Head {
     pub turn: u64,
     pub what: What,

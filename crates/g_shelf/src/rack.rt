@@ -6,7 +6,7 @@ use std::marker::Model;
 
 /// The notes of a reel's dumps, in their order. Contracts see a list. It is made from a `Vec` and gives it back without
 /// taking memory.
-#[derive(Debug, Drop)]
+#[derive(Drop)]
 pub struct Notes {
     notes: Vec<DumpNote>,
 }
@@ -46,7 +46,7 @@ impl From<Notes> for Vec<DumpNote> {
 }
 
 /// The completed dumps of one reel, as `completed` reads them.
-#[derive(Debug, Drop)]
+#[derive(Drop)]
 pub struct Listed {
     pub serial: u32,
     pub notes: Notes,

@@ -8,7 +8,7 @@ use g_base::Block;
 use std::marker::Model;
 
 /// A gate that is kept from commit to commit, so that each writes one byte of it. Contracts see the block.
-#[derive(Debug, Drop)]
+#[derive(Drop)]
 pub(crate) struct Gate {
     block: Block,
 }

@@ -6,7 +6,7 @@ ghost use Rattle.g_slots.specs.Layout.{byte_of, other, start_of};
 use g_base::Block;
 
 /// One of the two slots. Slot A begins at block 1 of the disc and slot B at block 1,089.
-#[derive(Clone, Copy, Debug, PartialEq, Eq)]
+#[derive(Clone, Copy, PartialEq, Eq)]
 pub enum Side {
     A,
     B,

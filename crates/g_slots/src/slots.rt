@@ -15,7 +15,7 @@ use std::marker::Model;
 
 /// The current slot of a disc, as its gate names it. A clause sees the side. It isn't `Copy`: a copy
 /// that is kept over a commit would name the wrong slot.
-#[derive(Debug, Drop)]
+#[derive(Drop)]
 pub struct Slots {
     current: Side,
     gate: Gate,

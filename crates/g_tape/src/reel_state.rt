@@ -8,7 +8,7 @@ use crate::fault::TapeFault;
 use std::marker::Model;
 
 /// A reel without its blocks. Contracts see it as a reel of which nothing is told.
-#[derive(Debug, Drop)]
+#[derive(Drop)]
 pub struct ReelState {
     serial: u32,
     capacity: u32,

@@ -30,7 +30,7 @@ impl Mode {
 }
 
 /// A set of modes. Contracts see it as the sum of its modes' bits, a number below 32.
-#[derive(Clone, Copy, Debug, PartialEq, Eq, PartialOrd, Ord, Hash, Default)]
+#[derive(Clone, Copy, PartialEq, Eq, PartialOrd, Ord, Hash, Default)]
 pub struct Modes {
     bits: u8,
 }

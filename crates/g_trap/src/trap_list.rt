@@ -20,7 +20,7 @@ pub struct TrapsFull;
 
 /// The traps of one file: its owner's modes, and those of up to 8 other users, each with at least one mode.
 /// Users are numbers, and the owner's number is passed to each call.
-#[derive(Debug, Drop, PartialEq, Eq)]
+#[derive(Drop, PartialEq, Eq)]
 pub struct Traps {
     owner: Modes,
     others: ArrayVec<(u8, Modes), 8>,

@@ -18,7 +18,7 @@ use g_plain::{
 use g_trap::Modes;
 
 /// What a call is granted that isn't refused: the file that its path names.
-#[derive(Debug, Drop)]
+#[derive(Drop)]
 pub enum Granted {
     /// The call names no file.
     Nothing,

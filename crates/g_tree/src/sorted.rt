@@ -14,7 +14,7 @@ use std::marker::Model;
 
 /// A full name without the user. The order is by local name, generation and language, which is that of the full names of
 /// one user's files.
-#[derive(Debug, Drop, PartialEq, Eq, PartialOrd, Ord)]
+#[derive(Drop, PartialEq, Eq, PartialOrd, Ord)]
 pub(crate) struct LocalName {
     pub(crate) local: Local,
     pub(crate) generation: u16,

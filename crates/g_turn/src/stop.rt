@@ -1,7 +1,7 @@
 //! Why a turn's work is over.
 
 /// Why a turn's work is over.
-#[derive(Clone, Copy, Debug, PartialEq, Eq)]
+#[derive(Clone, Copy, PartialEq, Eq)]
 pub enum Stop {
     /// The monitoring file has no room for the next line.
     Full,

@@ -2,7 +2,7 @@
 use g_name::Text;
 
 /// What a turn that waits for a reel is gone on with once the reel is mounted.
-#[derive(Debug, Drop)]
+#[derive(Drop)]
 pub enum Suspended {
     /// This line, as it was taken, from its echo on.
     Line(Text),

@@ -3,7 +3,7 @@ use g_name::Path;
 use g_peri::Unit;
 
 /// What a file's bytes are fetched for.
-#[derive(Debug, Drop)]
+#[derive(Drop)]
 pub(crate) enum Use {
     /// They are put for this path.
     Put(Path),

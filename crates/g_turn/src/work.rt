@@ -9,7 +9,7 @@ use std::alloc::Global;
 use std::marker::Model;
 
 /// What commands change, and what the present turn has made so far. A job owns one for good.
-#[derive(Debug, Drop)]
+#[derive(Drop)]
 pub struct Work {
     pub(crate) levels: Levels,
     pub(crate) outcome: Outcome,

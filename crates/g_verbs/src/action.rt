@@ -8,7 +8,7 @@ use g_trap::Modes;
 /// What a verb with its parameters asks for; one variant for each verb, and one for macros.
 ///
 /// What each does, and what it prints, is in `docs/MANUAL.md`, "Verbs".
-#[derive(Debug, Drop)]
+#[derive(Drop)]
 pub enum Action {
     /// Puts the lines behind this one, up to `////`, into a file.
     Input {

@@ -11,7 +11,7 @@ use g_lang::count_params;
 use g_plain::BudgetKind;
 
 /// What a parameter has to be.
-#[derive(Clone, Copy, Debug, PartialEq, Eq)]
+#[derive(Clone, Copy, PartialEq, Eq)]
 pub enum Form {
     /// The path of a file.
     File,
@@ -56,7 +56,7 @@ impl Form {
 }
 
 /// The parameters that a verb takes.
-#[derive(Clone, Copy, Debug)]
+#[derive(Clone, Copy)]
 pub struct Forms {
     /// Their forms in order.
     pub all: &'static [Form],

@@ -10,7 +10,7 @@ use crate::{Form, Forms};
 use g_plain::BudgetKind;
 
 /// A verb that is no macro. What each does is in `docs/MANUAL.md`, "Verbs".
-#[derive(Clone, Copy, Debug, PartialEq, Eq)]
+#[derive(Clone, Copy, PartialEq, Eq)]
 pub enum Verb {
     Input,
     Copy,

@@ -24,15 +24,15 @@ const TAPES: [&str; 4] = [
 ];
 
 /// All files but E, which no dump has before.
-const DUMPED: &str = "ask MASTER fetch A = Ok(Bytes(1, 'A'))
+static DUMPED: &str = "ask MASTER fetch A = Ok(Bytes(1, 'A'))
 ask MASTER fetch B = Ok(Bytes(513, 'B'))
 ask MASTER fetch C = Ok(Bytes(600, 'C'))
 ask MASTER fetch D = Ok(Bytes(0, '\\0'))";
 
-const WITH_E: &str =
+static WITH_E: &str =
     "ask MASTER fetch E = Ok(Bytes(512, 'E'))\nask MASTER list MASTER = Ok(Files(5))";
 
-const WITHOUT_E: &str = "ask MASTER fetch E = Err(NoFile)\nask MASTER list MASTER = Ok(Files(4))";
+static WITHOUT_E: &str = "ask MASTER fetch E = Err(NoFile)\nask MASTER list MASTER = Ok(Files(4))";
 
 /// The tapes are written as often as the reel's new dump has blocks, 15, and for the two reels that are released; the
 /// disc in two commits.

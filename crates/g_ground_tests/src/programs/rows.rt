@@ -2,7 +2,7 @@
 
 /// X, F, M, N and whether overflow is set before it; two words with their addresses; the next address and overflow behind it;
 /// two words with their addresses. All are in octal. A line that begins with `#` says what the orders are.
-pub const ROWS: &str = "# LDX, at the size, and with an address that wraps
+pub static ROWS: &str = "# LDX, at the size, and with an address that wraps
 1 000 0 12 0  12 52525252 1 0  26 0  1 52525252 12 52525252
 1 000 0 40 1  1 5 2 0  25 1  1 5 2 0
 1 000 2 12 0  2 77776 10 7  26 0  1 7 10 7
