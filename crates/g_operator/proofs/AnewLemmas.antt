@@ -35,19 +35,19 @@ use Rattle.g_laws_runs.specs.BeginningAnew.{AreBlank, IsFormatted, NoDiscFault, 
 use Rattle.g_laws_runs.proofs.AnewLemmas.{formats_anew, no_used_reel}
 use Rattle.g_laws_runs.proofs.FreshLemmas.{emptied_stand}
 use Rattle.g_job_table.specs.Crew.{CrewState}
-use Rattle.g_operator.specs.declared.progress.Failure.{Failure}
+use Rattle.g_day.specs.declared.progress.Failure.{Failure}
 use Rattle.g_operator.specs.declared.rising.Rise.{Rise}
 use Rattle.g_operator.specs.declared.rising.Rise.TheVariants as rise
-use Rattle.g_operator.specs.BeginningAnew.{AnewLine, GoesFirst, WentAside, beside_new}
+use Rattle.g_day.specs.BeginningAnew.{AnewLine, GoesFirst, WentAside}
 use Rattle.g_operator.specs.Arming.{disc_armed, tape_armed}
-use Rattle.g_operator.specs.Opening.{Opens}
-use Rattle.g_operator.specs.Parts.{DidLine, IsReady, Seen, seen}
-use Rattle.g_operator.specs.Puts.{Puts}
+use Rattle.g_day.specs.Opening.{Opens}
+use Rattle.g_day.specs.Parts.{DidLine, IsReady, Seen, seen}
+use Rattle.g_day.specs.Puts.{Puts}
 use Rattle.g_operator.specs.Rising.{MakesNone, Raises, line_of}
-use Rattle.g_operator.specs.System.{Down, SystemFacts, Up}
-use Rattle.g_operator.specs.Telling.{TellsFault}
+use Rattle.g_day.specs.System.{Down, Up}
+use Rattle.g_day.specs.Telling.{TellsFault}
 use Rattle.g_operator.proofs.DownLemmas.{down_same}
-use Rattle.g_operator.proofs.LabelLemmas.{parts_with}
+use Rattle.g_day.proofs.LabelLemmas.{parts_with}
 use Rattle.g_operator.proofs.RiseLemmas.{CameUp, comes_up, format_down, not_made}
 use Rattle.g_operator.proofs.WayLemmas.{unrisen_line}
 
@@ -91,11 +91,6 @@ blank_disc_armed k d blank = record { told = blank.told; emptied = record { reel
 
 pub blank_tape_armed : (k : ℕ) (d : Devices) → AreBlank d → AreBlank (tape_armed k d)
 blank_tape_armed k d blank = record { told = blank.told; emptied = record { reels = blank.emptied.reels }; unused = blank.unused }
-
--- what is at hand beside a new disc is ready
-pub ready_beside : (f : SystemFacts) (c : CrewState) → IsReady f c → IsReady (beside_new f) c
-ready_beside (Up s) c ready = ready
-ready_beside (Down d) c ready = ready
 
 -- NO REEL IS USED, so FORMAT isn't refused for one
 none_used : (reels : List Reel) → AllByRecursion (λ (r : Reel). r.len ≡ 0) (map unread reels) → first_used reels ≡ None

@@ -19,15 +19,15 @@ use Rattle.g_run_model.specs.Lines.{now_stands, LineGives, Asks}
 use Rattle.g_run_model.specs.Texts.{dump_text, operator_line, processed_text}
 use Rattle.g_run_model.specs.World.{World}
 use Rattle.g_job_table.specs.Crew.{CrewState}
-use Rattle.g_operator.specs.declared.progress.Failure.{Failure}
+use Rattle.g_day.specs.declared.progress.Failure.{Failure}
 use Rattle.g_operator.specs.Asking.{AsksOf, Processed}
-use Rattle.g_operator.specs.Parts.{DidLine, IsReady, disc_arms, seen, tape_arms}
-use Rattle.g_operator.specs.Puts.{Puts}
+use Rattle.g_day.specs.Parts.{DidLine, IsReady, disc_arms, seen, tape_arms}
+use Rattle.g_day.specs.Puts.{Puts}
 use Rattle.g_store_meaning.specs.StoreInvariant.{StoreFacts}
-use Rattle.g_operator.specs.System.{Down, SystemFacts, Up}
-use Rattle.g_operator.specs.Telling.{TellsFault, system_after, system_behind}
+use Rattle.g_day.specs.System.{Down, SystemFacts, Up}
+use Rattle.g_day.specs.Telling.{TellsFault, system_after, system_behind}
 use Rattle.g_operator.proofs.ProcessLemmas.{processed_line, unprocessed_line}
-use Rattle.g_operator.proofs.UpLemmas.{down_line, migrated_line, opened_line, unmigrated_line, unopened_line}
+use Rattle.g_day.proofs.UpLemmas.{down_line, migrated_line, opened_line, unmigrated_line, unopened_line}
 
 -- a system that is down refuses it
 down_asked : {A : Type 0} (what : Operator) (by : State → Holding → Outcome → Result A StoreFault → State → Type 0) (said : A → List ℕ)

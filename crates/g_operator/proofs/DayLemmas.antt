@@ -1,10 +1,10 @@
 -- A DAY that is taken apart and put together: what was done over its parts was done over it.
 use Rattle.std.proofs.Common.{◌≡◌, ℕ, List, Option, sym, subst}
 use Rattle.g_script.specs.declared.operator.Operator.{Operator}
-use Rattle.g_operator.specs.declared.progress.Failure.{Failure}
+use Rattle.g_day.specs.declared.progress.Failure.{Failure}
 use Rattle.g_job_table.specs.Crew.{CrewState}
-use Rattle.g_operator.specs.Parts.{DidLine, IsReady, Seen, seen}
-use Rattle.g_operator.specs.System.{SystemFacts}
+use Rattle.g_day.specs.Parts.{DidLine, IsReady, Seen, seen}
+use Rattle.g_day.specs.System.{SystemFacts}
 
 pub same_line : {what : Operator} {failure : Option Failure} {old old' new new' : Seen} {before after : Option (List ℕ)} {faults faults' : ℕ} → old ≡ old' → new' ≡ new
     → DidLine what old failure new before after faults faults' → DidLine what old' failure new' before after faults faults'

@@ -22,14 +22,14 @@ use Rattle.g_run_model.specs.Texts.{operator_line, processed_text}
 use Rattle.g_run_model.proofs.CountLemmas.{a_failure, dump_failed, no_failure, none_failed, rack_failed}
 use Rattle.g_run_model.proofs.EventToldLemmas.{process_told, OutcomeTold}
 use Rattle.g_job_table.specs.Crew.{CrewState}
-use Rattle.g_operator.specs.declared.progress.Failure.{Failure}
+use Rattle.g_day.specs.declared.progress.Failure.{Failure}
 use Rattle.g_operator.specs.Asking.{Processed}
-use Rattle.g_operator.specs.Parts.{DidLine, IsReady, seen}
-use Rattle.g_operator.specs.Puts.{Puts}
-use Rattle.g_operator.specs.System.{Up, devices_in, labels}
-use Rattle.g_operator.specs.Telling.{TellsFault, system_after}
-use Rattle.g_operator.proofs.LabelLemmas.{stands_still}
-use Rattle.g_operator.proofs.UpLemmas.{Caused, Went, fault_line, granted_line}
+use Rattle.g_day.specs.Parts.{DidLine, IsReady, seen}
+use Rattle.g_day.specs.Puts.{Puts}
+use Rattle.g_day.specs.System.{Up, devices_in, labels}
+use Rattle.g_day.specs.Telling.{TellsFault, system_after}
+use Rattle.g_day.proofs.LabelLemmas.{stands_still}
+use Rattle.g_day.proofs.UpLemmas.{Caused, Went, fault_line, granted_line}
 
 -- the reels are the same ones
 labels_same : (old new : List Reel) → AllZip (λ (o : Reel) (n : Reel). (n.serial ≡ o.serial) × (n.capacity ≡ o.capacity) × (n.mounted ≡ o.mounted)) old new → labels new ≡ labels old

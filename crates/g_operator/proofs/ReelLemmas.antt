@@ -24,10 +24,10 @@ use Rattle.g_store.proofs.MountLemmas.{dumps_stay, lacks_by, mounted_by, rows_tu
 use Rattle.g_store.proofs.TurnLemmas.{files_view, rack_view}
 use Rattle.g_run_model.specs.Devices.{AreReadAs, Devices}
 use Rattle.g_operator.specs.Reels.{MountsOn, StepsReels, UnmountsOn}
-use Rattle.g_operator.specs.System.{BelongTogether, Down, DumpsGrow, StandsAs, Up, labels, SystemFacts}
-use Rattle.g_operator.proofs.GrowLemmas.{grow_itself, grow_turned}
-use Rattle.g_operator.proofs.UpLemmas.{leads_by}
-use Rattle.g_operator.proofs.LabelLemmas.{labels_with}
+use Rattle.g_day.specs.System.{BelongTogether, Down, DumpsGrow, StandsAs, Up, labels, SystemFacts}
+use Rattle.g_day.proofs.GrowLemmas.{grow_itself, grow_turned}
+use Rattle.g_day.proofs.UpLemmas.{leads_by}
+use Rattle.g_day.proofs.LabelLemmas.{labels_with}
 
 -- what holds of a system and an answer holds of what is the same
 pub as_known : (On : SystemFacts → Result (Unit {0}) StoreFault → SystemFacts → Type 0) (f d e : SystemFacts) (told answer : Result (Unit {0}) StoreFault) → f ≡ d → told ≡ answer → On d answer e → On f told e

@@ -31,21 +31,21 @@ use Rattle.g_run_model.specs.World.{World}
 use Rattle.g_job_table.specs.Accounts.{AreKept, kept_for}
 use Rattle.g_job_table.specs.Crew.{CrewState}
 use Rattle.g_run_model.proofs.EventToldLemmas.{ToldBy, format_told, restore_told, start_told, OutcomeTold}
-use Rattle.g_operator.specs.declared.progress.Failure.{Failure}
-use Rattle.g_operator.specs.Opening.{Opens}
-use Rattle.g_operator.specs.Parts.{DidLine, DoesLine, IsReady, CountedBy, Matches, Seen, disc_arms, seen, tape_arms}
-use Rattle.g_operator.specs.Puts.{Puts}
-use Rattle.g_operator.specs.System.{BelongTogether, Down, StandsAs, Up, devices_in}
-use Rattle.g_operator.specs.Telling.{TellsFault, refusal_text}
-use Rattle.g_operator.proofs.ByLemmas.{grown_by}
-use Rattle.g_operator.proofs.CauseLemmas.{OfDisc, counted_by, same_caused}
-use Rattle.g_operator.proofs.GrowLemmas.{grow_held}
-use Rattle.g_operator.proofs.LeavesLemmas.{leaves_opened, leaves_told}
-use Rattle.g_operator.proofs.LineLemmas.{FaultDone, Faulted, none_armed, refused_line, tells_fault, told_of, told_same, was_done}
-use Rattle.g_operator.proofs.UpLemmas.{starved_told, up_is}
-use Rattle.g_operator.proofs.UserLemmas.{have_rows}
-use Rattle.g_operator.proofs.LabelLemmas.{labels_read, no_fuse, same_still, stands_still}
-use Rattle.g_operator.proofs.PutLemmas.{puts_grown, told_grown}
+use Rattle.g_day.specs.declared.progress.Failure.{Failure}
+use Rattle.g_day.specs.Opening.{Opens}
+use Rattle.g_day.specs.Parts.{DidLine, DoesLine, IsReady, CountedBy, Matches, Seen, disc_arms, seen, tape_arms}
+use Rattle.g_day.specs.Puts.{Puts}
+use Rattle.g_day.specs.System.{BelongTogether, Down, StandsAs, Up, devices_in}
+use Rattle.g_day.specs.Telling.{TellsFault, refusal_text}
+use Rattle.g_day.proofs.ByLemmas.{grown_by}
+use Rattle.g_day.proofs.CauseLemmas.{OfDisc, counted_by, same_caused}
+use Rattle.g_day.proofs.GrowLemmas.{grow_held}
+use Rattle.g_day.proofs.LeavesLemmas.{leaves_opened, leaves_told}
+use Rattle.g_day.proofs.LineLemmas.{FaultDone, Faulted, none_armed, refused_line, tells_fault, told_of, told_same, was_done}
+use Rattle.g_day.proofs.UpLemmas.{starved_told, up_is}
+use Rattle.g_day.proofs.UserLemmas.{have_rows}
+use Rattle.g_day.proofs.LabelLemmas.{labels_read, no_fuse, same_still, stands_still}
+use Rattle.g_day.proofs.PutLemmas.{puts_grown, told_grown}
 
 -- a plain outcome of an answer that isn't refused
 pub plain_ok : {A : Type 0} (reply : A) → (let answer : Result A StoreFault = Ok reply in OutcomeTold Plain answer)

@@ -14,16 +14,16 @@ use Rattle.g_run_model.specs.World.{World, says}
 use Rattle.g_run_model.proofs.ArmLemmas.{in_none, in_once}
 use Rattle.g_run_model.proofs.CountLemmas.{no_failure, none_failed}
 use Rattle.g_job_table.specs.Crew.{CrewState}
-use Rattle.g_operator.specs.declared.progress.Failure.{Failure}
+use Rattle.g_day.specs.declared.progress.Failure.{Failure}
 use Rattle.g_operator.specs.Arming.{HasArmed, disc_armed, tape_armed}
-use Rattle.g_operator.specs.Parts.{ArmsBy, DidLine, DoesLine, IsReady, Matches, seen}
-use Rattle.g_operator.specs.Puts.{Puts}
-use Rattle.g_operator.specs.System.{Down, SystemFacts, Up, devices_in, DumpsGrow, SameDevices}
-use Rattle.g_operator.proofs.GrowLemmas.{grow_held}
-use Rattle.g_operator.proofs.LabelLemmas.{same_counts}
-use Rattle.g_operator.proofs.LeavesLemmas.{leaves_same}
-use Rattle.g_operator.proofs.LineLemmas.{was_done}
-use Rattle.g_operator.proofs.PutLemmas.{puts_grown}
+use Rattle.g_day.specs.Parts.{ArmsBy, DidLine, DoesLine, IsReady, Matches, seen}
+use Rattle.g_day.specs.Puts.{Puts}
+use Rattle.g_day.specs.System.{Down, SystemFacts, Up, devices_in, DumpsGrow, SameDevices}
+use Rattle.g_day.proofs.GrowLemmas.{grow_held}
+use Rattle.g_day.proofs.LabelLemmas.{same_counts}
+use Rattle.g_day.proofs.LeavesLemmas.{leaves_same}
+use Rattle.g_day.proofs.LineLemmas.{was_done}
+use Rattle.g_day.proofs.PutLemmas.{puts_grown}
 
 -- a store that means the same
 pub armed_up : (armed : Devices → Devices) (s t : StoreFacts) → MeansTheSame s t → devices_in (Up t) ≡ armed (devices_in (Up s)) → t.spent ≡ s.spent → t.online.disc.size ≡ s.online.disc.size

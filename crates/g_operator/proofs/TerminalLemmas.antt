@@ -35,22 +35,22 @@ use Rattle.g_job_table.specs.declared.seating.NoTerminal.{NoTerminal}
 use Rattle.g_job_table.specs.declared.seating.NotTyped.TheVariants as typing
 use Rattle.g_job_table.specs.declared.taking.NotTaken.{NotTaken}
 use Rattle.g_job_table.specs.declared.taking.NotTaken.TheVariants as why
-use Rattle.g_operator.specs.declared.progress.Failure.{Failure}
-use Rattle.g_operator.specs.declared.progress.Failure.TheVariants.{Memory}
-use Rattle.g_operator.specs.Jobs.{KnowsIn}
-use Rattle.g_operator.specs.Parts.{DidLine, DoesLine, IsReady, LeavesCrew, Matches, Seen, disc_arms, seen, tape_arms}
-use Rattle.g_operator.specs.System.{Down, SystemFacts, Up, devices_in}
-use Rattle.g_operator.specs.Telling.{TellsFault, refusal_text, system_behind}
-use Rattle.g_operator.specs.Puts.{Puts}
-use Rattle.g_operator.specs.Terminals.{ChangesAt, SeatsJob, TellsSeat, is_up_in, login_text, seated_in}
-use Rattle.g_operator.proofs.ByLemmas.{grown_by, plain_counted}
-use Rattle.g_operator.proofs.GrowLemmas.{grow_itself}
-use Rattle.g_operator.proofs.LeavesLemmas.{leaves_same}
-use Rattle.g_operator.proofs.JobLemmas.{jobs_more, known_up}
-use Rattle.g_operator.proofs.LineLemmas.{none_armed, nothing_done, quiet_line, refused_line, says_refused, was_done}
-use Rattle.g_operator.proofs.UpLemmas.{up_is}
-use Rattle.g_operator.proofs.LabelLemmas.{no_fuse, same_itself}
-use Rattle.g_operator.proofs.PutLemmas.{same_grown}
+use Rattle.g_day.specs.declared.progress.Failure.{Failure}
+use Rattle.g_day.specs.declared.progress.Failure.TheVariants.{Memory}
+use Rattle.g_day.specs.Jobs.{KnowsIn}
+use Rattle.g_day.specs.Parts.{DidLine, DoesLine, IsReady, LeavesCrew, Matches, Seen, disc_arms, seen, tape_arms}
+use Rattle.g_day.specs.System.{Down, SystemFacts, Up, devices_in}
+use Rattle.g_day.specs.Telling.{TellsFault, refusal_text, system_behind}
+use Rattle.g_day.specs.Puts.{Puts}
+use Rattle.g_day.specs.Terminals.{ChangesAt, SeatsJob, TellsSeat, is_up_in, login_text, seated_in}
+use Rattle.g_day.proofs.ByLemmas.{grown_by, plain_counted}
+use Rattle.g_day.proofs.GrowLemmas.{grow_itself}
+use Rattle.g_day.proofs.LeavesLemmas.{leaves_same}
+use Rattle.g_day.proofs.JobLemmas.{jobs_more, known_up}
+use Rattle.g_day.proofs.LineLemmas.{none_armed, nothing_done, quiet_line, refused_line, says_refused, was_done}
+use Rattle.g_day.proofs.UpLemmas.{up_is}
+use Rattle.g_day.proofs.LabelLemmas.{no_fuse, same_itself}
+use Rattle.g_day.proofs.PutLemmas.{same_grown}
 
 more_none : (before : Option (List ℕ)) → before ≡ with_more before []
 more_none None = refl

@@ -18,20 +18,21 @@ use Rattle.g_run_model.specs.World.{World}
 use Rattle.g_run_model.proofs.CountLemmas.{happened_same}
 use Rattle.g_job_table.specs.Accounts.{AreKept}
 use Rattle.g_job_table.specs.Crew.{CrewState}
-use Rattle.g_operator.specs.declared.progress.Failure.{Failure}
-use Rattle.g_operator.specs.BeginningAnew.{IsBlank, WentAside, beside_new}
-use Rattle.g_operator.specs.Parts.{DidLine, DoesLine, IsReady, CountedBy, Matches, Seen, disc_arms, seen, tape_arms}
-use Rattle.g_operator.specs.Puts.{Puts}
+use Rattle.g_day.specs.declared.progress.Failure.{Failure}
+use Rattle.g_day.specs.BeginningAnew.{IsBlank, WentAside, beside_new}
+use Rattle.g_day.specs.Parts.{DidLine, DoesLine, IsReady, CountedBy, Matches, Seen, disc_arms, seen, tape_arms}
+use Rattle.g_day.specs.Puts.{Puts}
 use Rattle.g_operator.specs.Reels.{StaysAsUp, StepsReels}
-use Rattle.g_operator.specs.System.{Down, StandsAs, SystemFacts, Up, devices_in}
-use Rattle.g_operator.specs.Telling.{refusal_text}
-use Rattle.g_operator.proofs.AnewLemmas.{ready_beside, same_aside}
+use Rattle.g_day.specs.System.{Down, StandsAs, SystemFacts, Up, devices_in}
+use Rattle.g_day.specs.Telling.{refusal_text}
+use Rattle.g_day.proofs.BesideLemmas.{ready_beside}
+use Rattle.g_operator.proofs.AnewLemmas.{same_aside}
 use Rattle.g_operator.proofs.DayLemmas.{same_line}
-use Rattle.g_operator.proofs.LeavesLemmas.{leaves_same}
-use Rattle.g_operator.proofs.ByLemmas.{grown_by, plain_counted}
-use Rattle.g_operator.proofs.LineLemmas.{none_armed, was_done}
-use Rattle.g_operator.proofs.LabelLemmas.{no_fuse, same_counts}
-use Rattle.g_operator.proofs.PutLemmas.{puts_grown}
+use Rattle.g_day.proofs.LeavesLemmas.{leaves_same}
+use Rattle.g_day.proofs.ByLemmas.{grown_by, plain_counted}
+use Rattle.g_day.proofs.LineLemmas.{none_armed, was_done}
+use Rattle.g_day.proofs.LabelLemmas.{no_fuse, same_counts}
+use Rattle.g_day.proofs.PutLemmas.{puts_grown}
 
 -- no count moved
 counted_same : (old new : Devices) → new.disc ≡ old.disc → new.rack.read_faults ≡ old.rack.read_faults → new.rack.write_faults ≡ old.rack.write_faults → new.rack.arms ≡ old.rack.arms

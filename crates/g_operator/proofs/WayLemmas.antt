@@ -11,16 +11,16 @@ use Rattle.g_store_model.specs.Rising.{FormatStep, RestoreStep, StartStep}
 use Rattle.g_run_model.specs.Devices.{Devices}
 use Rattle.g_run_model.specs.Texts.{operator_line, started_text}
 use Rattle.g_job_table.specs.Crew.{CrewState}
-use Rattle.g_operator.specs.declared.progress.Failure.{Failure}
+use Rattle.g_day.specs.declared.progress.Failure.{Failure}
 use Rattle.g_operator.specs.declared.rising.Rise.{Rise}
 use Rattle.g_operator.specs.declared.rising.Rise.TheVariants as rise
-use Rattle.g_operator.specs.Opening.{Opens}
-use Rattle.g_operator.specs.Parts.{DidLine, IsReady, disc_arms, seen, tape_arms}
-use Rattle.g_operator.specs.Puts.{Puts}
+use Rattle.g_day.specs.Opening.{Opens}
+use Rattle.g_day.specs.Parts.{DidLine, IsReady, disc_arms, seen, tape_arms}
+use Rattle.g_day.specs.Puts.{Puts}
 use Rattle.g_operator.specs.Rising.{MakesNone, Raises, RefusesRise, line_of}
-use Rattle.g_operator.specs.System.{Down, Up}
-use Rattle.g_operator.specs.Telling.{TellsFault, refusal_text}
-use Rattle.g_operator.proofs.LineLemmas.{untried_line}
+use Rattle.g_day.specs.System.{Down, Up}
+use Rattle.g_day.specs.Telling.{TellsFault, refusal_text}
+use Rattle.g_day.proofs.LineLemmas.{untried_line}
 use Rattle.g_operator.proofs.RiseLemmas.{formatted_line, restored_line, running_line, started_line, unformatted_line, unrestored_line, unstarted_line}
 use Rattle.g_script.specs.declared.operator.Operator.TheVariants as line
 

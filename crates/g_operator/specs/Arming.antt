@@ -4,8 +4,8 @@ use Rattle.g_base.specs.Fuse.{armed_with}
 use Rattle.g_store_model.specs.State.{State}
 use Rattle.g_run_model.specs.Devices.{Devices}
 use Rattle.g_job_table.specs.Crew.{CrewState}
-use Rattle.g_operator.specs.Parts.{IsReady}
-use Rattle.g_operator.specs.System.{StandsAs, SystemBelongs, SystemFacts, devices_in}
+use Rattle.g_day.specs.Parts.{IsReady}
+use Rattle.g_day.specs.System.{StandsAs, SystemBelongs, SystemFacts, devices_in}
 
 abbrev pub disc_armed : ℕ → Devices → Devices
 disc_armed k d = record d { disc = record d.disc { fuse = Some k; arms = armed_with k d.disc.writes d.disc.arms } }

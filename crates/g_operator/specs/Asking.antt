@@ -5,7 +5,7 @@ use Rattle.g_plain.specs.declared.faults.StoreFault.TheVariants.{NotStarted}
 use Rattle.g_process.specs.Processing.{Processes}
 use Rattle.g_store_meaning.specs.StoreInvariant.{StoreFacts}
 use Rattle.g_store.specs.Processing.{MovesDumps, StepsProcess}
-use Rattle.g_operator.specs.System.{Down, SystemFacts, Up}
+use Rattle.g_day.specs.System.{Down, SystemFacts, Up}
 
 abbrev pub AsksOf : {A : Type 0} → (StoreFacts → Result A StoreFault → StoreFacts → Type 0) → SystemFacts → Result A StoreFault → SystemFacts → Type 0
 AsksOf by (Up s) answer (Up t) = by s answer t

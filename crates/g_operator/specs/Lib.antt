@@ -1,13 +1,4 @@
 pub mod Arming
 pub mod Asking
-pub mod BeginningAnew
-pub mod Box
-pub mod Jobs
-pub mod Opening
-pub mod Parts
-pub mod Puts
 pub mod Reels
 pub mod Rising
-pub mod System
-pub mod Telling
-pub mod Terminals

@@ -5,7 +5,7 @@ use Rattle.g_plain.specs.declared.faults.StoreFault.TheVariants.{Stopped}
 use Rattle.g_store_model.specs.DumpSteps.{MountStep, UnmountStep}
 use Rattle.g_store_model.specs.State.{State}
 use Rattle.g_run_model.specs.Devices.{Devices}
-use Rattle.g_operator.specs.System.{Down, DumpsGrow, StandsAs, SystemBelongs, SystemFacts, Up, devices_in, labels}
+use Rattle.g_day.specs.System.{Down, DumpsGrow, StandsAs, SystemBelongs, SystemFacts, Up, devices_in, labels}
 
 -- a store that is up isn't spent, and what is down stays down
 abbrev pub StaysAsUp : SystemFacts → SystemFacts → Type 0

@@ -1,15 +1,12 @@
 //! The operator arms a device, so that a write of it fails.
 ghost use Rattle.std.specs.Prelude.{◌≡◌, ◌≤◌};
-ghost use Rattle.g_operator.specs.BeginningAnew.{IsBlank, WentAside, beside_new};
+ghost use Rattle.g_day.specs.BeginningAnew.{IsBlank, WentAside, beside_new};
 ghost use Rattle.g_operator.specs.Arming.{HasArmed, disc_armed, tape_armed};
-ghost use Rattle.g_operator.specs.Parts.{DidLine, IsReady};
-ghost use Rattle.g_operator.specs.System.{IsRunning, devices_in, facts_of};
+ghost use Rattle.g_day.specs.Parts.{DidLine, IsReady};
+ghost use Rattle.g_day.specs.System.{IsRunning, devices_in, facts_of};
 ghost use Rattle.g_script.specs.declared.operator.Operator.TheVariants as line;
 
-use crate::day::Day;
-use crate::progress::Ended;
-use crate::puts::say;
-use crate::system::System;
+use g_day::{Day, Ended, System, say};
 use g_disc::Disc;
 use g_io::Sink;
 use g_tape::Tapes;

@@ -2,19 +2,15 @@
 //! is down refuses it.
 ghost use Rattle.std.specs.Prelude.{◌≡◌, ◌++◌, IfOk, codes};
 ghost use Rattle.g_operator.specs.Asking.{AsksOf, Processed};
-ghost use Rattle.g_operator.specs.Parts.{DidLine, IsReady};
-ghost use Rattle.g_operator.specs.System.{IsRunning, facts_of};
+ghost use Rattle.g_day.specs.Parts.{DidLine, IsReady};
+ghost use Rattle.g_day.specs.System.{IsRunning, facts_of};
 ghost use Rattle.g_monitor.specs.Parts.{full_text};
 ghost use Rattle.g_script.specs.declared.operator.Operator.TheVariants as line;
 ghost use Rattle.g_store.specs.Events.{Migrates, Opens};
 ghost use Rattle.g_run_model.specs.Texts.{processed_text};
 
-use crate::day::Day;
-use crate::progress::Ended;
-use crate::puts::told;
-use crate::stopping::refuse_or_go_down;
-use crate::system::System;
 use g_base::NoMemory;
+use g_day::{Day, Ended, System, refuse_or_go_down, told};
 use g_disc::Disc;
 use g_io::Sink;
 use g_job_table::dump_text;

@@ -1,18 +1,16 @@
 //! A job comes in, and the system is shut.
 ghost use Rattle.std.specs.Prelude.{◌≡◌, ◌+◌, ◌<◌, ◌≤◌, ◌++◌, IfOk, codes};
-ghost use Rattle.g_operator.specs.Jobs.{KnowsIn, TakesJob, TellsWhy};
-ghost use Rattle.g_operator.specs.Parts.{DidLine, IsReady};
-ghost use Rattle.g_operator.specs.System.{IsRunning, facts_of};
+ghost use Rattle.g_day.specs.Jobs.{KnowsIn, TakesJob, TellsWhy};
+ghost use Rattle.g_day.specs.Parts.{DidLine, IsReady};
+ghost use Rattle.g_day.specs.System.{IsRunning, facts_of};
 ghost use Rattle.g_job_table.specs.Taking.{IsPrinted, refusal_line};
 ghost use Rattle.g_script.specs.declared.operator.Operator.TheVariants as line;
 ghost use Rattle.g_run_model.specs.Texts as texts;
 
-use crate::day::Day;
-use crate::progress::{Ended, Failure};
-use crate::puts::{ROOM, put_made, say_made};
-use crate::stopping::{goes_down, refuse_or_go_down};
-use crate::system::{System, take_down};
 use g_base::NoMemory;
+use g_day::{
+    Day, Ended, Failure, ROOM, System, goes_down, put_made, refuse_or_go_down, say_made, take_down,
+};
 use g_disc::Disc;
 use g_io::Sink;
 use g_job_table::{NewJob, NotTaken, push_refusal};

@@ -1,16 +1,15 @@
 //! One of the operator's lines.
 ghost use Rattle.std.specs.Prelude.{◌≡◌, ◌+◌, ◌<◌};
-ghost use Rattle.g_operator.specs.BeginningAnew.{AnewLine};
-ghost use Rattle.g_operator.specs.Parts.{DidLine, IsReady, IsWithin};
+ghost use Rattle.g_day.specs.BeginningAnew.{AnewLine};
+ghost use Rattle.g_day.specs.Parts.{DidLine, IsReady, IsWithin};
 
 use crate::arming::{stop_disc_line, stop_tape_line};
-use crate::day::Day;
 use crate::dumping::{dump_line, migrate_line, process_line};
 use crate::jobs::{job_line, shut_line};
-use crate::progress::Ended;
 use crate::reels::{mount_line, unmount_line};
 use crate::rising::{Rise, rise_line};
 use crate::terminals::{login_line, logout_line, type_line};
+use g_day::{Day, Ended};
 use g_disc::Disc;
 use g_io::Sink;
 use g_job_table::{NewJob, NewLogin};

@@ -1,15 +1,12 @@
 //! Reels are mounted and unmounted, whether the system is up or down.
 ghost use Rattle.std.specs.Prelude.{◌≡◌};
-ghost use Rattle.g_operator.specs.BeginningAnew.{IsBlank, WentAside, beside_new};
-ghost use Rattle.g_operator.specs.Parts.{DidLine, IsReady};
+ghost use Rattle.g_day.specs.BeginningAnew.{IsBlank, WentAside, beside_new};
+ghost use Rattle.g_day.specs.Parts.{DidLine, IsReady};
 ghost use Rattle.g_operator.specs.Reels.{MountsOn, UnmountsOn};
-ghost use Rattle.g_operator.specs.System.{IsRunning, facts_of};
+ghost use Rattle.g_day.specs.System.{IsRunning, facts_of};
 ghost use Rattle.g_script.specs.declared.operator.Operator.TheVariants as line;
 
-use crate::day::Day;
-use crate::progress::Ended;
-use crate::puts::{refuse, say_made};
-use crate::system::System;
+use g_day::{Day, Ended, System, refuse, say_made};
 use g_disc::Disc;
 use g_io::Sink;
 use g_job_table::tape_text;

@@ -2,22 +2,17 @@
 ghost use Rattle.std.specs.Prelude.{◌≡◌, ◌++◌, ◌<◌, ◌≤◌, ℕ, List, None, [], IfErr, IfOk, codes, false};
 ghost use Rattle.std.specs.Fmt.{decimal};
 ghost use Rattle.g_cache.specs.CachedDisc.{cached_with};
-ghost use Rattle.g_operator.specs.BeginningAnew.{AnewLine};
-ghost use Rattle.g_operator.specs.Opening.{Opens};
-ghost use Rattle.g_operator.specs.Parts.{DidLine, IsReady, seen};
-ghost use Rattle.g_operator.specs.Puts.{Puts};
+ghost use Rattle.g_day.specs.BeginningAnew.{AnewLine};
+ghost use Rattle.g_day.specs.Opening.{Opens};
+ghost use Rattle.g_day.specs.Parts.{DidLine, IsReady, seen};
+ghost use Rattle.g_day.specs.Puts.{Puts};
 ghost use Rattle.g_operator.specs.Rising.{MakesNone, Raises, RefusesRise, line_of};
-ghost use Rattle.g_operator.specs.System as system;
+ghost use Rattle.g_day.specs.System as system;
 ghost use Rattle.g_run_model.specs.Texts.{operator_line};
 
-use crate::day::Day;
-use crate::progress::{Ended, Failure};
-use crate::puts::told;
-use crate::running::{EmptyBox, Running};
-use crate::stopping::refuse_or_go_down;
-use crate::system::System;
 use g_base::NoMemory;
 use g_cache::CachedDisc;
+use g_day::{Day, EmptyBox, Ended, Failure, Running, System, refuse_or_go_down, told};
 use g_disc::Disc;
 use g_io::Sink;
 use g_job_table::{Crew, started_text};

@@ -1,10 +1,8 @@
 //! Terminals: a job comes in at one, a line is typed there, it is logged out; and a stop behind what was put at one.
-ghost use Rattle.std.specs.Prelude.{◌≡◌, ◌+◌, ◌<◌, ◌≤◌, ◌++◌, List, ℕ, Some, IfOk, codes};
-ghost use Rattle.g_operator.specs.Parts.{DidLine, IsReady};
-ghost use Rattle.g_operator.specs.Puts.{Puts};
-ghost use Rattle.g_operator.specs.System.{facts_of};
-ghost use Rattle.g_operator.specs.Telling.{down_text, without_jobs};
-ghost use Rattle.g_operator.specs.Terminals.{ChangesAt, SeatsJob, TellsSeat, is_up_in};
+ghost use Rattle.std.specs.Prelude.{◌≡◌, ◌+◌, ◌<◌, ◌≤◌, ◌++◌, Some, IfOk, codes};
+ghost use Rattle.g_day.specs.Parts.{DidLine, IsReady};
+ghost use Rattle.g_day.specs.System.{facts_of};
+ghost use Rattle.g_day.specs.Terminals.{ChangesAt, SeatsJob, TellsSeat, is_up_in};
 ghost use Rattle.g_job_table.specs.Numbers.{job_in};
 ghost use Rattle.g_job_table.specs.Seating.{pushed_of};
 ghost use Rattle.g_job.specs.State.{JobState};
@@ -15,18 +13,13 @@ ghost use Rattle.g_mop.specs.TerminalLines as shown;
 ghost use Rattle.g_script.specs.declared.operator.Operator.TheVariants as line;
 ghost use Rattle.g_run_model.specs.Texts as texts;
 
-use crate::day::Day;
 use crate::jobs::{came_in, knows, turned_away};
-use crate::progress::{Ended, Failure};
-use crate::puts::{put_made, say_made};
-use crate::stopping::refuse_or_go_down;
-use crate::system::System;
 use g_base::NoMemory;
+use g_day::{Day, Ended, Failure, System, put_made, refuse_or_go_down, say_made};
 use g_disc::Disc;
 use g_io::Sink;
 use g_job_table::{
-    Crew, NewLogin, NotSeated, NotTyped, push_busy, push_no_terminal, push_operator_line,
-    terminal_name,
+    Crew, NewLogin, NotSeated, NotTyped, push_busy, push_no_terminal, terminal_name,
 };
 use g_name::Text;
 use g_plain::StoreFault;
@@ -229,31 +222,4 @@ fn log_out_at<K: Sink, D: Disc, T: Tapes>(
             Ended { day, failure }
         }
     }
-}
-
-/// The store was stopped in a turn that has written on a terminal's file: what was written is put, and behind it what is told of
-/// the stop. Jobs and accounts are gone; the store is the caller's to take down.
-pub fn stops_behind<K: Sink>(
-    crew: &mut Crew,
-    count: u64,
-    made: Result<Text, NoMemory>,
-    out: &mut K,
-) -> Option<Failure>
-    ensures gone { crew.new ≡ without_jobs crew.old }
-    ensures put { (text : List ℕ) → IfOk made (λ t. t ≡ text)
-        → Puts result (text ++ down_text count (codes "SYSTEM STOPPED") crew.old) (K.written out.old) (K.written out.new) (K.faults out.old) (K.faults out.new) }
-{
-    let made = down_behind(made, crew, count);
-    crew.go_down();
-    put_made(out, made)
-}
-
-/// A text, and behind it what is told of a stop.
-fn down_behind(made: Result<Text, NoMemory>, crew: &Crew, count: u64) -> Result<Text, NoMemory>
-    ensures { (text : List ℕ) → IfOk made (λ t. t ≡ text) → IfOk result (λ t. t ≡ text ++ down_text count (codes "SYSTEM STOPPED") crew.now) }
-{
-    let mut text = made?;
-    push_operator_line(&mut text, count, b"SYSTEM STOPPED")?;
-    crew.push_broken_files(&mut text)?;
-    Ok(text)
 }

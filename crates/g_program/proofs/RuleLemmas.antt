@@ -4,8 +4,8 @@ use Rattle.std.specs.Fn.{Shared, FnReturnsAt}
 use denote.Ref.{Bor}
 use Rattle.g_budget.specs.declared.tariff.Charge.{Charge}
 use Rattle.g_budget.specs.declared.tariff.Usage.{Usage}
-use Rattle.g_operator.specs.declared.progress.Failure.{Failure}
-use Rattle.g_operator.specs.declared.progress.Failure.TheVariants as failures
+use Rattle.g_day.specs.declared.progress.Failure.{Failure}
+use Rattle.g_day.specs.declared.progress.Failure.TheVariants as failures
 use Rattle.g_demo.specs.declared.demonstration.Demonstration.{Demonstration}
 use Rattle.g_job.specs.TurnEnd.{IsPriced}
 use Rattle.g_run.specs.Demo.{IsDemoText, PutsDemo}

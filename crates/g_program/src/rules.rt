@@ -1,7 +1,7 @@
 //! The rules of this program: what a turn of a job costs, and which job goes next; and a run by them.
 ghost use Rattle.std.specs.Prelude.{◌≡◌, ◌<◌, ◌≤◌, ◌^◌, ℕ, List, [], Option, Some, drop, length};
 ghost use Rattle.g_base.specs.Counts.{Rose};
-ghost use Rattle.g_operator.specs.System.{BelongTogether, DumpsGrow, SameDevices};
+ghost use Rattle.g_day.specs.System.{BelongTogether, DumpsGrow, SameDevices};
 ghost use Rattle.g_demo.specs.Words.{AskNothing, IsDemonstration, demo_words, texts_of};
 ghost use Rattle.g_demo.specs.declared.demonstration.Demonstration.{Demonstration};
 ghost use Rattle.g_lines.specs.Lines.{lines_of};
@@ -13,7 +13,7 @@ ghost use Rattle.g_run_model.specs.Top.{AreArmings, AreFused, IsCutWords};
 ghost use Rattle.g_laws_runs.specs.Filestores.{HasFilestore};
 ghost use Rattle.g_run.specs.Input.{IsRun};
 ghost use Rattle.g_run.specs.ScriptEnd.{both};
-ghost use Rattle.g_run.specs.Parts.{HaveNoProcess};
+ghost use Rattle.g_ticks.specs.Parts.{HaveNoProcess};
 ghost use Rattle.g_run.specs.Top as top;
 ghost use Rattle.g_program.specs.Rules.{answering, price, share_used};
 

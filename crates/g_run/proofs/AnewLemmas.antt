@@ -7,9 +7,9 @@ use Rattle.g_script.specs.declared.operator.Operator.TheVariants as line
 use Rattle.g_script.specs.declared.operator.Timed.{Timed}
 use Rattle.g_run_model.specs.Devices.{Devices}
 use Rattle.g_laws_runs.specs.BeginningAnew.{AreBlank, BeginAnew, NoDiscFault, is_aside, is_first, with_new_disc}
-use Rattle.g_operator.specs.BeginningAnew.{IsBlank, beside_new}
-use Rattle.g_operator.specs.System.{Down, SameDevices, SystemFacts, Up, devices_in}
-use Rattle.g_run.specs.Parts.{AreAside, AreFirst}
+use Rattle.g_day.specs.BeginningAnew.{IsBlank, beside_new}
+use Rattle.g_day.specs.System.{Down, SameDevices, SystemFacts, Up, devices_in}
+use Rattle.g_ticks.specs.Parts.{AreAside, AreFirst}
 
 -- WHERE THE DISC COUNTED NO FAILURE in two parts, it counted none in either
 pub first_well : (a b c : Devices) → SameDevices b c → NoDiscFault a c → NoDiscFault a b

@@ -16,8 +16,8 @@ use Rattle.g_script.specs.declared.operator.Timed.{Timed}
 use Rattle.g_tape.specs.Memory.{IsEmptyRack, Memory}
 use Rattle.g_run_model.specs.Devices.{Devices}
 use Rattle.g_run_model.specs.Top.{EndsWhole}
-use Rattle.g_operator.specs.declared.progress.Failure.{Failure}
-use Rattle.g_operator.specs.Puts.{PutsBy}
+use Rattle.g_day.specs.declared.progress.Failure.{Failure}
+use Rattle.g_day.specs.Puts.{PutsBy}
 use Rattle.g_run.specs.Demo.{IsDemoText, PutsDemo}
 use Rattle.g_run.specs.ScriptEnd.{both}
 

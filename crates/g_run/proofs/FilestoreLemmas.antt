@@ -13,8 +13,8 @@ use Rattle.g_run_model.proofs.StandLemmas.{stands_as}
 use Rattle.g_run_model.specs.Devices.{Devices, StandFor}
 use Rattle.g_laws_runs.specs.Filestores.{HasFilestore}
 use Rattle.g_laws_runs.proofs.FilestoreLemmas.{devices_keep}
-use Rattle.g_operator.specs.System.{BelongTogether}
-use Rattle.g_operator.specs.declared.progress.Failure.{Failure}
+use Rattle.g_day.specs.System.{BelongTogether}
+use Rattle.g_day.specs.declared.progress.Failure.{Failure}
 use Rattle.g_run.specs.Top.{EndsBy}
 
 -- the state of such devices

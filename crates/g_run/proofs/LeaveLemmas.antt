@@ -16,7 +16,7 @@ use Rattle.g_run_model.specs.Events.{IsMigration, IsOpening, IsProcessing, IsTol
 use Rattle.g_run_model.specs.Lines.{LineGives, shut_with, at_terminal, changed_at, job_line, job_refusal, line_refused, logged_in, login_refusal, now_stands, open_at, taken_in, tells, up_with}
 use Rattle.g_run_model.specs.Texts.{dump_text, processed_text, started_text, tape_text}
 use Rattle.g_run_model.specs.World.{World}
-use Rattle.g_operator.specs.Parts.{disc_arms, tape_arms}
+use Rattle.g_day.specs.Parts.{disc_arms, tape_arms}
 
 pub record Leaves (what : Operator) (w new : World) : Type 0 where
   pub lines : new.lines ≡ w.lines

@@ -20,21 +20,21 @@ use Rattle.g_laws_runs.specs.BeginningAnew.{BeginAnew, NoDiscFault, is_first}
 use Rattle.g_run_model.proofs.CountLemmas.{move_counted}
 use Rattle.g_run_model.proofs.TickLemmas.{line_move}
 use Rattle.g_job_table.specs.Numbers.{AreOpen}
-use Rattle.g_operator.specs.declared.progress.Failure.{Failure}
-use Rattle.g_operator.specs.BeginningAnew.{AnewLine, IsBlank, IsUntaken, beside, beside_new}
-use Rattle.g_operator.specs.Parts.{ArmsBy, DidLine, DoesLine, DoesNothing, IsReady, LineGoes, Matches, Seen, disc_arms, tape_arms}
-use Rattle.g_operator.specs.Puts.{HasGrown}
-use Rattle.g_operator.specs.System.{SameDevices, SystemFacts, devices_in}
+use Rattle.g_day.specs.declared.progress.Failure.{Failure}
+use Rattle.g_day.specs.BeginningAnew.{AnewLine, IsBlank, IsUntaken, beside, beside_new}
+use Rattle.g_day.specs.Parts.{ArmsBy, DidLine, DoesLine, DoesNothing, IsReady, LineGoes, Matches, Seen, disc_arms, tape_arms}
+use Rattle.g_day.specs.Puts.{HasGrown}
+use Rattle.g_day.specs.System.{SameDevices, SystemFacts, devices_in}
 use Rattle.g_operator.proofs.AnewLemmas.{first_line}
-use Rattle.g_operator.proofs.LabelLemmas.{same_then}
-use Rattle.g_run.specs.Tick.{IsBetween}
-use Rattle.g_run.specs.Parts.{Anything, AreAside, AreDueBy, AreFirst, BeginsBy, Breaks, DidAll, DidLines, DidTicks, GoesBy, IsAtRest, IsOther, Keeps, Leads, LinesGo, Misses, NoneTook, PartGoes, PartMisses, turn_of}
+use Rattle.g_day.proofs.LabelLemmas.{same_then}
+use Rattle.g_ticks.specs.Tick.{IsBetween}
+use Rattle.g_ticks.specs.Parts.{Anything, AreAside, AreDueBy, AreFirst, BeginsBy, Breaks, DidAll, DidLines, DidTicks, GoesBy, IsAtRest, IsOther, Keeps, Leads, LinesGo, Misses, NoneTook, PartGoes, PartMisses, turn_of}
 use Rattle.g_run.proofs.AnewLemmas.{asides_first, begin_parts, blank_beside, blank_devices, first_head, first_last, first_one, first_well, firsts_parts, format_first, is_format, later_well, none_begin, one_more_line}
-use Rattle.g_run.proofs.KeepLemmas.{kept_line}
+use Rattle.g_ticks.proofs.KeepLemmas.{kept_line}
 use Rattle.g_run.proofs.LeaveLemmas.{line_leaves}
-use Rattle.g_operator.proofs.PutLemmas.{grown_then, same_grown, with_more-nil}
-use Rattle.g_run.proofs.PartLemmas.{arrives_here, goes_then, keeps_more, keeps_then}
-use Rattle.g_run.proofs.UntilLemmas.{keeps_here}
+use Rattle.g_day.proofs.PutLemmas.{grown_then, same_grown, with_more-nil}
+use Rattle.g_ticks.proofs.PartLemmas.{arrives_here, goes_then, keeps_more, keeps_then}
+use Rattle.g_ticks.proofs.UntilLemmas.{keeps_here}
 
 -- what a line arms each device with
 line_arms : (next : Timed) (failure : Option Failure) (old new : Devices) → ArmsBy next.what failure old new → AreArmings (next ∷ []) (failure ≡ None) old new

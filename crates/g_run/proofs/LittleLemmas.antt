@@ -6,9 +6,9 @@ use Rattle.g_job.specs.State.{JobState}
 use Rattle.g_tape.specs.Rack.{Rack}
 use Rattle.g_job_table.specs.Crew.{CrewState}
 use Rattle.g_job_table.specs.Numbers.{AreJobs, IsAllowed}
-use Rattle.g_operator.specs.Parts.{seen}
-use Rattle.g_operator.specs.System.{SystemFacts, devices_in}
-use Rattle.g_run.specs.Tick.{dump_left, left, may_step, share_in}
+use Rattle.g_day.specs.Parts.{seen}
+use Rattle.g_day.specs.System.{SystemFacts, devices_in}
+use Rattle.g_ticks.specs.Tick.{dump_left, left, may_step, share_in}
 
 -- of a job
 share_by : (allowance used : ℕ) (steps : Bool) → allowance ≤ 1000000 → (allowance - used) + (if steps then 1 else 0) ≤ 1000001

@@ -32,19 +32,19 @@ use Rattle.g_run_model.proofs.TickLemmas.{over_move}
 use Rattle.g_run_model.proofs.TurnLemmas.{run_append}
 use Rattle.g_laws_runs.specs.BeginningAnew.{AreBlank, BeginAnew, NoDiscFault, with_new_disc}
 use Rattle.g_job_table.specs.Crew.{CrewState}
-use Rattle.g_operator.specs.declared.progress.Failure.{Failure}
-use Rattle.g_operator.specs.declared.progress.Failure.TheVariants as failures
-use Rattle.g_operator.specs.BeginningAnew.{IsBlank, beside, beside_new}
+use Rattle.g_day.specs.declared.progress.Failure.{Failure}
+use Rattle.g_day.specs.declared.progress.Failure.TheVariants as failures
+use Rattle.g_day.specs.BeginningAnew.{IsBlank, beside, beside_new}
 use Rattle.g_operator.proofs.DownLemmas.{down_same}
-use Rattle.g_operator.proofs.LabelLemmas.{same_itself}
-use Rattle.g_run.proofs.KeepLemmas.{kept_itself}
-use Rattle.g_operator.specs.Parts.{Matches, Seen, seen}
-use Rattle.g_operator.specs.Puts.{FaultCause, HasGrown, Puts, PutsBy}
-use Rattle.g_operator.specs.System.{BelongTogether, Down, StandsAs, SystemBelongs, SystemFacts, Up, devices_in, SameDevices}
-use Rattle.g_operator.proofs.PutLemmas.{grown_then, put_grown, with_more-append, with_more-nil}
-use Rattle.g_run.proofs.TickLemmas.{put_on}
+use Rattle.g_day.proofs.LabelLemmas.{same_itself}
+use Rattle.g_ticks.proofs.KeepLemmas.{kept_itself}
+use Rattle.g_day.specs.Parts.{Matches, Seen, seen}
+use Rattle.g_day.specs.Puts.{FaultCause, HasGrown, Puts, PutsBy}
+use Rattle.g_day.specs.System.{BelongTogether, Down, StandsAs, SystemBelongs, SystemFacts, Up, devices_in, SameDevices}
+use Rattle.g_day.proofs.PutLemmas.{grown_then, put_grown, with_more-append, with_more-nil}
+use Rattle.g_ticks.proofs.TickLemmas.{put_on}
 use Rattle.g_run.specs.ScriptEnd.{ClosesBy, DidScript, EndsBeside, TakenDown, both}
-use Rattle.g_run.specs.Parts.{BeginsBy, DidAll, DumpsKept, IsAtRest, Keeps, Leads, Misses, PartGoes, PartMisses}
+use Rattle.g_ticks.specs.Parts.{BeginsBy, DidAll, DumpsKept, IsAtRest, Keeps, Leads, Misses, PartGoes, PartMisses}
 use Rattle.g_run.specs.Top.{EndsBy, HasMissed}
 use Rattle.g_run.proofs.AnewLemmas.{blank_devices}
 

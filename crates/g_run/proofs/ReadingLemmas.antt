@@ -12,8 +12,8 @@ use Rattle.g_script.specs.Script.{Bare, IsBare, IsParsed, IsPrinted, IsTypedWith
 use Rattle.g_script.specs.declared.operator.Operator.{Operator}
 use Rattle.g_script.specs.declared.operator.Operator.TheVariants as line
 use Rattle.g_script.specs.declared.operator.Timed.{Timed}
-use Rattle.g_operator.specs.Parts.{IsWithin}
-use Rattle.g_run.specs.Parts.{IsTimedWithin}
+use Rattle.g_day.specs.Parts.{IsWithin}
+use Rattle.g_ticks.specs.Parts.{IsTimedWithin}
 
 -- what is typed is one line
 behind_front : (P : ℕ → Type 0) (front rest : List ℕ) → AllByRecursion P (front ++ rest) → AllByRecursion P rest

@@ -18,14 +18,14 @@ use Rattle.g_run_model.specs.Devices.{Devices}
 use Rattle.g_run_model.specs.Top.{AreArmings, IsCutWords, words_line}
 use Rattle.g_laws_runs.specs.BeginningAnew.{AreBlank, BeginAnew, with_new_disc}
 use Rattle.g_laws_runs.proofs.FreshLemmas.{emptied_stand}
-use Rattle.g_operator.specs.declared.progress.Failure.{Failure}
-use Rattle.g_operator.specs.declared.progress.Failure.TheVariants as failures
+use Rattle.g_day.specs.declared.progress.Failure.{Failure}
+use Rattle.g_day.specs.declared.progress.Failure.TheVariants as failures
 use Rattle.g_demo.specs.Words.{IsDemonstration, demo_words}
 use Rattle.g_demo.specs.declared.demonstration.Demonstration.{Demonstration}
 use Rattle.g_demo.specs.declared.words.Asked.TheVariants as asked
 use Rattle.g_demo.proofs.WordLemmas.{one_reading}
-use Rattle.g_operator.specs.Puts.{PutsBy}
-use Rattle.g_operator.specs.System.{BelongTogether}
+use Rattle.g_day.specs.Puts.{PutsBy}
+use Rattle.g_day.specs.System.{BelongTogether}
 use Rattle.g_run.specs.declared.status.Status.{Status}
 use Rattle.g_run.specs.declared.status.Status.TheVariants.{NoMemory, ScriptFault, TooLong}
 use Rattle.g_run.specs.Demo.{PutsDemo}

@@ -16,7 +16,7 @@ use Rattle.g_script.specs.declared.operator.Timed.{Timed}
 use Rattle.g_tape.specs.Memory.{IsEmptyRack, Memory}
 use Rattle.g_run_model.specs.Devices.{Devices}
 use Rattle.g_run_model.specs.Top.{EndsWhole}
-use Rattle.g_operator.specs.declared.progress.Failure.{Failure}
+use Rattle.g_day.specs.declared.progress.Failure.{Failure}
 
 -- a new disc of 4,096 blocks of zeros, and a rack of one reel, empty and not mounted, of serial 1 and capacity 8,192
 pub record AreFresh (d : Devices) : Type 0 where

@@ -13,10 +13,10 @@ use Rattle.g_tape.specs.Rack.{Rack}
 use Rattle.g_run_model.specs.Devices.{AreReadAs, Devices}
 use Rattle.g_run_model.specs.Top.{AreArmings}
 use Rattle.g_laws_runs.specs.BeginningAnew.{AreBlank, BeginAnew, NoDiscFault, with_new_disc}
-use Rattle.g_operator.specs.declared.progress.Failure.{Failure}
-use Rattle.g_operator.specs.Puts.{FaultCause, Puts}
-use Rattle.g_operator.specs.System.{BelongTogether, SameDevices, StandsAs, SystemFacts, devices_in}
-use Rattle.g_run.specs.Parts.{DumpsKept}
+use Rattle.g_day.specs.declared.progress.Failure.{Failure}
+use Rattle.g_day.specs.Puts.{FaultCause, Puts}
+use Rattle.g_day.specs.System.{BelongTogether, SameDevices, StandsAs, SystemFacts, devices_in}
+use Rattle.g_ticks.specs.Parts.{DumpsKept}
 use Rattle.g_run.specs.Top.{EndsBy, HasMissed}
 
 abbrev pub both : DiscState → Rack → Devices

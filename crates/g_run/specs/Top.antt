@@ -17,12 +17,12 @@ use Rattle.g_run_model.specs.Moves.{Move}
 use Rattle.g_run_model.specs.Top.{EndsShort, EndsWhole, IsCut, RunOf, words_line}
 use Rattle.g_run_model.specs.World.{World}
 use Rattle.g_laws_runs.specs.BeginningAnew.{AreBlank, BeginAnew, NoDiscFault, with_new_disc}
-use Rattle.g_operator.specs.declared.progress.Failure.{Failure}
-use Rattle.g_operator.specs.declared.progress.Failure.TheVariants as failures
-use Rattle.g_operator.specs.Puts.{HasGrown}
-use Rattle.g_operator.specs.System.{BelongTogether, SameDevices}
+use Rattle.g_day.specs.declared.progress.Failure.{Failure}
+use Rattle.g_day.specs.declared.progress.Failure.TheVariants as failures
+use Rattle.g_day.specs.Puts.{HasGrown}
+use Rattle.g_day.specs.System.{BelongTogether, SameDevices}
 use Rattle.g_run.specs.Demo.{PutsDemo}
-use Rattle.g_run.specs.Parts.{IsOther}
+use Rattle.g_ticks.specs.Parts.{IsOther}
 use Rattle.g_run.specs.declared.status.Status.{Status}
 use Rattle.g_run.specs.declared.status.Status.TheVariants.{Done, Words, BadScript, ScriptFault, OutputFault, NoMemory, TooLong}
 

@@ -1,7 +1,7 @@
 //! A demonstration, run over devices in memory.
 ghost use Rattle.std.specs.Prelude.{◌≡◌, ◌+◌, ◌<◌, [], ◌∷◌, IfOk, length};
 ghost use Rattle.g_budget.specs.Tariff.{IsTariff};
-ghost use Rattle.g_operator.specs.Puts.{FaultCause, Puts};
+ghost use Rattle.g_day.specs.Puts.{FaultCause, Puts};
 ghost use Rattle.g_demo.specs.Script.{script_text};
 ghost use Rattle.g_demo.specs.Summary as spec;
 ghost use Rattle.g_disc.specs.Memory.{blank};
@@ -14,16 +14,16 @@ ghost use Rattle.g_run.specs.Demo.{IsDemoText, PutsDemo};
 use crate::boxed_disc::BoxedDisc;
 use crate::boxed_tapes::BoxedTapes;
 use crate::over::{ScriptEnd, run_script};
-use crate::rules::Rules;
 use g_base::NoMemory;
 use g_budget::{Charge, Usage};
+use g_day::{Failure, put_made};
 use g_demo::{Demonstration, SummarySink, script_of, summary_text};
 use g_disc::MemoryDisc;
 use g_io::Sink;
-use g_operator::{Failure, put_made};
 use g_sched::Standing;
 use g_script::{Script, parse_script};
 use g_tape::MemoryTapes;
+use g_ticks::Rules;
 use std::alloc::Global;
 
 /// Runs a demonstration, and puts the summary of its text. Neither source nor devices have a part in it.

@@ -3,23 +3,14 @@
 
 mod boxed_disc;
 mod boxed_tapes;
-mod day_up;
 mod demo;
-mod dumping;
-mod ending;
 mod input;
 mod law;
 mod over;
 mod remaining_ticks;
-mod rules;
 mod script;
-mod showing;
 mod status;
-mod ticking;
-mod ticks;
 mod top;
-mod turning;
-mod watched;
 
 pub use law::{jobs_of_a_script_end, text_of_a_script_is_one, typed_lines_are_read};
 pub use status::Status;

@@ -1,10 +1,10 @@
 //! How much there may be left to do, of all devices.
 ghost use Rattle.std.specs.Prelude.{◌≤◌};
-ghost use Rattle.g_operator.specs.System.{facts_of};
-ghost use Rattle.g_run.specs.Tick.{dump_left, left};
+ghost use Rattle.g_day.specs.System.{facts_of};
+ghost use Rattle.g_ticks.specs.Tick.{dump_left, left};
 
+use g_day::{Day, System};
 use g_disc::Disc;
-use g_operator::{Day, System};
 use g_tape::Tapes;
 
 /// Says that no more than this is left to do: 64 jobs have at most 1,000,000 units each, and an open dump has fewer than 2^32

@@ -1,20 +1,20 @@
 //! The lines of a script, each done when it is due, or when nothing can step.
 ghost use Rattle.std.specs.Prelude.{◌≡◌, ◌+◌, ◌<◌, [], ◌∷◌, All, length};
 ghost use Rattle.g_budget.specs.Tariff.{IsTariff};
-ghost use Rattle.g_operator.specs.Parts.{IsReady};
+ghost use Rattle.g_day.specs.Parts.{IsReady};
 ghost use Rattle.g_job_table.specs.Numbers.{AreOpen};
 ghost use Rattle.g_sched.specs.Rule.{IsWeighRule};
-ghost use Rattle.g_run.specs.Parts.{DidLines, IsTimedWithin};
+ghost use Rattle.g_ticks.specs.Parts.{DidLines, IsTimedWithin};
 
-use crate::rules::Rules;
-use crate::ticks::tick_until_due;
 use g_budget::{Charge, Usage};
+use g_day::{Day, Ended};
 use g_disc::Disc;
 use g_io::Sink;
-use g_operator::{Day, Ended, operator_line};
+use g_operator::operator_line;
 use g_sched::Standing;
 use g_script::{Timed, Timeds};
 use g_tape::Tapes;
+use g_ticks::{Rules, tick_until_due};
 use std::alloc::Global;
 use std::collections::VecDeque;
 

@@ -2,9 +2,9 @@
 ghost use Rattle.std.specs.Prelude.{◌≡◌, ◌<◌, ◌≤◌, ℕ, List, [], Option, Some, drop, length};
 ghost use Rattle.g_base.specs.Counts.{Rose};
 ghost use Rattle.g_budget.specs.Tariff.{IsTariff};
-ghost use Rattle.g_operator.specs.Puts.{Puts};
-ghost use Rattle.g_operator.specs.declared.progress.Failure.TheVariants as failures;
-ghost use Rattle.g_operator.specs.System.{BelongTogether, DumpsGrow, SameDevices};
+ghost use Rattle.g_day.specs.Puts.{Puts};
+ghost use Rattle.g_day.specs.declared.progress.Failure.TheVariants as failures;
+ghost use Rattle.g_day.specs.System.{BelongTogether, DumpsGrow, SameDevices};
 ghost use Rattle.g_demo.specs.Words.{AskNothing, IsDemonstration, demo_words, texts_of};
 ghost use Rattle.g_demo.specs.declared.demonstration.Demonstration.{Demonstration};
 ghost use Rattle.g_lines.specs.Lines.{lines_of};
@@ -16,23 +16,23 @@ ghost use Rattle.g_run_model.specs.Top.{AreArmings, AreFused, IsCutWords, words_
 ghost use Rattle.g_laws_runs.specs.Filestores.{HasFilestore};
 ghost use Rattle.g_run.specs.Input.{IsRun};
 ghost use Rattle.g_run.specs.ScriptEnd.{both};
-ghost use Rattle.g_run.specs.Parts.{HaveNoProcess};
+ghost use Rattle.g_ticks.specs.Parts.{HaveNoProcess};
 ghost use Rattle.g_run.specs.Top as top;
 
 use crate::demo::run_demo;
 use crate::input::{Unread, read_script};
 use crate::over::{ScriptEnd, run_boxed};
-use crate::rules::Rules;
 use crate::status::Status;
 use g_base::NoMemory;
 use g_budget::{Charge, Tariff, Usage};
+use g_day::Failure;
 use g_demo::{Asked, asked_by};
 use g_disc::Disc;
 use g_io::{Sink, Source};
-use g_operator::Failure;
 use g_sched::{Standing, WeighRule};
 use g_script::parse_script;
 use g_tape::Tapes;
+use g_ticks::Rules;
 use std::alloc::Global;
 
 /// The end of a run: its status, and both devices, which are handed back with every status.
@@ -48,7 +48,7 @@ pub struct Finish<D: Disc, T: Tapes> {
 ///
 /// The words are looked at first: `run`, or `demo NUMBER N`, which runs a script that is made from these numbers on devices in
 /// memory and puts the summary of its text. The script is read whole before anything is done (docs/MANUAL.md, "Exit status").
-#[tactic(auto, using(g_operator::proofs::GrowLemmas::grow_itself, crate::proofs::KeepLemmas::moves_itself, crate::proofs::TopLemmas::anew_unread, crate::proofs::TopLemmas::anew_long, crate::proofs::TopLemmas::anew_none))]
+#[tactic(auto, using(g_day::proofs::GrowLemmas::grow_itself, g_ticks::proofs::KeepLemmas::moves_itself, crate::proofs::TopLemmas::anew_unread, crate::proofs::TopLemmas::anew_long, crate::proofs::TopLemmas::anew_none))]
 pub fn george<
     S: Source,
     K: Sink,

@@ -3,9 +3,9 @@ use Rattle.g_tape.specs.Rack.{Rack}
 use Rattle.g_store_meaning.specs.StoreInvariant.{StoreFacts}
 use Rattle.g_run_model.specs.Devices.{Devices}
 use Rattle.g_laws_runs.specs.BeginningAnew.{AreBlank, with_new_disc}
-use Rattle.g_operator.specs.BeginningAnew.{IsBlank, beside_new}
+use Rattle.g_day.specs.BeginningAnew.{IsBlank, beside_new}
 use Rattle.g_operator.specs.Arming.{HasArmed, tape_armed}
-use Rattle.g_operator.specs.System.{Down, SystemFacts, Up, devices_in, facts_of}
+use Rattle.g_day.specs.System.{Down, SystemFacts, Up, devices_in, facts_of}
 use Rattle.g_operator.proofs.AnewLemmas.{blank_tape_armed}
 use Rattle.g_operator.proofs.StopLemmas.{armed_up, tape_down}
 use Rattle.g_operator.proofs.arming.arm_tape.Goals as goal

@@ -1,9 +1,10 @@
 use Rattle.std.proofs.Common.{◌≡◌, refl, subst}
-use Rattle.g_operator.specs.BeginningAnew.{beside_new}
+use Rattle.g_day.specs.BeginningAnew.{beside_new}
 use Rattle.g_operator.specs.Arming.{tape_armed}
-use Rattle.g_operator.specs.Parts.{Seen}
-use Rattle.g_operator.specs.System.{devices_in, facts_of}
-use Rattle.g_operator.proofs.AnewLemmas.{ready_beside, same_aside}
+use Rattle.g_day.specs.Parts.{Seen}
+use Rattle.g_day.specs.System.{devices_in, facts_of}
+use Rattle.g_day.proofs.BesideLemmas.{ready_beside}
+use Rattle.g_operator.proofs.AnewLemmas.{same_aside}
 use Rattle.g_operator.proofs.DayLemmas.{ready_inside, same_line}
 use Rattle.g_operator.proofs.StopLemmas.{tape_stop}
 use Rattle.g_operator.proofs.arming.stop_tape_line.Goals as goal

@@ -1,7 +1,7 @@
 use Rattle.std.proofs.Common.{◌++◌}
 use Rattle.std.specs.Prelude.{codes}
 use Rattle.g_run_model.specs.Texts.{dump_text}
-use Rattle.g_operator.specs.System.{facts_of}
+use Rattle.g_day.specs.System.{facts_of}
 use Rattle.g_operator.proofs.AskLemmas.{granted_by, opens_line, refused_by}
 use Rattle.g_operator.proofs.DayLemmas.{ready_inside, same_line}
 use Rattle.g_operator.proofs.dumping.dump_line.Goals as goal

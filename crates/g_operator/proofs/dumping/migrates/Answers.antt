@@ -3,7 +3,7 @@ use Rattle.std.specs.Prelude.{Err}
 use Rattle.g_plain.specs.declared.faults.StoreFault.TheVariants.{NotStarted}
 use Rattle.g_store.specs.Events.{Migrates}
 use Rattle.g_operator.specs.Asking.{AsksOf}
-use Rattle.g_operator.specs.System.{SystemFacts, Up, facts_of}
+use Rattle.g_day.specs.System.{SystemFacts, Up, facts_of}
 use Rattle.g_operator.proofs.dumping.migrates.Goals as goal
 
 pub returns-in-Up : goal.returns-in-Up

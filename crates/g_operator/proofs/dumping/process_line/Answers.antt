@@ -1,5 +1,5 @@
 use Rattle.g_run_model.specs.Texts.{processed_text}
-use Rattle.g_operator.specs.System.{facts_of}
+use Rattle.g_day.specs.System.{facts_of}
 use Rattle.g_operator.proofs.AskLemmas.{granted_by, processes_line, refused_by}
 use Rattle.g_operator.proofs.DayLemmas.{ready_inside, same_line}
 use Rattle.g_operator.proofs.dumping.process_line.Goals as goal

@@ -2,7 +2,7 @@ use Rattle.std.proofs.Common.{◌≡◌, refl, sym, ap, subst}
 use Rattle.std.specs.Prelude.{Err}
 use Rattle.g_plain.specs.declared.faults.StoreFault.TheVariants.{NotStarted}
 use Rattle.g_operator.specs.Asking.{AsksOf, Processed}
-use Rattle.g_operator.specs.System.{SystemFacts, Up, facts_of}
+use Rattle.g_day.specs.System.{SystemFacts, Up, facts_of}
 use Rattle.g_operator.proofs.dumping.processes.Goals as goal
 
 pub returns-in-Up : goal.returns-in-Up

@@ -1,8 +1,8 @@
 use Rattle.std.proofs.Common.{None, Some, refl, subst}
-use Rattle.g_operator.specs.Jobs.{KnowsIn}
-use Rattle.g_operator.specs.Parts.{Seen}
+use Rattle.g_day.specs.Jobs.{KnowsIn}
+use Rattle.g_day.specs.Parts.{Seen}
 use Rattle.g_operator.proofs.DayLemmas.{same_line}
-use Rattle.g_operator.proofs.JobLemmas.{job_on, no_job_on}
+use Rattle.g_day.proofs.JobLemmas.{job_on, no_job_on}
 use Rattle.g_operator.proofs.jobs.job_line.Goals as goal
 
 pub returns-in-Some : goal.returns-in-Some

@@ -1,7 +1,7 @@
 use Rattle.std.proofs.Common.{◌≡◌, None, Some, refl, sym, ap, subst}
-use Rattle.g_operator.specs.Jobs.{KnowsIn}
-use Rattle.g_operator.specs.System.{IsRunning, SystemFacts, facts_of}
-use Rattle.g_operator.proofs.JobLemmas.{known_by}
+use Rattle.g_day.specs.Jobs.{KnowsIn}
+use Rattle.g_day.specs.System.{IsRunning, SystemFacts, facts_of}
+use Rattle.g_day.proofs.JobLemmas.{known_by}
 use Rattle.g_operator.proofs.jobs.knows.Goals as goal
 
 pub returns-in-Up : goal.returns-in-Up

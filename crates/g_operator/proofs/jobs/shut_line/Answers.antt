@@ -4,10 +4,10 @@ use Rattle.g_tape.specs.Rack.{Rack}
 use Rattle.g_script.specs.declared.operator.Operator.TheVariants as line
 use Rattle.g_run_model.specs.Devices.{Devices}
 use Rattle.g_job_table.specs.Crew.{CrewState}
-use Rattle.g_operator.specs.Parts.{DidLine, IsReady, Seen, seen}
-use Rattle.g_operator.specs.System.{Down, SystemFacts, Up, facts_of}
+use Rattle.g_day.specs.Parts.{DidLine, IsReady, Seen, seen}
+use Rattle.g_day.specs.System.{Down, SystemFacts, Up, facts_of}
 use Rattle.g_operator.proofs.DayLemmas.{same_line}
-use Rattle.g_operator.proofs.JobLemmas.{down_shuts_not, none_dump, open_shuts_not, shut_down, some_dump}
+use Rattle.g_day.proofs.JobLemmas.{down_shuts_not, none_dump, open_shuts_not, shut_down, some_dump}
 use Rattle.g_operator.proofs.jobs.shut_line.Goals as goal
 
 pub returns-in-Some : goal.returns-in-Some

@@ -1,10 +1,10 @@
 use Rattle.std.proofs.Common.{◌≡◌, ◌+◌, ◌<◌, ◌++◌, ℕ, List, refl, sym, subst}
 use Rattle.std.specs.Prelude.{IfOk, codes}
 use Rattle.g_run_model.specs.Texts.{job_text, operator_line}
-use Rattle.g_operator.specs.Jobs.{TakesJob}
-use Rattle.g_operator.specs.Parts.{Seen, seen}
-use Rattle.g_operator.specs.System.{facts_of}
-use Rattle.g_operator.proofs.JobLemmas.{comes_in_is, turned_away_is}
+use Rattle.g_day.specs.Jobs.{TakesJob}
+use Rattle.g_day.specs.Parts.{Seen, seen}
+use Rattle.g_day.specs.System.{facts_of}
+use Rattle.g_day.proofs.JobLemmas.{comes_in_is, turned_away_is}
 use Rattle.g_operator.proofs.jobs.take_job.Goals as goal
 
 pub take_in-requires-clause-numbers : goal.take_in-requires-clause-numbers

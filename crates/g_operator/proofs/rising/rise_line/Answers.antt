@@ -1,7 +1,7 @@
 use Rattle.std.proofs.Common.{sym, ◌∙◌, ap, subst}
-use Rattle.g_operator.specs.Parts.{IsReady, Seen, seen}
+use Rattle.g_day.specs.Parts.{IsReady, Seen, seen}
 use Rattle.g_operator.specs.Rising.{line_of}
-use Rattle.g_operator.specs.System.{SystemFacts, facts_of}
+use Rattle.g_day.specs.System.{SystemFacts, facts_of}
 use Rattle.g_operator.proofs.AnewLemmas.{anew_risen, anew_unrisen, anew_up, same_anew}
 use Rattle.g_operator.proofs.DayLemmas.{same_line}
 use Rattle.g_operator.proofs.WayLemmas.{raised_runs, risen_line, running_rise, unrisen_line}

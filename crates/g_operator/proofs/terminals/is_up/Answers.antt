@@ -1,6 +1,6 @@
 use Rattle.std.proofs.Common.{ap, sym}
-use Rattle.g_operator.specs.System.{SystemFacts, facts_of}
-use Rattle.g_operator.specs.Terminals.{is_up_in}
+use Rattle.g_day.specs.System.{SystemFacts, facts_of}
+use Rattle.g_day.specs.Terminals.{is_up_in}
 use Rattle.g_operator.proofs.terminals.is_up.Goals as goal
 
 pub returns-in-Up : goal.returns-in-Up

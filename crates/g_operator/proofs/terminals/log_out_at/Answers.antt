@@ -2,9 +2,9 @@ use Rattle.std.proofs.Common.{None, refl, subst, ◌≡◌, ◌++◌}
 use Rattle.std.specs.Prelude.{codes}
 use Rattle.g_job.specs.Terminal.{logged_out}
 use Rattle.g_mop.specs.Seats.{none_text}
-use Rattle.g_operator.specs.Parts.{Seen, seen}
-use Rattle.g_operator.specs.System.{facts_of}
-use Rattle.g_operator.specs.Terminals.{ChangesAt}
+use Rattle.g_day.specs.Parts.{Seen, seen}
+use Rattle.g_day.specs.System.{facts_of}
+use Rattle.g_day.specs.Terminals.{ChangesAt}
 use Rattle.g_operator.proofs.TerminalLemmas.{left_is, unleft_is}
 use Rattle.g_operator.proofs.terminals.log_out_at.Goals as goal
 use Rattle.g_run_model.specs.Lines.{open_at}

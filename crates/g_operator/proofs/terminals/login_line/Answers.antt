@@ -1,6 +1,6 @@
 use Rattle.std.proofs.Common.{None, Some, refl, subst}
-use Rattle.g_operator.specs.Jobs.{KnowsIn}
-use Rattle.g_operator.specs.Parts.{Seen}
+use Rattle.g_day.specs.Jobs.{KnowsIn}
+use Rattle.g_day.specs.Parts.{Seen}
 use Rattle.g_operator.proofs.DayLemmas.{same_line}
 use Rattle.g_operator.proofs.TerminalLemmas.{login_on, no_login_on}
 use Rattle.g_operator.proofs.terminals.login_line.Goals as goal

@@ -1,8 +1,8 @@
 use Rattle.std.proofs.Common.{◌≡◌, ◌+◌, ◌<◌, ◌++◌, ℕ, List, refl, sym, ◌∙◌, ap, subst}
 use Rattle.g_job_table.specs.Crew.{CrewState}
-use Rattle.g_operator.specs.Parts.{Seen, seen}
-use Rattle.g_operator.specs.System.{facts_of}
-use Rattle.g_operator.specs.Terminals.{SeatsJob}
+use Rattle.g_day.specs.Parts.{Seen, seen}
+use Rattle.g_day.specs.System.{facts_of}
+use Rattle.g_day.specs.Terminals.{SeatsJob}
 use Rattle.g_operator.proofs.TerminalLemmas.{seated_is, sent_away_is}
 use Rattle.g_operator.proofs.terminals.seat_job.Goals as goal
 

@@ -2,7 +2,7 @@ use Rattle.std.proofs.Common.{subst, sym, ◌++◌}
 use Rattle.std.specs.Prelude.{codes}
 use Rattle.g_job_table.specs.declared.seating.NotSeated.{NotSeated}
 use Rattle.g_mop.specs.Seats.{busy_text}
-use Rattle.g_operator.specs.Terminals.{TellsSeat}
+use Rattle.g_day.specs.Terminals.{TellsSeat}
 use Rattle.g_operator.proofs.terminals.seat_refused.Goals as goal
 
 pub returns-in-TerminalBusy : goal.returns-in-TerminalBusy

@@ -4,10 +4,10 @@ use Rattle.g_job_table.specs.Seating.{TypesAt}
 use Rattle.g_job_table.specs.declared.seating.NotTyped.{NotTyped}
 use Rattle.g_job.specs.Terminal.{typed_to}
 use Rattle.g_mop.specs.Seats.{none_text}
-use Rattle.g_operator.specs.declared.progress.Failure.TheVariants.{Memory}
-use Rattle.g_operator.specs.Parts.{Seen, seen}
-use Rattle.g_operator.specs.System.{facts_of}
-use Rattle.g_operator.specs.Terminals.{ChangesAt}
+use Rattle.g_day.specs.declared.progress.Failure.TheVariants.{Memory}
+use Rattle.g_day.specs.Parts.{Seen, seen}
+use Rattle.g_day.specs.System.{facts_of}
+use Rattle.g_day.specs.Terminals.{ChangesAt}
 use Rattle.g_operator.proofs.TerminalLemmas.{nowhere_is, typed_is, untyped_is}
 use Rattle.g_operator.proofs.terminals.type_at.Goals as goal
 use Rattle.g_run_model.specs.Lines.{open_at}

@@ -1,6 +1,6 @@
 use Rattle.std.proofs.Common.{◌≡◌, ap, false, refl, sym, true, ◌∙◌}
-use Rattle.g_operator.specs.Parts.{Seen}
-use Rattle.g_operator.specs.Terminals.{is_up_in}
+use Rattle.g_day.specs.Parts.{Seen}
+use Rattle.g_day.specs.Terminals.{is_up_in}
 use Rattle.g_operator.proofs.DayLemmas.{same_line}
 use Rattle.g_operator.proofs.TerminalLemmas.{typed_down, typed_up}
 use Rattle.g_operator.proofs.terminals.type_line.Goals as goal

@@ -1,7 +1,7 @@
 use Rattle.std.proofs.Common.{◌≤◌, arith}
 use Rattle.std.proofs.lemmas.List.Elements.{All-weaker}
 use Rattle.g_script.specs.declared.operator.Timed.{Timed}
-use Rattle.g_run.specs.Parts.{IsTimedWithin}
+use Rattle.g_ticks.specs.Parts.{IsTimedWithin}
 use Rattle.g_run.proofs.LineLemmas.{all_done, all_short}
 use Rattle.g_run.proofs.LittleLemmas.{room_left}
 use Rattle.g_run.proofs.over.run_lines.Goals as goal

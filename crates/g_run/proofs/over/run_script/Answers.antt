@@ -2,10 +2,10 @@ use Rattle.std.proofs.Common.{◌++◌, ap, subst}
 use Rattle.g_tape.specs.Rack.{Rack}
 use Rattle.g_run_model.specs.Texts.{closing, waiting_files}
 use Rattle.g_job_table.specs.Crew.{CrewState}
-use Rattle.g_operator.specs.Parts.{Seen, seen}
-use Rattle.g_operator.specs.System.{Down}
+use Rattle.g_day.specs.Parts.{Seen, seen}
+use Rattle.g_day.specs.System.{Down}
 use Rattle.g_run.specs.ScriptEnd.{ClosesBy, both}
-use Rattle.g_run.specs.Parts.{DidAll}
+use Rattle.g_ticks.specs.Parts.{DidAll}
 use Rattle.g_run.proofs.OverLemmas.{script_over}
 use Rattle.g_run.proofs.over.run_script.Goals as goal
 

@@ -1,7 +1,7 @@
 use Rattle.std.proofs.Common.{◌∙◌, sym, ap, subst}
 use Rattle.g_tape.specs.Rack.{Rack}
-use Rattle.g_operator.specs.Parts.{Seen}
-use Rattle.g_operator.specs.System.{Down, SystemFacts, facts_of}
+use Rattle.g_day.specs.Parts.{Seen}
+use Rattle.g_day.specs.System.{Down, SystemFacts, facts_of}
 use Rattle.g_run.specs.ScriptEnd.{TakenDown, both}
 use Rattle.g_run.proofs.OverLemmas.{down_taken_down, up_taken_down}
 use Rattle.g_run.proofs.over.taken_down.Goals as goal

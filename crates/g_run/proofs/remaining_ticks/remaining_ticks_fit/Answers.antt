@@ -1,7 +1,7 @@
 use Rattle.std.proofs.Common.{◌≤◌, subst}
-use Rattle.g_operator.specs.Parts.{Seen}
-use Rattle.g_operator.specs.System.{facts_of}
-use Rattle.g_run.specs.Tick.{left}
+use Rattle.g_day.specs.Parts.{Seen}
+use Rattle.g_day.specs.System.{facts_of}
+use Rattle.g_ticks.specs.Tick.{left}
 use Rattle.g_run.proofs.LittleLemmas.{little}
 use Rattle.g_run.proofs.remaining_ticks.remaining_ticks_fit.Goals as goal
 

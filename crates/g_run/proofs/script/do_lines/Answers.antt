@@ -1,7 +1,7 @@
 use Rattle.std.proofs.Common.{rules, ◌≡◌, ◌+◌, ◌<◌, ◌++◌, All, List, [], ◌∷◌, true, false, is_some, append_assoc, length, refl, arith, sym, ◌∙◌, ap, subst}
 use Rattle.std.proofs.lemmas.List.Elements.{All-tail}
 use Rattle.g_script.specs.declared.operator.Timed.{Timed}
-use Rattle.g_run.specs.Parts.{IsTimedWithin}
+use Rattle.g_ticks.specs.Parts.{IsTimedWithin}
 use Rattle.g_run.proofs.LineLemmas.{lines_cut, lines_more, lines_start, none_of, some_of}
 use Rattle.g_run.proofs.script.do_lines.Goals as goal
 

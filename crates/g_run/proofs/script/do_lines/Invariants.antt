@@ -1,7 +1,7 @@
 -- The lines so far.
 use Rattle.std.proofs.Common.{◌≡◌, ◌+◌, ◌<◌, ◌++◌, All, List, None, length}
 use Rattle.g_script.specs.declared.operator.Timed.{Timed}
-use Rattle.g_run.specs.Parts.{DidLines, IsTimedWithin}
+use Rattle.g_ticks.specs.Parts.{DidLines, IsTimedWithin}
 use Rattle.g_run.proofs.script.do_lines.Given as goal
 
 abbrev pub invariant-lines : goal.invariant-lines

@@ -5,7 +5,7 @@ use Rattle.g_demo.specs.declared.words.Asked.TheVariants as asked
 use Rattle.g_lines.specs.Lines.{lines_of}
 use Rattle.g_script.specs.Script.{IsParsed}
 use Rattle.g_run.proofs.FilestoreLemmas.{keeps_filestore}
-use Rattle.g_run.proofs.KeepLemmas.{stay_as}
+use Rattle.g_ticks.proofs.KeepLemmas.{stay_as}
 use Rattle.g_run.proofs.ReadingLemmas.{parsed_few, parsed_within}
 use Rattle.g_run.proofs.TopLemmas.{anew_as, arms_as, cut_words, demo_found, ends_as, of_words, quiet_words}
 use Rattle.g_run.proofs.top.george.Goals as goal

@@ -1,0 +1,11 @@
+pub mod BesideLemmas
+pub mod ByLemmas
+pub mod CauseLemmas
+pub mod GrowLemmas
+pub mod JobLemmas
+pub mod LabelLemmas
+pub mod LeavesLemmas
+pub mod LineLemmas
+pub mod PutLemmas
+pub mod UpLemmas
+pub mod UserLemmas

@@ -1,0 +1,9 @@
+pub mod BeginningAnew
+pub mod Box
+pub mod Jobs
+pub mod Opening
+pub mod Parts
+pub mod Puts
+pub mod System
+pub mod Telling
+pub mod Terminals

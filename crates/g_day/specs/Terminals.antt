@@ -1,0 +1,76 @@
+-- A JOB COMES IN at a terminal; a line is typed there, or it is logged out; and it is told, or isn't.
+use Rattle.std.specs.Prelude.{◌≡◌, ◌⊎◌, ℕ, ◌+◌, Bool, true, false, List, [], ◌∷◌, ◌++◌, Option, Some, None, codes}
+use Rattle.g_job.specs.State.{JobState}
+use Rattle.g_mop.specs.Seats.{busy_text, none_text}
+use Rattle.g_mop.specs.TerminalLines.{shown_at, terminal_name}
+use Rattle.g_run_model.specs.Lines.{open_at, terminal_job}
+use Rattle.g_run_model.specs.Texts.{job_text, operator_line}
+use Rattle.g_run_model.specs.World.{with_job}
+use Rattle.g_job_table.specs.Crew.{CrewState}
+use Rattle.g_job_table.specs.Seating.{RefusesLoginAsIn}
+use Rattle.g_job_table.specs.declared.seating.NewLogin.{NewLogin}
+use Rattle.g_job_table.specs.declared.seating.NotSeated.{NotSeated}
+use Rattle.g_job_table.specs.declared.seating.NotSeated.TheVariants as why
+use Rattle.g_day.specs.declared.progress.Failure.{Failure}
+use Rattle.g_day.specs.declared.progress.Failure.TheVariants.{Memory}
+use Rattle.g_day.specs.Jobs.{TellsWhy}
+use Rattle.g_day.specs.Puts.{Puts}
+use Rattle.g_day.specs.System.{Down, SystemFacts, Up}
+
+abbrev pub is_up_in : SystemFacts → Bool
+is_up_in (Up s) = true
+is_up_in (Down d) = false
+
+-- the crew with the terminal's job behind the others
+abbrev pub seated_in : NewLogin → CrewState → CrewState
+seated_in login c = record c { jobs = c.jobs ++ terminal_job c.next_job login.terminal login.user login.time ∷ []; next_job = c.next_job + 1 }
+
+-- the operator's line, and the first line of the job's file with the terminal's mark
+abbrev pub login_text : ℕ → ℕ → NewLogin → List ℕ
+login_text count number login =
+    operator_line count (job_text number (terminal_name login.terminal ++ codes " IN")) ++ shown_at login.terminal (terminal_job number login.terminal login.user login.time).monitor
+
+-- it isn't refused, and comes in
+pub record SitsDown (known : Bool) (login : NewLogin) (count : ℕ) (c : CrewState) (failure : Option Failure) (c' : CrewState) (before after : Option (List ℕ)) (old new : ℕ) : Type 0 where
+  pub granted : RefusesLoginAsIn c known login.terminal login.user login.time None
+  pub crew : c' ≡ seated_in login c
+  pub put : Puts failure (login_text count c.next_job login) before after old new
+
+-- it is refused for this
+pub record IsTurnedAway (known : Bool) (login : NewLogin) (count : ℕ) (c : CrewState) (failure : Option Failure) (c' : CrewState) (before after : Option (List ℕ)) (old new : ℕ) : Type 0 where
+  pub text : List ℕ
+  pub refuses : RefusesLoginAsIn c known login.terminal login.user login.time (Some text)
+  pub crew : c' ≡ c
+  pub put : Puts failure (operator_line count (codes "REFUSED " ++ text)) before after old new
+
+-- what is told of a terminal's job that isn't taken in
+abbrev pub TellsSeat : NotSeated → ℕ → Option Failure → Option (List ℕ) → Option (List ℕ) → ℕ → ℕ → Type 0
+TellsSeat (why.TerminalBusy t) count failure before after old new = Puts failure (operator_line count (codes "REFUSED " ++ busy_text t)) before after old new
+TellsSeat (why.NotTaken reason) count failure before after old new = TellsWhy reason count failure before after old new
+
+-- for want of memory nothing was done
+abbrev pub DidNothing : CrewState → Option Failure → CrewState → Option (List ℕ) → Option (List ℕ) → ℕ → ℕ → Type 0
+DidNothing c failure c' before after old new = (failure ≡ Some Memory) × (c' ≡ c) × (after ≡ before) × (new ≡ old)
+
+abbrev pub SeatsJob : Bool → NewLogin → ℕ → CrewState → Option Failure → CrewState → Option (List ℕ) → Option (List ℕ) → ℕ → ℕ → Type 0
+SeatsJob known login count c failure c' before after old new =
+    SitsDown known login count c failure c' before after old new
+    ⊎ (IsTurnedAway known login count c failure c' before after old new ⊎ DidNothing c failure c' before after old new)
+
+-- the job that sits there with its document held open was changed, and nothing is told
+pub record IsChanged (t : ℕ) (change : JobState → JobState) (c : CrewState) (failure : Option Failure) (c' : CrewState) (before after : Option (List ℕ)) (old new : ℕ) : Type 0 where
+  pub job : JobState
+  pub there : open_at t c.jobs ≡ Some job
+  pub crew : c' ≡ record c { jobs = with_job (change job) c.jobs }
+  pub untold : (failure ≡ None) × (after ≡ before) × (new ≡ old)
+
+-- no such job is there
+pub record IsNowhere (t count : ℕ) (c : CrewState) (failure : Option Failure) (c' : CrewState) (before after : Option (List ℕ)) (old new : ℕ) : Type 0 where
+  pub none : open_at t c.jobs ≡ None
+  pub crew : c' ≡ c
+  pub put : Puts failure (operator_line count (codes "REFUSED " ++ none_text t)) before after old new
+
+abbrev pub ChangesAt : ℕ → (JobState → JobState) → ℕ → CrewState → Option Failure → CrewState → Option (List ℕ) → Option (List ℕ) → ℕ → ℕ → Type 0
+ChangesAt t change count c failure c' before after old new =
+    IsChanged t change c failure c' before after old new
+    ⊎ (IsNowhere t count c failure c' before after old new ⊎ DidNothing c failure c' before after old new)

@@ -1,9 +1,0 @@
--- Where the store wasn't asked each user has an account.
-use Rattle.std.proofs.Common.{◌∙◌, sym}
-use Rattle.g_run.proofs.WatchedLemmas.{opens_none}
-use Rattle.g_run.proofs.day_up.DayUp.open_accounts.Goals as goal
-
-pub returns-else-asked-clause-opens : goal.returns-else-asked-clause-opens
-returns-else-asked-clause-opens g c =
-    let up = c.args.self.now in
-    opens_none up.store.running.online.contents.users up.crew (c.requires.accounts (sym c.asked.ensures ∙ c.if-asked.false))

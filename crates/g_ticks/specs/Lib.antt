@@ -1,0 +1,4 @@
+pub mod Parts
+pub mod Tick
+pub mod Turning
+pub mod Watch
