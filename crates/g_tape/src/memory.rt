@@ -12,13 +12,14 @@ use crate::tapes::Tapes;
 use g_base::{Armings, Block, Fuse, NoMemory, raised};
 use std::alloc::Global;
 
-/// A rack in memory. Nothing fails but the write at which its fuse is 1 and the reads that are named.
+/// A rack in memory. Nothing fails but the write at which its fuse is 1, the reads that are named, and `secure` once that was set.
 #[derive(Drop)]
 pub struct MemoryTapes {
     reels: Vec<MemoryReel>,
     leave: TapeLeave,
     fail: Vec<u64>,
     reads: u64,
+    insecure: bool,
     read_faults: u64,
     write_faults: u64,
     fuse: Fuse,
@@ -46,6 +47,7 @@ impl MemoryTapes {
             leave: TapeLeave::Old,
             fail: Vec::new(alloc),
             reads: 0,
+            insecure: false,
             read_faults: 0,
             write_faults: 0,
             fuse: Fuse::new(),
@@ -67,10 +69,17 @@ impl MemoryTapes {
     {
         self.fail = calls;
     }
+
+    /// Says whether `secure` fails from now on, as on a device that can't make a reel durable.
+    pub fn set_insecure(&mut self, insecure: bool)
+        ensures { memory_of self.new ≡ record (memory_of self.old) { insecure = insecure } }
+    {
+        self.insecure = insecure;
+    }
 }
 
 impl Tapes for MemoryTapes {
-    ghost use Rattle.g_tape.specs.Memory.{rack_of, memory_of, MemoryReads, MemoryWrites};
+    ghost use Rattle.g_tape.specs.Memory.{rack_of, memory_of, MemoryReads, MemorySecures, MemoryWrites};
 
     ghost rack = { rack_of };
 
@@ -161,6 +170,19 @@ impl Tapes for MemoryTapes {
             return Err(TapeFault::WriteFailed);
         }
         self.reels[place].end_with(k, from);
+        Ok(())
+    }
+
+    fn secure(&mut self, serial: u32) -> Result<(), TapeFault>
+        ensures { MemorySecures serial (memory_of self.old) result (memory_of self.new) }
+    {
+        let Some(_place) = place_of(&self.reels, serial) else {
+            return Err(TapeFault::NoTape);
+        };
+        if self.insecure {
+            self.read_faults = raised(self.read_faults);
+            return Err(TapeFault::ReadFailed);
+        }
         Ok(())
     }
 

@@ -29,4 +29,5 @@ returns c =
       leave = refl;
       fail = c.new.ensures.items;
       reads = refl;
+      insecure = refl;
     }
