@@ -1,6 +1,6 @@
 //! What a read and a write ask of two racks: of the one whose reel leads, and of the other one.
 ghost use Rattle.std.specs.Prelude.{◌≡◌};
-ghost use Rattle.g_duplex.specs.Calls.{Follows, HasAsked, HasWritten, armed_when, counted};
+ghost use Rattle.g_duplex.specs.Calls.{Follows, HasAsked, HasSecured, HasWritten, SecuresOther, armed_when, counted, may_give_up};
 ghost use Rattle.g_duplex.specs.Twins.{is_lost, may_help, of_leader, of_other};
 
 use crate::twin::{Standing, Twin};
@@ -114,6 +114,60 @@ fn write_other<T: Tapes>(
     match other.write(serial, k, from) {
         Ok(()) => standing.after_both(k),
         Err(_) => Standing::Lost(Twin::Second),
+    }
+}
+
+/// Makes the leading twin durable, and then the other one, if that isn't lost. The answer is the leading twin's, unless the other one
+/// fails and can't be given up; and how they stand then.
+pub(crate) fn secure_twins<T: Tapes>(
+    first: &mut T,
+    second: &mut T,
+    standing: Standing,
+    serial: u32,
+) -> (Result<(), TapeFault>, Standing)
+    ensures { HasSecured standing serial (of_leader standing (T.rack first.old) (T.rack second.old)) (of_other standing (T.rack first.old) (T.rack second.old))
+        result.0 result.1 (of_leader standing (T.rack first.new) (T.rack second.new)) (of_other standing (T.rack first.new) (T.rack second.new)) }
+{
+    match standing.leader() {
+        Twin::First => secure_both(first, second, standing, serial),
+        Twin::Second => secure_both(second, first, standing, serial),
+    }
+}
+
+/// Makes the leading reel durable, and then the other one, if that isn't lost. The answer, and how they stand then.
+fn secure_both<T: Tapes>(
+    leading: &mut T,
+    other: &mut T,
+    standing: Standing,
+    serial: u32,
+) -> (Result<(), TapeFault>, Standing)
+    ensures { HasSecured standing serial (T.rack leading.old) (T.rack other.old) result.0 result.1 (T.rack leading.new) (T.rack other.new) }
+{
+    match leading.secure(serial) {
+        Err(fault) => (Err(fault), standing),
+        Ok(()) => secure_other(leading, other, standing, serial),
+    }
+}
+
+/// Makes the other reel durable, if that isn't lost. One that can't be is lost from then on, unless the pair would then be seen as
+/// mounted and wasn't before. The answer, and how they stand then.
+fn secure_other<T: Tapes>(
+    leading: &T,
+    other: &mut T,
+    standing: Standing,
+    serial: u32,
+) -> (Result<(), TapeFault>, Standing)
+    ensures { SecuresOther (is_lost standing) (may_give_up serial (T.rack leading.now) (T.rack other.old)) serial standing (T.rack other.old)
+        result.0 result.1 (T.rack other.new) }
+{
+    if standing.is_lost() {
+        return (Ok(()), standing);
+    }
+    let spare = !leading.mounted(serial) || other.mounted(serial);
+    match other.secure(serial) {
+        Ok(()) => (Ok(()), standing),
+        Err(_) if spare => (Ok(()), Standing::Lost(Twin::Second)),
+        Err(_) => (Err(TapeFault::ReadFailed), standing),
     }
 }
 

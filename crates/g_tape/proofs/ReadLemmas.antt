@@ -10,7 +10,7 @@ use Rattle.g_base.specs.Counts.{one_more, Rose}
 use Rattle.g_tape.specs.declared.fault.TapeFault.{TapeFault}
 use Rattle.g_tape.specs.declared.fault.TapeFault.TheVariants.{NoTape, NotMounted, End, ReadFailed, WriteFailed}
 use Rattle.g_tape.specs.Reel.{Reel, IsReel, read_at}
-use Rattle.g_tape.specs.Rack.{Rack, AreReels, reel, with_reel, changed, refuses_read, Reading, Securing}
+use Rattle.g_tape.specs.Rack.{Rack, AreReels, reel, with_reel, changed, refuses_read, Reading, Securing, SecuringAll}
 use Rattle.g_tape.specs.Reads.{unread, blocks_in, times_in, count_at, blocks_of, OnlyReads, HasRead}
 use Rattle.g_tape.specs.Laws.{ReadsOnlyRead}
 use Rattle.g_tape.proofs.PlaceLemmas.{reel-found}
@@ -233,5 +233,13 @@ securing_only s old new (Err WriteFailed) never = absurd never
 securing_only s old new (Err NotMounted) never = absurd never
 securing_only s old new (Err End) never = absurd never
 
+pub securing_all_only : (old new : Rack) (result : Result (Unit {0}) TapeFault) → SecuringAll old result new → OnlyReads old new
+securing_all_only old new (Ok u) is = nothing_else old new is
+securing_all_only old new (Err ReadFailed) (rose, is) = reads_failed old new rose is
+securing_all_only old new (Err NoTape) never = absurd never
+securing_all_only old new (Err WriteFailed) never = absurd never
+securing_all_only old new (Err NotMounted) never = absurd never
+securing_all_only old new (Err End) never = absurd never
+
 pub reads_only_read : ReadsOnlyRead
-reads_only_read = record { only = reading_only; counted = has_read; blocks = blocks_after_reads; secured = securing_only }
+reads_only_read = record { only = reading_only; counted = has_read; blocks = blocks_after_reads; secured = securing_only; all_secured = securing_all_only }

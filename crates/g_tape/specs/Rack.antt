@@ -102,3 +102,9 @@ Securing s old (Err ReadFailed) new =
     (is_some (reel s old.reels) ≡ true) × Rose old.read_faults new.read_faults × (new ≡ record old { read_faults = new.read_faults })
 Securing s old (Err NoTape) new = (is_some (reel s old.reels) ≡ false) × (new ≡ old)
 Securing s old (Err fault) new = ⊥
+
+-- the same of every reel of the rack
+abbrev pub SecuringAll : Rack → Result (Unit {0}) TapeFault → Rack → Type 0
+SecuringAll old (Ok _) new = new ≡ old
+SecuringAll old (Err ReadFailed) new = Rose old.read_faults new.read_faults × (new ≡ record old { read_faults = new.read_faults })
+SecuringAll old (Err fault) new = ⊥
