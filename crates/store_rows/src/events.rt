@@ -41,6 +41,8 @@ pub(crate) enum Device {
     Unread,
     /// The same of the tapes.
     UnreadTape,
+    /// No reel can be made durable from here on, where the number is 1; else each can.
+    Insecure,
     /// A dump is opened on the reel.
     Open,
     /// All versions are written onto the reel, and the other reels released.

@@ -54,7 +54,8 @@ impl System {
         match event {
             Event::Format | Event::Start | Event::Restore => self.opened(alloc, event),
             Event::Shut => self.shut(),
-            Event::Device(Device::UnreadTape, call) => self.unread_tape(alloc, *call),
+            Event::Device(Device::UnreadTape, call) => self.turn_tapes(alloc, false, *call),
+            Event::Device(Device::Insecure, number) => self.turn_tapes(alloc, true, *number),
             _ => match &mut *self.up {
                 Some(store) => {
                     let answer = happens_up(alloc, store, event);
@@ -100,13 +101,17 @@ impl System {
         }
     }
 
-    /// A read of the tapes of a system that is down fails.
-    fn unread_tape(&mut self, alloc: Global, call: u32) -> Outcome {
-        let calls = [u64::from(call)].to_vec(alloc)?;
+    /// The tapes of a system that is down fail from here on: the read of this number, or whatever makes a reel durable.
+    fn turn_tapes(&mut self, alloc: Global, is_insecure: bool, number: u32) -> Outcome {
+        let calls = [u64::from(number)].to_vec(alloc)?;
         match (*self.down).take() {
             Some(Devices { disc, tapes }) => {
                 let mut tapes = tapes.into_tapes();
-                tapes.fail_reads(calls);
+                if is_insecure {
+                    tapes.set_insecure(number == 1);
+                } else {
+                    tapes.fail_reads(calls);
+                }
                 self.lie_on(disc, KnownReels::new(alloc, tapes));
                 Ok(Answer::Done)
             }
