@@ -41,7 +41,7 @@ pub(crate) enum Device {
     Unread,
     /// The same of the tapes.
     UnreadTape,
-    /// No reel can be made durable from here on, where the number is 1; else each can.
+    /// The reel of this serial can't be made durable from here on; each can if the number is 0.
     Insecure,
     /// A dump is opened on the reel.
     Open,
