@@ -1,6 +1,6 @@
 -- A PAIR THAT IS MADE DURABLE is seen as it was, and its reels stay twins.
 -- serves: calls::DuplexTapes::secure
-use Rattle.std.proofs.Common.{◌≡◌, ◌⊎◌, ℕ, List, Bool, true, false, not, ◌&&◌, ◌||◌, Option, Some, None, is_some, Result, Ok, Err, inl, inr, refl, sym, ap, subst, arith, ◌∙◌, length}
+use Rattle.std.proofs.Common.{◌≡◌, ◌⊎◌, ℕ, List, Bool, true, false, not, ◌&&◌, ◌||◌, Option, Some, None, is_some, Result, Ok, Err, inl, inr, if◌then◌else◌, refl, sym, ap, subst, arith, ◌∙◌, length}
 use Rattle.std.specs.Option.{ForSome}
 use Rattle.g_base.specs.Counts.{Rose, one_more}
 use Rattle.g_tape.specs.declared.fault.TapeFault.{TapeFault}
@@ -11,7 +11,8 @@ use Rattle.g_tape.specs.Reads.{OnlyReads}
 use Rattle.g_tape.proofs.ReadLemmas.{nothing_read, securing_only}
 use Rattle.g_duplex.specs.Twins.{AreTwins, DoAgree, is_lost, of_leader, of_other, pair_reel}
 use Rattle.g_duplex.specs.Pair.{ArePaired, Pair, pair_reels, shown, standing, standing_in, stands, with_standing}
-use Rattle.g_duplex.specs.Calls.{Answer, HasSecured, PairSecures, SecuresOn, SecuresOther, behind, counted, leading, may_give_up, settles}
+use Rattle.g_duplex.specs.Calls.{Answer, HasSecured, PairSecures, OtherTwin, SecuresOn, SecuresOther, behind, counted, is_shorter, leading, may_give_up, other_is, settles}
+use Rattle.g_duplex.specs.Calls.OtherTwin.{Gone, Lacking, Needed, Spare}
 use Rattle.g_duplex.specs.declared.twin.Twin.TheVariants.{First, Second}
 use Rattle.g_duplex.specs.declared.twin.Standing.{Standing}
 use Rattle.g_duplex.specs.declared.twin.Standing.TheVariants.{Apart, Level, Lost}
@@ -23,13 +24,15 @@ use Rattle.g_duplex.proofs.UnreadLemmas.{paired_unread, seen_unread}
 unchanged_only : (old new : Rack) → new ≡ old → OnlyReads old new
 unchanged_only old new same = subst (OnlyReads old) (sym same) (nothing_read old)
 
-other_only : (lost spare : Bool) (s : ℕ) (t after : Standing) (old new : Rack) (result : Answer) → SecuresOther lost spare s t old result after new → OnlyReads old new
-other_only true spare s t after old new result (is, stays, same) = unchanged_only old new same
-other_only false spare s t after old new result (answer, securing, settled) = securing_only s old new answer securing
+other_only : (other : OtherTwin) (s : ℕ) (t after : Standing) (old new : Rack) (result : Answer) → SecuresOther other s t old result after new → OnlyReads old new
+other_only Gone s t after old new result (is, stays, same) = unchanged_only old new same
+other_only Lacking s t after old new result (is, stays, same) = unchanged_only old new same
+other_only Spare s t after old new result (answer, securing, settled) = securing_only s old new answer securing
+other_only Needed s t after old new result (answer, securing, settled) = securing_only s old new answer securing
 
 on_only : (s : ℕ) (t after : Standing) (lead other other' : Rack) (answer result : Answer) → SecuresOn s t lead other answer result after other' → OnlyReads other other'
 on_only s t after lead other other' (Err fault) result (is, stays, same) = unchanged_only other other' same
-on_only s t after lead other other' (Ok u) result on = other_only (is_lost t) (may_give_up s lead other) s t after other other' result on
+on_only s t after lead other other' (Ok u) result on = other_only (other_is t (may_give_up s lead other) (is_shorter s lead other)) s t after other other' result on
 
 pub secured_only : (s : ℕ) (t after : Standing) (lead other lead' other' : Rack) (result : Answer) → HasSecured t s lead other result after lead' other'
     → OnlyReads lead lead' × OnlyReads other other'
@@ -40,17 +43,20 @@ record Settled (t : Standing) (spare : Bool) (result : Answer) (after : Standing
   answer : (result ≡ Ok tt) ⊎ (result ≡ Err ReadFailed)
   stands : (after ≡ t) ⊎ ((after ≡ Lost Second) × (is_lost t ≡ false) × (spare ≡ true))
 
-other_settled : (lost : Bool) (spare : Bool) (s : ℕ) (t after : Standing) (old new : Rack) (result : Answer) → is_lost t ≡ lost → SecuresOther lost spare s t old result after new
-    → Settled t spare result after
-other_settled true spare s t after old new result lost (is, stays, same) = record { answer = inl is; stands = inl stays }
-other_settled false spare s t after old new result lost (Ok u, securing, settled) =
+either_settled : (spare : Bool) (s : ℕ) (t after : Standing) (answer result : Answer) → is_lost t ≡ false → (result, after) ≡ settles spare answer t → Settled t spare result after
+either_settled spare s t after (Ok u) result fine settled =
     record { answer = inl (ap (λ (p : Answer × Standing). p.0) settled); stands = inl (ap (λ (p : Answer × Standing). p.1) settled) }
-other_settled false true s t after old new result lost (Err fault, securing, settled) = record {
-  answer = inl (ap (λ (p : Answer × Standing). p.0) settled);
-  stands = inr (ap (λ (p : Answer × Standing). p.1) settled, lost, refl);
-}
-other_settled false false s t after old new result lost (Err fault, securing, settled) =
+either_settled true s t after (Err fault) result fine settled =
+    record { answer = inl (ap (λ (p : Answer × Standing). p.0) settled); stands = inr (ap (λ (p : Answer × Standing). p.1) settled, fine, refl) }
+either_settled false s t after (Err fault) result fine settled =
     record { answer = inr (ap (λ (p : Answer × Standing). p.0) settled); stands = inl (ap (λ (p : Answer × Standing). p.1) settled) }
+
+other_settled : (lost spare shorter : Bool) (s : ℕ) (t after : Standing) (old new : Rack) (result : Answer) → is_lost t ≡ lost
+    → SecuresOther (if lost then Gone else (if spare then (if shorter then Lacking else Spare) else Needed)) s t old result after new → Settled t spare result after
+other_settled true spare shorter s t after old new result lost (is, stays, same) = record { answer = inl is; stands = inl stays }
+other_settled false true true s t after old new result lost (is, given_up, same) = record { answer = inl is; stands = inr (given_up, lost, refl) }
+other_settled false true false s t after old new result lost (answer, securing, settled) = either_settled true s t after answer result lost settled
+other_settled false false shorter s t after old new result lost (answer, securing, settled) = either_settled false s t after answer result lost settled
 
 -- a reel that is there isn't missing
 only_failed : (s : ℕ) (old new : Rack) (fault : TapeFault) (r : Reel) → reel s old.reels ≡ Some r → Securing s old (Err fault) new → fault ≡ ReadFailed
@@ -63,7 +69,7 @@ only_failed s old new End r there securing = absurd securing
 on_settled : (s : ℕ) (t after : Standing) (lead lead' other other' : Rack) (answer result : Answer) (r : Reel) → reel s lead.reels ≡ Some r → Securing s lead answer lead'
     → SecuresOn s t lead' other answer result after other' → Settled t (may_give_up s lead' other) result after
 on_settled s t after lead lead' other other' (Ok u) result r there securing on =
-    other_settled (is_lost t) (may_give_up s lead' other) s t after other other' result refl on
+    other_settled (is_lost t) (may_give_up s lead' other) (is_shorter s lead' other) s t after other other' result refl on
 on_settled s t after lead lead' other other' (Err fault) result r there securing (is, stays, same) =
     record { answer = inr (is ∙ ap (λ (f : TapeFault). let e : Answer = Err f in e) (only_failed s lead lead' fault r there securing)); stands = inl stays }
 
@@ -187,13 +193,12 @@ pub pair_secures_as : (s : ℕ) (p : Pair) (t after : Standing) (first' second' 
     → HasSecured t s (leading t p) (behind t p) result after (of_leader t first' second') (of_other t first' second')
     → us ≡ stands s (λ _. after) p → n ≡ counted result p.read_faults
     → PairSecures s p result (record p { first = first'; second = second'; standings = us; read_faults = n }) × ArePaired us first'.reels second'.reels
-pair_secures_as s p t after first' second' result us n paired stand secured stands_are counts =
-    (
-      subst (λ (ts : List Standing). PairSecures s p result (record p { first = first'; second = second'; standings = ts; read_faults = n })) (sym stands_are)
+pair_secures_as s p t after first' second' result us n paired stand secured stands_are counts = (
+  subst (λ (ts : List Standing). PairSecures s p result (record p { first = first'; second = second'; standings = ts; read_faults = n })) (sym stands_are)
       (subst (λ (m : ℕ). PairSecures s p result (record p { first = first'; second = second'; standings = stands s (λ _. after) p; read_faults = m })) (sym counts)
       (pair_secures s p t after first' second' result paired stand secured)),
-      subst (λ (ts : List Standing). ArePaired ts first'.reels second'.reels) (sym stands_are) (paired_still s p t after first' second' result paired stand secured),
-    )
+  subst (λ (ts : List Standing). ArePaired ts first'.reels second'.reels) (sym stands_are) (paired_still s p t after first' second' result paired stand secured),
+)
 
 -- a serial that isn't there
 pub pair_secures_none : (s : ℕ) (p : Pair) → reel s (shown p).reels ≡ None → standing_in s p ≡ None → PairSecures s p (Err NoTape) p

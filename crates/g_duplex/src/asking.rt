@@ -1,6 +1,6 @@
 //! What a read and a write ask of two racks: of the one whose reel leads, and of the other one.
 ghost use Rattle.std.specs.Prelude.{◌≡◌};
-ghost use Rattle.g_duplex.specs.Calls.{Follows, HasAsked, HasSecured, HasWritten, SecuresOther, armed_when, counted, may_give_up};
+ghost use Rattle.g_duplex.specs.Calls.{Follows, HasAsked, HasSecured, HasWritten, SecuresOther, armed_when, counted, is_shorter, may_give_up, other_is};
 ghost use Rattle.g_duplex.specs.Twins.{is_lost, may_help, of_leader, of_other};
 
 use crate::twin::{Standing, Twin};
@@ -118,7 +118,7 @@ fn write_other<T: Tapes>(
 }
 
 /// Makes the leading twin durable, and then the other one, if that isn't lost. The answer is the leading twin's, unless the other one
-/// fails and can't be given up; and how they stand then.
+/// fails and can't be given up. Then how they stand.
 pub(crate) fn secure_twins<T: Tapes>(
     first: &mut T,
     second: &mut T,
@@ -149,25 +149,38 @@ fn secure_both<T: Tapes>(
     }
 }
 
-/// Makes the other reel durable, if that isn't lost. One that can't be is lost from then on, unless the pair would then be seen as
-/// mounted and wasn't before. The answer, and how they stand then.
+/// Makes the other reel durable, if that isn't lost. It is lost from then on if it can't be made durable, or lacks blocks that the
+/// leading one has; but only if the pair isn't seen as mounted for it. The answer, and how the twins stand.
 fn secure_other<T: Tapes>(
     leading: &T,
     other: &mut T,
     standing: Standing,
     serial: u32,
 ) -> (Result<(), TapeFault>, Standing)
-    ensures { SecuresOther (is_lost standing) (may_give_up serial (T.rack leading.now) (T.rack other.old)) serial standing (T.rack other.old)
-        result.0 result.1 (T.rack other.new) }
+    ensures { SecuresOther (other_is standing (may_give_up serial (T.rack leading.now) (T.rack other.old)) (is_shorter serial (T.rack leading.now) (T.rack other.old)))
+        serial standing (T.rack other.old) result.0 result.1 (T.rack other.new) }
 {
     if standing.is_lost() {
         return (Ok(()), standing);
     }
-    let spare = !leading.mounted(serial) || other.mounted(serial);
+    let may_give_up = !leading.mounted(serial) || other.mounted(serial);
+    if may_give_up && is_shorter(leading, other, serial) {
+        return (Ok(()), Standing::Lost(Twin::Second));
+    }
     match other.secure(serial) {
         Ok(()) => (Ok(()), standing),
-        Err(_) if spare => (Ok(()), Standing::Lost(Twin::Second)),
+        Err(_) if may_give_up => (Ok(()), Standing::Lost(Twin::Second)),
         Err(_) => (Err(TapeFault::ReadFailed), standing),
+    }
+}
+
+/// Whether the other reel has fewer blocks than the leading one.
+fn is_shorter<T: Tapes>(leading: &T, other: &T, serial: u32) -> bool
+    ensures { result ≡ is_shorter serial (T.rack leading.now) (T.rack other.now) }
+{
+    match (other.length(serial), leading.length(serial)) {
+        (Ok(blocks), Ok(most)) => blocks < most,
+        _ => false,
     }
 }
 

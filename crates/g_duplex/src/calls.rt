@@ -159,11 +159,11 @@ impl<T: Tapes> Tapes for Duplex<T> {
             return Err(TapeFault::NoTape);
         };
         let standing = self.standings.get(place);
-        let (answer, after) = secure_twins(&mut self.first, &mut self.second, standing, serial);
+        let (secured, after) = secure_twins(&mut self.first, &mut self.second, standing, serial);
         self.standings.set(place, after);
         self.lost = lost_among(&self.first, &self.standings);
-        self.read_faults = counted(&answer, self.read_faults);
-        answer
+        self.read_faults = counted(&secured, self.read_faults);
+        secured
     }
 
     fn arm(&mut self, k: u32)

@@ -85,7 +85,7 @@ impl<T: Tapes> Remembered<T> {
         self.tapes.read(serial, k, into)
     }
 
-    /// The device is asked each time: that a reel's dumps are remembered says nothing of what a power loss leaves of it.
+    /// Asks the device each time: a reel whose dumps are remembered need not be durable.
     pub(crate) fn secure(&mut self, serial: u32) -> Result<(), TapeFault>
         requires known { AreKnown (T.rack self.old.tapes) self.old.known.items }
         ensures securing { Securing serial (T.rack self.old.tapes) result (T.rack self.new.tapes) }

@@ -52,8 +52,8 @@ pub fn read_rack<T: Tapes>(alloc: Global, tapes: &mut T) -> Result<Vec<Found>, S
     Ok(found)
 }
 
-/// The same of a rack that is made durable first, so that nothing that is read of it can be taken by a power loss. `ReadFault` also if a
-/// reel can't be made durable.
+/// Makes the rack durable and then reads it as `read_rack` does: a restore believes no mark that a power loss could still take.
+/// `ReadFault` also if a reel can't be made durable.
 pub(crate) fn read_durable_rack<T: Tapes>(
     alloc: Global,
     tapes: &mut T,

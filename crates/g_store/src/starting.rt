@@ -28,8 +28,8 @@ use std::alloc::Global;
 /// be mounted. All reels are made durable before one of them is read. A refusal hands both devices back:
 ///
 /// - `NoFilestore`: the disc holds none. `DiscReadFault`: a block of it couldn't be read. `MountFirst`: the serial of the intent's
-///   reel, which isn't mounted. `TapeReadFault`: a reel couldn't be made durable, or a read of the
-///   intent's reel failed. With these, and with `NoMemory`, the disc is as it was.
+///   reel, which isn't mounted. `TapeReadFault`: a reel couldn't be made durable, or a read of the intent's reel
+///   failed. With these, and with `NoMemory`, the disc is as it was.
 /// - `Stopped`: a write failed, and the disc stands for what it stood for, or for that with the dump taken over.
 pub fn start<D: Disc, T: Tapes>(
     alloc: Global,

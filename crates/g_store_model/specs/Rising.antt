@@ -67,8 +67,8 @@ start_refuses s k o = first_fault (
     ∷ (is_cut o && is_completed s k.intent, Stopped)
     ∷ [])
 
--- STARTING makes the rack durable, and takes what the disc holds. Where the intent's reel has the dump that it names, the dump is adopted, and its number is
--- the answer; else the intent stays on the disc until the next commit.
+-- STARTING makes the rack durable and takes what the disc holds. If the intent's reel has the dump that it names, the dump is adopted,
+-- and its number is the answer; otherwise the intent stays on the disc until the next commit.
 abbrev pub Starts : State → Option Holding → Outcome → Result (Option ℕ) StoreFault → State → Type 0
 Starts s k DiscRead answer new = (answer ≡ Err DiscReadFault) × (new ≡ s)
 Starts s None o answer new = (answer ≡ Err NoFilestore) × (new ≡ s)

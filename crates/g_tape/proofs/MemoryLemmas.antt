@@ -2,7 +2,7 @@
 use Rattle.std.proofs.Common.{◌≡◌, ℕ, ◌<◌, ◌≤◌, List, true, false, Option, Some, None, is_some, Ok, Err, Contains, length, get_or, slice_get, subst, sym, ap, ◌∙◌, refl, arith, eqb}
 use Rattle.std.specs.Option.{ForSome}
 use Rattle.std.proofs.Math.ListN.{set}
-use Rattle.std.proofs.lemmas.Bool.{eqb-false}
+use Rattle.std.proofs.lemmas.Bool.{eqb-false, eqb-true}
 use Rattle.g_base.specs.Counts.{one_more, Rose}
 use Rattle.g_base.specs.Fuse.{burnt}
 use Rattle.g_tape.specs.declared.fault.TapeFault.TheVariants.{ReadFailed, WriteFailed}
@@ -25,6 +25,10 @@ pub not-among : (all : List ℕ) (fail : List ℕ) (number : ℕ) → all ≡ fa
 not-among all fail number same none among =
     let (k, within, is) = subst (λ (xs : List ℕ). Contains xs number) (sym same) among in
     eqb-false (get_or all k number) number (none k number (omega arith) within) is
+
+pub among : (all : List ℕ) (named : List ℕ) (number : ℕ) → all ≡ named → (k : ℕ) × (k < length all) × ((d : ℕ) → eqb (get_or all k d) number ≡ true) → Contains named number
+among all named number same (k, within, is) =
+    subst (λ (xs : List ℕ). Contains xs number) same (k, within, eqb-true (get_or all k number) number (is number))
 
 pub reads-done : (s k i : ℕ) (old : Memory) (reads : ℕ) (was now : Reel) (into : List ℕ) → IsPlaceOf s old.rack.reels i → was ≡ get_or old.rack.reels i was → refuses_read k (Some was) ≡ None
     → ForSome was.blocks (λ bs. slice_get bs k ≡ Some into) → now ≡ read_at k was → reads ≡ one_more old.reads → (Contains old.fail reads → ⊥)
@@ -84,17 +88,17 @@ writes-torn s k i block old fuse faults was now place is allowed value burns mor
     }
 
 -- SECURING A REEL that is there
-pub secures_done : (s i : ℕ) (old : Memory) → IsPlaceOf s old.rack.reels i → old.insecure ≡ false → MemorySecures s old (Ok tt) old
+pub secures_done : (s i : ℕ) (old : Memory) → IsPlaceOf s old.rack.reels i → (Contains old.insecure s → ⊥) → MemorySecures s old (Ok tt) old
 secures_done s i old place sound = record {
   securing = (found s i old.rack.reels place, refl);
-  fails = (λ e. absurd (cc), λ (there, fails). absurd (let never : false ≡ true = sym sound ∙ fails in cc));
+  fails = (λ e. absurd (cc), λ (there, named). absurd (sound named));
   others = refl;
 }
 
-pub secures_badly : (s i : ℕ) (old : Memory) (faults : ℕ) → IsPlaceOf s old.rack.reels i → old.insecure ≡ true → faults ≡ one_more old.rack.read_faults
+pub secures_badly : (s i : ℕ) (old : Memory) (faults : ℕ) → IsPlaceOf s old.rack.reels i → Contains old.insecure s → faults ≡ one_more old.rack.read_faults
     → MemorySecures s old (Err ReadFailed) (record old { rack = record old.rack { read_faults = faults } })
-secures_badly s i old faults place fails counted = record {
+secures_badly s i old faults place named counted = record {
   securing = (found s i old.rack.reels place, subst (λ (n : ℕ). Rose old.rack.read_faults n) (sym counted) (record { more = omega arith }), refl);
-  fails = (λ e. (found s i old.rack.reels place, fails), λ both. refl);
+  fails = (λ e. (found s i old.rack.reels place, named), λ both. refl);
   others = refl;
 }

@@ -94,8 +94,8 @@ Writing s k block old (Err WriteFailed) new =
 Writing s k block old (Err ReadFailed) new = ⊥
 Writing s k block old (Err fault) new = (refuses_write k (reel s old.reels) ≡ Some fault) × (new ≡ old)
 
--- The reel is durable: a power loss leaves it as it is read. Nothing that a caller can observe changes. Or the device failed, which
--- counts as a failed read; or there is no such reel.
+-- The reel was made durable, and nothing that a caller can observe has changed; or the device failed, which counts as a failed read; or
+-- there is no such reel.
 abbrev pub Securing : ℕ → Rack → Result (Unit {0}) TapeFault → Rack → Type 0
 Securing s old (Ok _) new = (is_some (reel s old.reels) ≡ true) × (new ≡ old)
 Securing s old (Err ReadFailed) new =

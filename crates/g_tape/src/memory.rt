@@ -12,14 +12,14 @@ use crate::tapes::Tapes;
 use g_base::{Armings, Block, Fuse, NoMemory, raised};
 use std::alloc::Global;
 
-/// A rack in memory. Nothing fails but the write at which its fuse is 1, the reads that are named, and `secure` once that was set.
+/// A rack in memory. Nothing fails but the write at which its fuse is 1, the reads that are named, and `secure` of the reels that are named.
 #[derive(Drop)]
 pub struct MemoryTapes {
     reels: Vec<MemoryReel>,
     leave: TapeLeave,
     fail: Vec<u64>,
     reads: u64,
-    insecure: bool,
+    insecure: Vec<u32>,
     read_faults: u64,
     write_faults: u64,
     fuse: Fuse,
@@ -47,7 +47,7 @@ impl MemoryTapes {
             leave: TapeLeave::Old,
             fail: Vec::new(alloc),
             reads: 0,
-            insecure: false,
+            insecure: Vec::new(alloc),
             read_faults: 0,
             write_faults: 0,
             fuse: Fuse::new(),
@@ -70,11 +70,11 @@ impl MemoryTapes {
         self.fail = calls;
     }
 
-    /// Says whether `secure` fails from now on, as on a device that can't make a reel durable.
-    pub fn set_insecure(&mut self, insecure: bool)
-        ensures { memory_of self.new ≡ record (memory_of self.old) { insecure = insecure } }
+    /// Names the reels that can't be made durable from now on, by their serials, in place of those named before.
+    pub fn set_insecure(&mut self, serials: Vec<u32>)
+        ensures { memory_of self.new ≡ record (memory_of self.old) { insecure = serials.items } }
     {
-        self.insecure = insecure;
+        self.insecure = serials;
     }
 }
 
@@ -179,7 +179,7 @@ impl Tapes for MemoryTapes {
         let Some(_place) = place_of(&self.reels, serial) else {
             return Err(TapeFault::NoTape);
         };
-        if self.insecure {
+        if self.insecure.contains(&serial) {
             self.read_faults = raised(self.read_faults);
             return Err(TapeFault::ReadFailed);
         }

@@ -4,9 +4,8 @@ ghost use Rattle.g_tape.specs.Rack.{SecuringAll};
 use crate::fault::TapeFault;
 use crate::tapes::Tapes;
 
-/// Makes every reel of the rack durable, in rising serial, mounted or not: after `Ok` a power loss leaves the whole rack as it is
-/// read. Reads, writes and mounts see no difference. `ReadFailed` at the first reel whose device fails; the reels before it are
-/// durable then (docs/FORMATS.md, "Durability").
+/// Makes every reel of the rack durable, as `Tapes::secure` does, in rising serial and whether mounted or not. `ReadFailed` at the
+/// first reel whose device fails; the reels before it are durable then.
 pub fn secure_all<T: Tapes>(tapes: &mut T) -> Result<(), TapeFault>
     ensures { SecuringAll (T.rack tapes.old) result (T.rack tapes.new) }
 {

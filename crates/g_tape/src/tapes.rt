@@ -52,9 +52,10 @@ pub trait Tapes {
     fn write(&mut self, serial: u32, k: u32, from: &Block) -> Result<(), TapeFault>
         ensures { Writing serial k from.now (rack self.old) result (rack self.new) };
 
-    /// Makes the reel durable, mounted or not: after `Ok` a power loss leaves it as it is read, whatever failed before. Reads, writes
-    /// and mounts see no difference. `NoTape`; `ReadFailed` if the device fails, and then a power loss may still leave other blocks
-    /// where the reel was written last (docs/FORMATS.md, "Durability"). The call doesn't burn the fuse.
+    /// Makes the reel durable, mounted or not: after `Ok` its completed dumps survive a power loss as they are read, and a power loss
+    /// completes no other dump on it, whatever failed before (docs/FORMATS.md, "Durability"). Reads, writes and mounts see no
+    /// difference, and the fuse doesn't burn. `NoTape`; `ReadFailed` if the device fails: then nothing is known of what a power loss
+    /// leaves of the blocks that were written last.
     fn secure(&mut self, serial: u32) -> Result<(), TapeFault>
         ensures { Securing serial (rack self.old) result (rack self.new) };
 

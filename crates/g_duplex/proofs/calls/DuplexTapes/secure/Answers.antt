@@ -23,19 +23,19 @@ lost_among-self-requires g c =
     let first = c.in-Some.ensures in
     let long = long_standings c.args.self.now.standings (g.T.Tapes.rack c.args.self.now.first).reels (g.T.Tapes.rack c.args.self.now.second).reels c.args.self.now.paired in
     let stands = standing-first c.args.serial (g.T.Tapes.rack c.args.self.now.first).reels c.args.self.now.standings c.in-Some.place c.get-standing.result first long c.get-standing.ensures in
-    let same = c.set.ensures ∙ sym (changed-first c.args.serial (g.T.Tapes.rack c.args.self.now.first).reels c.args.self.now.standings c.in-Some.place c.secure_twins-answer.result.1 first long) in
-    let done = pair_secures_as c.args.serial (pair_of c.args.self.now) c.get-standing.result c.secure_twins-answer.result.1 (g.T.Tapes.rack c.secure_twins-answer.new.first)
-    (g.T.Tapes.rack c.secure_twins-answer.new.second) c.secure_twins-answer.result.0 c.set.new.self _ c.args.self.now.paired stands c.secure_twins-answer.ensures same refl in
-    long_standings c.set.new.self (g.T.Tapes.rack c.secure_twins-answer.new.first).reels (g.T.Tapes.rack c.secure_twins-answer.new.second).reels done.1
+    let same = c.set.ensures ∙ sym (changed-first c.args.serial (g.T.Tapes.rack c.args.self.now.first).reels c.args.self.now.standings c.in-Some.place c.secure_twins-secured.result.1 first long) in
+    let done = pair_secures_as c.args.serial (pair_of c.args.self.now) c.get-standing.result c.secure_twins-secured.result.1 (g.T.Tapes.rack c.secure_twins-secured.new.first)
+    (g.T.Tapes.rack c.secure_twins-secured.new.second) c.secure_twins-secured.result.0 c.set.new.self _ c.args.self.now.paired stands c.secure_twins-secured.ensures same refl in
+    long_standings c.set.new.self (g.T.Tapes.rack c.secure_twins-secured.new.first).reels (g.T.Tapes.rack c.secure_twins-secured.new.second).reels done.1
 
 pub invariant_of-self-2 : goal.invariant_of-self-2
 invariant_of-self-2 g c =
     let first = c.in-Some.ensures in
     let long = long_standings c.args.self.now.standings (g.T.Tapes.rack c.args.self.now.first).reels (g.T.Tapes.rack c.args.self.now.second).reels c.args.self.now.paired in
     let stands = standing-first c.args.serial (g.T.Tapes.rack c.args.self.now.first).reels c.args.self.now.standings c.in-Some.place c.get-standing.result first long c.get-standing.ensures in
-    let same = c.set.ensures ∙ sym (changed-first c.args.serial (g.T.Tapes.rack c.args.self.now.first).reels c.args.self.now.standings c.in-Some.place c.secure_twins-answer.result.1 first long) in
-    let done = pair_secures_as c.args.serial (pair_of c.args.self.now) c.get-standing.result c.secure_twins-answer.result.1 (g.T.Tapes.rack c.secure_twins-answer.new.first)
-    (g.T.Tapes.rack c.secure_twins-answer.new.second) c.secure_twins-answer.result.0 c.set.new.self c.counted-self.result c.args.self.now.paired stands c.secure_twins-answer.ensures same
+    let same = c.set.ensures ∙ sym (changed-first c.args.serial (g.T.Tapes.rack c.args.self.now.first).reels c.args.self.now.standings c.in-Some.place c.secure_twins-secured.result.1 first long) in
+    let done = pair_secures_as c.args.serial (pair_of c.args.self.now) c.get-standing.result c.secure_twins-secured.result.1 (g.T.Tapes.rack c.secure_twins-secured.new.first)
+    (g.T.Tapes.rack c.secure_twins-secured.new.second) c.secure_twins-secured.result.0 c.set.new.self c.counted-self.result c.args.self.now.paired stands c.secure_twins-secured.ensures same
     c.counted-self.ensures in
     record { paired = done.1; told = c.lost_among-self.ensures; fused = c.args.self.now.fused }
 
@@ -44,7 +44,7 @@ returns g c =
     let first = c.in-Some.ensures in
     let long = long_standings c.args.self.now.standings (g.T.Tapes.rack c.args.self.now.first).reels (g.T.Tapes.rack c.args.self.now.second).reels c.args.self.now.paired in
     let stands = standing-first c.args.serial (g.T.Tapes.rack c.args.self.now.first).reels c.args.self.now.standings c.in-Some.place c.get-standing.result first long c.get-standing.ensures in
-    let same = c.set.ensures ∙ sym (changed-first c.args.serial (g.T.Tapes.rack c.args.self.now.first).reels c.args.self.now.standings c.in-Some.place c.secure_twins-answer.result.1 first long) in
-    (pair_secures_as c.args.serial (pair_of c.args.self.now) c.get-standing.result c.secure_twins-answer.result.1 (g.T.Tapes.rack c.secure_twins-answer.new.first)
-    (g.T.Tapes.rack c.secure_twins-answer.new.second) c.secure_twins-answer.result.0 c.set.new.self c.counted-self.result c.args.self.now.paired stands c.secure_twins-answer.ensures same
+    let same = c.set.ensures ∙ sym (changed-first c.args.serial (g.T.Tapes.rack c.args.self.now.first).reels c.args.self.now.standings c.in-Some.place c.secure_twins-secured.result.1 first long) in
+    (pair_secures_as c.args.serial (pair_of c.args.self.now) c.get-standing.result c.secure_twins-secured.result.1 (g.T.Tapes.rack c.secure_twins-secured.new.first)
+    (g.T.Tapes.rack c.secure_twins-secured.new.second) c.secure_twins-secured.result.0 c.set.new.self c.counted-self.result c.args.self.now.paired stands c.secure_twins-secured.ensures same
     c.counted-self.ensures).0
