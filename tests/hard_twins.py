@@ -146,6 +146,46 @@ def tests(hard):
                     check_told(f"the {twin} folder deleted", folder.run(START), 0, START_TEXT, told)
                     check_same(f"the {twin} folder deleted: the racks", folder, reels)
 
+    def broken():
+        """A reel that can't be used is named with its folder, and all stays; when it is moved away it is rebuilt."""
+        long = b"the image or a reel isn't as long as it may be, or there are too many reels"
+        kept = b"the image, the rack or a reel may not be read and written"
+        cases = [("of a wrong length", long, lambda path: os.truncate(path, 100))]
+        if hard.AS_NOBODY or os.geteuid():
+            cases.append(("that may not be read", kept, lambda path: os.chmod(path, 0)))
+        for rack, twin, other in ((RACK, "first", "second"), (SECOND, "second", "first")):
+            for what, cause, damage in cases:
+                with with_pair() as (folder, _):
+                    reels, path = rack_of(folder, RACK), folder.at(f"{rack}/1.tape")
+                    damage(path)
+                    before = os.stat(path)
+                    told = f"george: tape 1: the cause is the {twin} reel, {rack}/1.tape; if the {other} is whole, move this file away and the next run rebuilds it\n"
+                    check_told(f"a {twin} reel {what}", folder.run(START), 7, b"", b"george: " + cause + b"\n" + told.encode())
+                    check(f"a {twin} reel {what} stays", (os.stat(path).st_size, os.stat(path).st_mode) == (before.st_size, before.st_mode))
+                    os.rename(path, folder.at("away"))
+                    check_told(f"a {twin} reel {what}, moved away", folder.run(START), 0, START_TEXT, rebuilt((1, twin)))
+                    check_same(f"a {twin} reel {what}, rebuilt", folder, reels)
+
+    def links():
+        """A reel that is a link stays one when it is rebuilt, whatever an interrupted start left beside the file that it leads to."""
+        for rack, twin in ((RACK, "first"), (SECOND, "second")):
+            for left in (None, bytes(7 * BLOCK)):
+                with with_pair() as (folder, _):
+                    reels, path = rack_of(folder, RACK), folder.at(f"{rack}/1.tape")
+                    os.mkdir(folder.at("beside"))
+                    folder.give(folder.at("beside"))
+                    os.rename(path, folder.at("beside/one"))
+                    os.symlink("../beside/one", path)
+                    check_run(f"a {twin} reel that is a link", folder.run(START), 0, START_TEXT)
+                    os.truncate(folder.at("beside/one"), 0)
+                    if left and twin == "first":
+                        folder.put(left, "beside/one.new")
+                    what = f"a {twin} reel that is a link and is empty" + (", with a piece of another beside it" if left else "")
+                    check_told(what, folder.run(START), 0, START_TEXT, rebuilt((1, twin)))
+                    check(f"{what}: stays a link", os.path.islink(path) and os.readlink(path) == "../beside/one")
+                    check(f"{what}: its folder", os.listdir(folder.at("beside")) == ["one"], os.listdir(folder.at("beside")))
+                    check_same(f"{what}: the racks", folder, reels)
+
     def kinds():
         """Reels of wrong sizes, too many of them, and second folders of every wrong kind: 7, and all stays."""
         for what, first, second in (
@@ -365,7 +405,7 @@ def tests(hard):
             return
         leave_out("a full second device", "no mount is allowed here")
 
-    return (two_racks, damaged, kinds, locks, torn, full_second, failing_calls, kills_in_runs, kills_in_rebuilding)
+    return (two_racks, damaged, broken, links, kinds, locks, torn, full_second, failing_calls, kills_in_runs, kills_in_rebuilding)
 
 
 if __name__ == "__main__":
