@@ -9,8 +9,6 @@ locks are taken in both orders; the second folder is of every wrong kind, and is
 """
 import contextlib
 import fcntl
-import importlib.machinery
-import importlib.util
 import os
 import platform
 import random
@@ -145,6 +143,46 @@ def tests(hard):
                     told = rebuilt((1, "first")) if rack == RACK else rebuilt((1, "second"), (2, "second"))
                     check_told(f"the {twin} folder deleted", folder.run(START), 0, START_TEXT, told)
                     check_same(f"the {twin} folder deleted: the racks", folder, reels)
+
+    def broken():
+        """A reel that can't be used is named with its folder, and all stays; when it is moved away it is rebuilt."""
+        long = b"the image or a reel isn't as long as it may be, or there are too many reels"
+        kept = b"the image, the rack or a reel may not be read and written"
+        cases = [("of a wrong length", long, lambda path: os.truncate(path, 100))]
+        if hard.AS_NOBODY or os.geteuid():
+            cases.append(("that may not be read", kept, lambda path: os.chmod(path, 0)))
+        for rack, twin, other in ((RACK, "first", "second"), (SECOND, "second", "first")):
+            for what, cause, damage in cases:
+                with with_pair() as (folder, _):
+                    reels, path = rack_of(folder, RACK), folder.at(f"{rack}/1.tape")
+                    damage(path)
+                    before = os.stat(path)
+                    told = f"george: tape 1: the cause is the {twin} reel, {rack}/1.tape; if the {other} is whole, move this file away and the next run rebuilds it\n"
+                    check_told(f"a {twin} reel {what}", folder.run(START), 7, b"", b"george: " + cause + b"\n" + told.encode())
+                    check(f"a {twin} reel {what} stays", (os.stat(path).st_size, os.stat(path).st_mode) == (before.st_size, before.st_mode))
+                    os.rename(path, folder.at("away"))
+                    check_told(f"a {twin} reel {what}, moved away", folder.run(START), 0, START_TEXT, rebuilt((1, twin)))
+                    check_same(f"a {twin} reel {what}, rebuilt", folder, reels)
+
+    def links():
+        """A reel that is a link stays one when it is rebuilt, whatever an interrupted start left beside the file that it leads to."""
+        for rack, twin in ((RACK, "first"), (SECOND, "second")):
+            for left in (None, bytes(7 * BLOCK)):
+                with with_pair() as (folder, _):
+                    reels, path = rack_of(folder, RACK), folder.at(f"{rack}/1.tape")
+                    os.mkdir(folder.at("beside"))
+                    folder.give(folder.at("beside"))
+                    os.rename(path, folder.at("beside/one"))
+                    os.symlink("../beside/one", path)
+                    check_run(f"a {twin} reel that is a link", folder.run(START), 0, START_TEXT)
+                    os.truncate(folder.at("beside/one"), 0)
+                    if left and twin == "first":
+                        folder.put(left, "beside/one.new")
+                    what = f"a {twin} reel that is a link and is empty" + (", with a piece of another beside it" if left else "")
+                    check_told(what, folder.run(START), 0, START_TEXT, rebuilt((1, twin)))
+                    check(f"{what}: stays a link", os.path.islink(path) and os.readlink(path) == "../beside/one")
+                    check(f"{what}: its folder", os.listdir(folder.at("beside")) == ["one"], os.listdir(folder.at("beside")))
+                    check_same(f"{what}: the racks", folder, reels)
 
     def kinds():
         """Reels of wrong sizes, too many of them, and second folders of every wrong kind: 7, and all stays."""
@@ -365,15 +403,44 @@ def tests(hard):
             return
         leave_out("a full second device", "no mount is allowed here")
 
-    return (two_racks, damaged, kinds, locks, torn, full_second, failing_calls, kills_in_runs, kills_in_rebuilding)
+    def begun_again():
+        """To begin again over two racks both are moved away, or both are emptied; the manual says so."""
+        script, refused = b"0 FORMAT\n", b"0 REFUSED 34 RACK NOT EMPTY 1\n"
+        with with_pair() as (whole, _):
+            with copy_of(whole) as folder:
+                shutil.rmtree(folder.at(RACK))
+                status, text, told = folder.run(script)
+                check("FORMAT with one rack moved away", (status, text) == (0, refused) and told == rebuilt((1, "first")), (text, told))
+            with copy_of(whole) as folder:
+                for rack in (RACK, SECOND):
+                    shutil.rmtree(folder.at(rack))
+                check_told("FORMAT with both racks moved away", folder.run(script), 0, b"0 FORMATTED\n", b"")
+            with copy_of(whole) as folder:
+                for rack in (RACK, SECOND):
+                    os.truncate(folder.at(f"{rack}/1.tape"), 0)
+                check_told("FORMAT with both racks emptied", folder.run(script), 0, b"0 FORMATTED\n", b"")
+        with open(f"{hard.TOP}/docs/MANUAL.md", encoding="ascii") as it:
+            said = [line for line in it if "`george.tapes` away" in line]
+        check("the manual says how to begin again", len(said) > 1, said)
+        check("and names both racks there", all(SECOND in it or "both" in it for it in said), said)
+
+    def unreadable():
+        """A twin that can't be read ends a start with 7, and standard error names its folder and reel."""
+        if not hard.hard_losses.can_record(hard, "a twin that can't be read", True):
+            return
+        for rack in (RACK, SECOND):
+            with with_pair() as (folder, _):
+                before = racks_of(folder)
+                status, text, told = folder.run(START, env={"LD_PRELOAD": hard.RECORDER, "BAD_READ": f"{rack}/1.tape"})
+                check(f"a broken reel of {rack}", (status, text) == (7, b"") and f"{rack}/1.tape".encode() in told, (status, text, told))
+                check(f"a broken reel of {rack} leaves both racks", racks_of(folder) == before)
+
+    more = (begun_again, unreadable)
+    return (two_racks, damaged, broken, links, kinds, locks, torn, full_second, failing_calls, kills_in_runs, kills_in_rebuilding, *more)
 
 
 if __name__ == "__main__":
     sys.dont_write_bytecode = True
-    beside = os.path.join(os.path.dirname(os.path.realpath(__file__)), "hard")
-    loader = importlib.machinery.SourceFileLoader("hard", beside)
-    hard = importlib.util.module_from_spec(importlib.util.spec_from_loader("hard", loader))
-    sys.modules["hard"] = hard
-    loader.exec_module(hard)
-    hard.TESTS = tests(hard)
-    sys.exit(hard.main())
+    import hard_losses
+
+    hard_losses.run_alone(tests)
