@@ -103,19 +103,19 @@ ROWS = {
     "INPUT of a block, 10 real files": (commits(10), 50, 550, 1, "."),
     "a file and its record in a dump, in memory": (dump_of, 100, 1000, 1, MEMORY),
     "a file and its record in a dump, real files": (dump_of, 100, 1000, 1, "."),
-    "a dump of one file behind 10 others": (dumps_behind(10), 5, 35, 1, MEMORY),
-    "a dump of one file behind 300 others": (dumps_behind(300), 5, 35, 1, MEMORY),
+    "a dump of one file after 10 others": (dumps_behind(10), 5, 35, 1, MEMORY),
+    "a dump of one file after 300 others": (dumps_behind(300), 5, 35, 1, MEMORY),
     "a Fetch from tape, of a reel of 10 dumps": (fetches_behind(10), 5, 55, 1, MEMORY),
     "a Fetch from tape, of a reel of 300 dumps": (fetches_behind(300), 5, 55, 1, MEMORY),
     "RESTORE of 1,000 files of one user": (restores(1, 1000), 2, 22, 1, MEMORY),
     "RESTORE of 976 files of 61 users": (restores(61, 16), 2, 22, 1, MEMORY),
 }
 RATIOS = (
-    ("a turn with 60 jobs beside one with 1", "a turn of `1 GOTO 1`, 60 jobs", "a turn of `1 GOTO 1`, 1 job"),
-    ("a commit over 1,000 files beside one over 10", "INPUT of a block, 1,000 files in memory", "INPUT of a block, 10 files in memory"),
-    ("a dump behind 300 beside one behind 10", "a dump of one file behind 300 others", "a dump of one file behind 10 others"),
-    ("a Fetch of a reel of 300 dumps beside one of 10", "a Fetch from tape, of a reel of 300 dumps", "a Fetch from tape, of a reel of 10 dumps"),
-    ("a RESTORE of 61 users beside one of one", "RESTORE of 976 files of 61 users", "RESTORE of 1,000 files of one user"),
+    ("a turn with 60 jobs against one with 1", "a turn of `1 GOTO 1`, 60 jobs", "a turn of `1 GOTO 1`, 1 job"),
+    ("a commit with 1,000 files against one with 10", "INPUT of a block, 1,000 files in memory", "INPUT of a block, 10 files in memory"),
+    ("a dump after 300 against one after 10", "a dump of one file after 300 others", "a dump of one file after 10 others"),
+    ("a Fetch of a reel of 300 dumps against one of 10", "a Fetch from tape, of a reel of 300 dumps", "a Fetch from tape, of a reel of 10 dumps"),
+    ("a RESTORE of 61 users against one of one", "RESTORE of 976 files of 61 users", "RESTORE of 1,000 files of one user"),
 )
 
 

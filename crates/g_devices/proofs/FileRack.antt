@@ -1,5 +1,6 @@
--- The calls of a rack over files, by what was done to the reel of the serial.
-use Rattle.std.proofs.Common.{◌≡◌, ℕ, ◌+◌, ◌<◌, List, [], ◌∷◌, ◌++◌, Option, Some, None, Ok, Err, length, map, get_or, inl, inr, ap, subst, sym, ◌∙◌, arith, length-append}
+-- The calls of a rack of files, by what was done to the reel of the serial.
+-- serves: file_tapes' read, write and secure, rack's put_behind
+use Rattle.std.proofs.Common.{◌≡◌, ℕ, ◌+◌, ◌<◌, List, [], ◌∷◌, ◌++◌, Option, Some, None, is_some, Ok, Err, length, map, get_or, inl, inr, ap, subst, sym, ◌∙◌, arith, length-append}
 use Rattle.std.specs.Prelude.{All}
 use Rattle.std.specs.List.Sorted.{IsStrictlyIncreasing}
 use Rattle.std.proofs.Math.ListN.{set}
@@ -9,9 +10,9 @@ use Rattle.std.proofs.lemmas.List.{get_or_append_left, get_or-map, length-map, m
 use Rattle.std.proofs.lemmas.List.Elements.{All-push}
 use Rattle.g_base.specs.Counts.{one_more}
 use Rattle.g_base.specs.Fuse.{burnt}
-use Rattle.g_tape.specs.declared.fault.TapeFault.TheVariants.{WriteFailed}
-use Rattle.g_tape.specs.Reel.{IsReel, Reel, Torn, ending, left_by, read_at}
-use Rattle.g_tape.specs.Rack.{AreReels, Rack, Reading, Writing, refuses_read, refuses_write, with_reel}
+use Rattle.g_tape.specs.declared.fault.TapeFault.TheVariants.{ReadFailed, WriteFailed}
+use Rattle.g_tape.specs.Reel.{IsReel, Reel, Remains, Shortened, Torn, Unchanged, ending, left_by, read_at}
+use Rattle.g_tape.specs.Rack.{AreReels, Rack, Reading, Securing, Writing, refuses_read, refuses_write, with_reel}
 use Rattle.g_tape.specs.Place.{IsPlaceOf}
 use Rattle.g_tape.proofs.MemoryLemmas.{at-place}
 use Rattle.g_tape.proofs.RackLemmas.{with_reel-place}
@@ -55,21 +56,44 @@ module _ (s k i : ℕ) (old : Rack) (was : Reel) (place : IsPlaceOf s old.reels 
             burns,
       )
 
-  pub write_failed : (block left : List ℕ) (fuse : Option ℕ) (faults : ℕ) (now : Reel) → refuses_write k (Some was) ≡ None
-      → now ≡ ending k left was → fuse ≡ burnt old.fuse → faults ≡ one_more old.write_faults
+  pub write_failed : (block : List ℕ) (fuse : Option ℕ) (faults : ℕ) (now : Reel) → refuses_write k (Some was) ≡ None
+      → ((how : Remains) × (now ≡ left_by how k was)) → fuse ≡ burnt old.fuse → faults ≡ one_more old.write_faults
       → Writing s k block old (Err WriteFailed) (record old { reels = set old.reels i now; write_faults = faults; fuse = fuse })
-  write_failed block left fuse faults now allowed value burns more =
+  write_failed block fuse faults now allowed (how, value) burns more =
       let here = at-place s i old.reels was place is in (
         ap (refuses_write k) here ∙ allowed,
         record { more = omega arith },
         (
-          Torn left,
+          how,
           ap (λ (rs : List Reel). let rack : Rack = record old { reels = rs; write_faults = faults; fuse = fuse } in rack)
-              (with_reel-place s old.reels i (left_by (Torn left) k) was now place is value)
+              (with_reel-place s old.reels i (left_by how k) was now place is value)
               ∙ ap (λ (f : Option ℕ). let rack : Rack =
-              record old { reels = with_reel s (left_by (Torn left) k) old.reels; write_faults = faults; fuse = f } in rack) burns,
+              record old { reels = with_reel s (left_by how k) old.reels; write_faults = faults; fuse = f } in rack) burns,
         ),
       )
+
+  -- a reel that was made durable is the reel that it was
+  pub secure_done : (now : Reel) → now ≡ was → Securing s old (Ok tt) (record old { reels = set old.reels i now })
+  secure_done now value =
+      let same : set old.reels i now ≡ old.reels = ap (set old.reels i) (value ∙ is) ∙ set-get_or old.reels i was in (
+        ap is_some (at-place s i old.reels was place is),
+        ap (λ (rs : List Reel). let rack : Rack = record old { reels = rs } in rack) same,
+      )
+
+  pub secure_failed : (faults : ℕ) (now : Reel) → now ≡ was → faults ≡ one_more old.read_faults
+      → Securing s old (Err ReadFailed) (record old { reels = set old.reels i now; read_faults = faults })
+  secure_failed faults now value more =
+      let same : set old.reels i now ≡ old.reels = ap (set old.reels i) (value ∙ is) ∙ set-get_or old.reels i was in (
+        ap is_some (at-place s i old.reels was place is),
+        record { more = omega arith },
+        ap (λ (rs : List Reel). let rack : Rack = record old { reels = rs; read_faults = faults } in rack) same,
+      )
+
+-- whatever a failed write left, it is the reel of the same serial
+pub serial_left : (k : ℕ) (old new : Reel) → ((how : Remains) × (new ≡ left_by how k old)) → new.serial ≡ old.serial
+serial_left k old new (Unchanged, value) = ap (λ (r : Reel). r.serial) value
+serial_left k old new (Shortened, value) = ap (λ (r : Reel). r.serial) value
+serial_left k old new (Torn block, value) = ap (λ (r : Reel). r.serial) value
 
 -- a number above all others keeps them rising behind them
 rising-push : (numbers : List ℕ) (x : ℕ) → IsStrictlyIncreasing numbers → All (λ n. n < x) numbers

@@ -1,4 +1,4 @@
-//! Files that this run alone works on or that are looked at, and names that outlive a power cut.
+//! Files that only this run works on or that are looked at, and names that a power loss doesn't take back.
 
 use std::fs::File;
 use std::io::{self, Error, ErrorKind};
@@ -32,7 +32,17 @@ pub(crate) fn claim(file: &File, access: Access) -> io::Result<()> {
     Ok(())
 }
 
-/// Brings the names of this folder to the device, after a file of it was made or renamed.
+/// Takes a folder as `claim` takes a file. A run also makes its names durable, since an earlier one may have been killed after it
+/// renamed a file there.
+pub(crate) fn claim_folder(folder: &File, access: Access) -> io::Result<()> {
+    claim(folder, access)?;
+    if access == Access::Run {
+        folder.sync_all()?;
+    }
+    Ok(())
+}
+
+/// Makes the names of this folder durable, after a file of it was made or renamed.
 pub(crate) fn sync_folder(rt: &HostRuntime, folder: &str) -> io::Result<()> {
     File::open(rt, folder)?.sync_all()
 }

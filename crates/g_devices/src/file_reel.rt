@@ -1,23 +1,37 @@
-//! One reel in a file of whole blocks. It tells no content: only its length is known, as a number.
-ghost use Rattle.std.specs.Prelude.{◌≡◌, ℕ, ◌+◌, ◌^◌, ◌<◌, ◌≤◌, List, None, Some, false};
+//! One reel in a file of whole blocks. Contracts see its length, and none of its contents.
+ghost use Rattle.std.specs.Prelude.{◌≡◌, ℕ, ◌+◌, ◌^◌, ◌<◌, ◌≤◌, List, None, OnErr, OnOk, Some, false};
 ghost use Rattle.g_tape.specs.Rack.{refuses_write};
-ghost use Rattle.g_tape.specs.Reel.{IsReel, ending, untold_reel, with_mounted};
+ghost use Rattle.g_tape.specs.Reel.{IsReel, Remains, cut_at, ending, left_by, untold_reel, with_mounted};
 
 use crate::ahead::ReadAhead;
 use crate::blocks::start_of;
 use crate::names::{FileId, id_of};
 use crate::reach::Reach;
-use g_base::Block;
+use g_base::{Block, WriteFailed};
 use g_tape::ReelState;
 use std::fs::File;
-use std::io;
+use std::io::{self, Error, ErrorKind};
 use std::marker::Model;
 use std::os::unix::fs::FileExt;
 
-/// What the last block of a dump, its mark, begins with (docs/FORMATS.md, "Tapes").
+/// The first bytes of a dump's header, its first block (docs/FORMATS.md, "Tapes").
+const HEADER: &[u8] = b"G3HD";
+
+/// The first bytes of a dump's mark, its last block.
 const MARK: &[u8] = b"G3MK";
 
-/// A reel over an open file, which is locked as long as this lives. Contracts see it as a reel of which nothing is told.
+/// What a failed write left of a reel.
+#[derive(Clone, Copy)]
+enum Left {
+    /// All its blocks.
+    Unchanged,
+    /// The blocks before the place of the write.
+    Shortened,
+    /// These, and a block of any bytes there.
+    Torn,
+}
+
+/// A reel in an open file, which is locked as long as this value lives. Contracts see a reel whose contents aren't observable.
 #[derive(Drop)]
 pub(crate) struct FileReel {
     file: File,
@@ -25,6 +39,9 @@ pub(crate) struct FileReel {
     /// Whether the file is known to end where the state does.
     ends_there: bool,
     reach: Reach,
+    /// How many blocks, from block 0 on, `secure` needn't rewrite. They are durable; or an earlier run left them before the last
+    /// block, and it made them durable before it wrote that one, unless that one completes no dump.
+    durable: u32,
 }
 
 impl Model for FileReel {
@@ -39,7 +56,7 @@ impl Model for FileReel {
 }
 
 impl FileReel {
-    /// The reel of `len` blocks in this file, which isn't mounted.
+    /// The reel of `len` blocks in this file, not mounted.
     pub fn new(file: File, serial: u32, capacity: u32, len: u32) -> FileReel
         ensures { result ≡ untold_reel serial capacity len }
     {
@@ -48,10 +65,11 @@ impl FileReel {
             state: ReelState::new(serial, capacity, len),
             ends_there: true,
             reach: Reach::Unknown,
+            durable: len.saturating_sub(1),
         }
     }
 
-    /// Nothing is told of what it holds.
+    /// Its contents aren't observable.
     pub fn tells_nothing(&self)
         ensures { self.now.blocks ≡ None }
     {
@@ -79,28 +97,42 @@ impl FileReel {
         ahead.read(&self.file, self.state.serial(), k, into)
     }
 
-    /// Drops what stands from block k on, writes these bytes there and counts the block, also where this
-    /// fails: then the file ends at k, or with a block of any bytes there, or is as it was.
+    /// Writes these bytes as block k, which is the reel's last block then.
     ///
-    /// A dump's mark completes the dump: all that was written before it is on the device before it, and
-    /// it is there before all that comes behind it.
-    pub fn end_with(&mut self, k: u32, bytes: &[u8]) -> io::Result<()>
+    /// If that cuts the reel, the cut is durable before block k is written. Block 0, a dump's header and its mark are durable when
+    /// this returns, and everything before them is durable before they are written. After a failure the reel ends where the file
+    /// does, and it takes no block until it was secured.
+    pub fn end_with(&mut self, k: u32, bytes: &[u8]) -> Result<(), WriteFailed>
         requires free { refuses_write k (Some self.old) ≡ None }
         requires reel { IsReel self.old }
-        ensures value { (block : List ℕ) → self.new ≡ ending k block self.old }
+        ensures done { OnOk result ((block : List ℕ) → self.new ≡ ending k block self.old) }
+        ensures left { OnErr result ((how : Remains) × (self.new ≡ left_by how k self.old)) }
         ensures keeps { IsReel self.old → IsReel self.new }
     {
-        let ends_here = self.ends_there && self.state.len() == k;
-        self.ends_there = false;
-        self.end_at(k);
-        let completes = bytes.starts_with(MARK);
-        if completes {
-            self.bring()?;
+        match self.write_last(k, bytes) {
+            Ok(()) => {
+                self.end_at(k);
+                Ok(())
+            }
+            Err(left) => {
+                self.reach = Reach::Failed;
+                self.leave(left, k);
+                Err(WriteFailed)
+            }
         }
-        self.reach = Reach::Behind;
-        self.append(ends_here, k, bytes)?;
-        self.ends_there = true;
-        if completes { self.bring() } else { Ok(()) }
+    }
+
+    /// Counts what a failed write of block k left.
+    fn leave(&mut self, left: Left, k: u32)
+        requires free { refuses_write k (Some self.old) ≡ None }
+        ensures value { (how : Remains) × (self.new ≡ left_by how k self.old) }
+        ensures keeps { IsReel self.old → IsReel self.new }
+    {
+        match left {
+            Left::Unchanged => {}
+            Left::Shortened => self.cut_at(k),
+            Left::Torn => self.end_at(k),
+        }
     }
 
     /// Counts block k as the last one.
@@ -112,18 +144,91 @@ impl FileReel {
         self.state.end_with(k);
     }
 
-    /// Writes block k, which ends the file: by one call where the file ends there, since a block lies within a page and the
-    /// system writes that whole or not at all. Else, and where the system wrote less, the file is cut at block k, made longer
-    /// by a block and that is filled, so that it is whole blocks wherever this is cut off.
-    fn append(&self, ends_here: bool, k: u32, bytes: &[u8]) -> io::Result<()>
+    /// Counts the blocks before block k only.
+    fn cut_at(&mut self, k: u32)
+        requires free { refuses_write k (Some self.old) ≡ None }
+        ensures value { self.new ≡ cut_at k self.old }
+        ensures keeps { IsReel self.old → IsReel self.new }
+    {
+        self.state.cut_at(k);
+    }
+
+    /// Makes block k the last one of the file.
+    fn write_last(&mut self, k: u32, bytes: &[u8]) -> Result<(), Left>
+        requires { k + 1 < 2 ^ 32 }
+        ensures { self.new ≡ self.old }
+    {
+        if self.reach == Reach::Failed {
+            return Err(Left::Unchanged);
+        }
+        let syncs = k == 0 || bytes.starts_with(HEADER) || bytes.starts_with(MARK);
+        if k < self.state.len() {
+            self.cut(k)?;
+        } else if self.prepare(k, syncs).is_err() {
+            return Err(Left::Unchanged);
+        }
+        self.append(k, bytes)?;
+        if syncs && self.bring(k + 1).is_err() {
+            return Err(Left::Torn);
+        }
+        Ok(())
+    }
+
+    /// Drops block k and all that follow it, durably.
+    fn cut(&mut self, k: u32) -> Result<(), Left>
+        ensures { self.new ≡ self.old }
+    {
+        self.ends_there = false;
+        if self.file.set_len(start_of(k)).is_err() {
+            return Err(Left::Unchanged);
+        }
+        self.ends_there = true;
+        self.durable = self.durable.min(k);
+        self.reach = Reach::Behind;
+        if self.bring(k).is_err() {
+            return Err(Left::Shortened);
+        }
+        Ok(())
+    }
+
+    /// Makes the k blocks of the file durable before a block that follows them, if that block or an earlier run needs it.
+    fn prepare(&mut self, k: u32, syncs: bool) -> io::Result<()>
+        ensures { self.new ≡ self.old }
+    {
+        if self.reach == Reach::Unknown {
+            self.secure()
+        } else if syncs {
+            self.bring(k)
+        } else {
+            Ok(())
+        }
+    }
+
+    /// Writes block k behind the last one of the file. If that fails the file is cut there again.
+    fn append(&mut self, k: u32, bytes: &[u8]) -> Result<(), Left>
+        requires { k + 1 < 2 ^ 32 }
+        ensures { self.new ≡ self.old }
+    {
+        self.reach = Reach::Behind;
+        if self.put(k, bytes).is_ok() {
+            return Ok(());
+        }
+        self.ends_there = false;
+        if self.file.set_len(start_of(k)).is_err() {
+            return Err(Left::Torn);
+        }
+        self.ends_there = true;
+        Err(Left::Shortened)
+    }
+
+    /// Writes block k at the end of the file. One call does it, since a block lies within a page and the system writes that whole
+    /// or not at all. If the system wrote less, the file is cut at block k, extended by a block and that is filled, so that a kill
+    /// at any of these calls leaves whole blocks.
+    fn put(&self, k: u32, bytes: &[u8]) -> io::Result<()>
         requires { k + 1 < 2 ^ 32 }
     {
-        if ends_here
-            && self
-                .file
-                .write_at(bytes, start_of(k))
-                .is_ok_and(|count| count == bytes.len())
-        {
+        let written = self.file.write_at(bytes, start_of(k));
+        if written.is_ok_and(|count| count == bytes.len()) {
             return Ok(());
         }
         self.file.set_len(start_of(k))?;
@@ -136,35 +241,76 @@ impl FileReel {
         id_of(&self.file)
     }
 
-    /// Brings what was written to the device, where anything was since it was brought there last.
-    fn bring(&mut self) -> io::Result<()>
+    /// Syncs the file, which has `len` blocks, if this run wrote something since the last sync. A sync alone promises nothing after
+    /// a failed write, cut or sync, nor of what an earlier run left, so this fails until the reel was secured.
+    fn bring(&mut self, len: u32) -> io::Result<()>
         ensures { self.new ≡ self.old }
     {
-        if self.reach != Reach::There {
-            self.file.sync_data()?;
-            self.reach = Reach::There;
+        match self.reach {
+            Reach::There => return Ok(()),
+            Reach::Behind => {}
+            Reach::Unknown | Reach::Failed => return Err(Error::from(ErrorKind::Other)),
         }
+        self.reach = Reach::Failed;
+        self.file.sync_data()?;
+        self.reach = Reach::There;
+        self.durable = len;
         Ok(())
     }
 
-    /// Brings all that was written to the device, and of an earlier run what this one may have read. Where that fails nothing is
-    /// lost that was promised, since each completed dump was brought there with its mark. The reel is no longer mounted then.
-    pub fn unmount(&mut self, was_read: bool)
+    /// Makes the reel durable as it is read. This needs no call of the system if this run knows that it is. A block that a failed
+    /// sync may have dropped is rewritten with the bytes that are read there, since no sync alone brings it to the device: of the
+    /// blocks that an earlier run left that is the last one, since it made the others durable before it wrote a mark there.
+    pub fn secure(&mut self) -> io::Result<()>
+        ensures { self.new ≡ self.old }
+    {
+        if self.reach == Reach::There {
+            return Ok(());
+        }
+        let len = self.state.len();
+        if !self.ends_there {
+            self.file.set_len(start_of(len))?;
+            self.ends_there = true;
+        }
+        if self.reach != Reach::Behind {
+            rewrite(&self.file, self.durable, len)?;
+        }
+        self.reach = Reach::Failed;
+        self.file.sync_data()?;
+        self.reach = Reach::There;
+        self.durable = len;
+        Ok(())
+    }
+
+    /// Syncs what this run wrote, and unmounts the reel. No promise depends on that sync: each completed dump is durable already.
+    /// If it fails, the reel takes no block until it was secured.
+    pub fn unmount(&mut self)
         ensures value { self.new ≡ with_mounted false self.old }
         ensures keeps { IsReel self.old → IsReel self.new }
     {
-        if self.reach.wants_sync(was_read) {
-            let _brought = self.bring();
+        let len = self.state.len();
+        if self.reach == Reach::Behind {
+            let _brought = self.bring(len);
         }
         self.set_mounted(false);
     }
 
-    /// Brings all that was written to the device, and of an earlier run what this one may have read.
-    pub fn sync(&self, was_read: bool) -> io::Result<()> {
-        if self.reach.wants_sync(was_read) {
+    /// Syncs what this run wrote.
+    pub fn sync(&self) -> io::Result<()> {
+        if self.reach == Reach::Behind || self.reach == Reach::Failed {
             self.file.sync_data()
         } else {
             Ok(())
         }
     }
+}
+
+/// Writes the blocks from `from` up to `to` again with the bytes that are read there.
+fn rewrite(file: &File, from: u32, to: u32) -> io::Result<()> {
+    for k in from..to {
+        let mut block = [0; 512];
+        file.read_exact_at(&mut block, start_of(k))?;
+        file.write_all_at(&block, start_of(k))?;
+    }
+    Ok(())
 }

@@ -1,4 +1,4 @@
-//! A rack over files, one for each reel. It tells no content, and counts each failure.
+//! A rack of files, one for each reel. Contracts see none of their contents; each failure is counted.
 ghost use Rattle.std.specs.Prelude.{◌≡◌, ◌≤◌, None, Some, MatchOption, true, false};
 ghost use Rattle.g_base.specs.Fuse.{BurnsByFailures};
 ghost use Rattle.g_tape.specs.Place.{IsPlaceOf};
@@ -19,8 +19,6 @@ pub struct FileTapes {
     folder: File,
     reels: Vec<FileReel>,
     ahead: ReadAhead,
-    /// Whether a block was read in this run.
-    was_read: bool,
     read_faults: u64,
     write_faults: u64,
     fuse: Fuse,
@@ -39,7 +37,6 @@ impl FileTapes {
             folder,
             reels,
             ahead,
-            was_read: false,
             read_faults: 0,
             write_faults: 0,
             fuse: Fuse::new(),
@@ -47,11 +44,10 @@ impl FileTapes {
         }
     }
 
-    /// Brings all that was written to the device, at the end of a run. Where a reel can't be brought there
-    /// nothing is lost that was promised, since each completed dump was brought there with its mark.
+    /// Syncs what this run wrote, at its end. No promise depends on it: each completed dump is durable already.
     pub fn sync(&self) {
         for reel in &self.reels {
-            let _synced = reel.sync(self.was_read);
+            let _synced = reel.sync();
         }
     }
 
@@ -111,7 +107,7 @@ impl Tapes for FileTapes {
         Ok(())
     }
 
-    /// Brings the reel's blocks to the device first.
+    /// Syncs what this run wrote to the reel first.
     fn unmount(&mut self, serial: u32) -> Result<(), TapeFault> {
         let Some(place) = place_of(&self.reels, serial) else {
             return Err(TapeFault::NoTape);
@@ -119,7 +115,7 @@ impl Tapes for FileTapes {
         if let Some(fault) = self.reels[place].state().refuses_unmount() {
             return Err(fault);
         }
-        self.reels[place].unmount(self.was_read);
+        self.reels[place].unmount();
         Ok(())
     }
 
@@ -130,7 +126,6 @@ impl Tapes for FileTapes {
         if let Some(fault) = self.reels[place].state().refuses_read(k) {
             return Err(fault);
         }
-        self.was_read = true;
         match self.reels[place].read(&mut self.ahead, k, into) {
             Ok(()) => Ok(()),
             Err(_) => {
@@ -140,7 +135,7 @@ impl Tapes for FileTapes {
         }
     }
 
-    /// At an armed write half of the block is written, with zeros behind it.
+    /// An armed write writes half of the block, followed by zeros.
     fn write(&mut self, serial: u32, k: u32, from: &Block) -> Result<(), TapeFault> {
         let Some(place) = place_of(&self.reels, serial) else {
             return Err(TapeFault::NoTape);
@@ -159,6 +154,19 @@ impl Tapes for FileTapes {
             Err(_) => {
                 self.write_faults = raised(self.write_faults);
                 Err(TapeFault::WriteFailed)
+            }
+        }
+    }
+
+    fn secure(&mut self, serial: u32) -> Result<(), TapeFault> {
+        let Some(place) = place_of(&self.reels, serial) else {
+            return Err(TapeFault::NoTape);
+        };
+        match self.reels[place].secure() {
+            Ok(()) => Ok(()),
+            Err(_) => {
+                self.read_faults = raised(self.read_faults);
+                Err(TapeFault::ReadFailed)
             }
         }
     }

@@ -1,11 +1,10 @@
-//! The file of an image: where its blocks lie, when they are brought to the device, and how it is made.
+//! The file of an image: where its blocks are, when they become durable, and how the file is made.
 
 use crate::ahead::ReadAhead;
 use crate::blocks::{blocks_in, start_of};
 use crate::claim::{Access, claim, sync_folder};
 use crate::names::{FileId, id_of, is_there, open_plain, open_unready};
 use crate::neighbours::Neighbours;
-use crate::reach::Reach;
 use g_base::{Block, WriteFailed};
 use std::fs::{self, File};
 use std::io::{self, Error, ErrorKind, Read};
@@ -17,33 +16,36 @@ const NEW_BLOCKS: u32 = 4_096;
 /// The block that names the current slot (docs/FORMATS.md, "The disc").
 const GATE: u32 = 0;
 
-/// An open image, which is locked as long as this lives.
+/// An open image, which is locked as long as this value lives.
 #[derive(Drop)]
 pub(crate) struct ImageFile {
     file: File,
-    /// Whether the gate is known to be on the device as it stands in the file.
+    /// Whether the gate is known to be durable as the file shows it. A look, which can't write, takes it as it is.
     settled: bool,
-    reach: Reach,
-    /// Whether a block was read in this run.
-    was_read: bool,
+    /// Whether this run wrote something since the last sync.
+    pending: bool,
     ahead: ReadAhead,
-    /// Blocks whose writes are done for all who ask here, and that aren't in the file yet.
+    /// Blocks that were written for every caller, and that aren't in the file yet.
     held: Neighbours,
 }
 
 impl ImageFile {
-    /// Opens the image for this run alone, and makes one of 4,096 blocks of zeros where there is none.
+    /// Opens the image, which must be in the working folder, for this run only, and makes one of 4,096 blocks of zeros if there is
+    /// none. The names of the working folder are durable then: those of the image and of racks that an earlier run made, too.
     pub fn open(rt: &HostRuntime, path: &str) -> io::Result<ImageFile> {
         match ImageFile::there(rt, path, Access::Run) {
             Err(fault) if fault.kind() == ErrorKind::NotFound => Ok(ImageFile {
                 file: make_file(rt, path)?,
                 settled: true,
-                reach: Reach::There,
-                was_read: false,
+                pending: false,
                 ahead: ReadAhead::new(rt.alloc())?,
                 held: Neighbours::new(rt.alloc())?,
             }),
-            opened => opened,
+            opened => {
+                let image = opened?;
+                sync_folder(rt, ".")?;
+                Ok(image)
+            }
         }
     }
 
@@ -53,9 +55,8 @@ impl ImageFile {
         claim(&file, access)?;
         Ok(ImageFile {
             file,
-            settled: false,
-            reach: Reach::Unknown,
-            was_read: false,
+            settled: access == Access::Look,
+            pending: false,
             ahead: ReadAhead::new(rt.alloc())?,
             held: Neighbours::new(rt.alloc())?,
         })
@@ -71,9 +72,11 @@ impl ImageFile {
         blocks_in(&self.file)
     }
 
-    /// Reads block k.
+    /// Reads block k. The gate is durable before it is returned, so that no run reports a commit that a power loss takes back.
     pub fn read(&mut self, k: u32, into: &mut Block) -> io::Result<()> {
-        self.was_read = true;
+        if k == GATE && !self.settled && self.settle().is_err() {
+            return Err(Error::from(ErrorKind::Other));
+        }
         if self.held.copy(k, into) {
             return Ok(());
         }
@@ -111,8 +114,8 @@ impl ImageFile {
         Ok(())
     }
 
-    /// Writes these bytes at block k, behind all that is held. The gate, block 0, makes a commit: all that was written before
-    /// it is on the device before it, and it is there before all that comes behind it.
+    /// Writes these bytes at block k, after all that is held. The gate, block 0, makes a commit: everything written before it is
+    /// durable before it is written, and it is durable when this returns.
     pub fn put(&mut self, k: u32, bytes: &[u8]) -> Result<(), WriteFailed> {
         if !self.settled {
             self.settle()?;
@@ -123,7 +126,7 @@ impl ImageFile {
         if k != GATE {
             return self.write_at(k, bytes);
         }
-        if self.reach != Reach::There {
+        if self.pending {
             self.bring()?;
         }
         self.settled = false;
@@ -133,8 +136,8 @@ impl ImageFile {
         Ok(())
     }
 
-    /// Brings the gate to the device, before the first write and behind a gate whose sync failed. The system may take
-    /// what such a sync didn't bring there for brought, so it is written once more.
+    /// Makes the gate durable: before it is first read or anything is written, and after its sync failed. The system may take what
+    /// a failed sync didn't bring to the device for brought, so the gate is rewritten with the bytes that are read there.
     fn settle(&mut self) -> Result<(), WriteFailed> {
         let mut gate = [0; 512];
         if self.file.read_exact_at(&mut gate, start_of(GATE)).is_err() {
@@ -149,7 +152,7 @@ impl ImageFile {
     /// Writes what is held to the file; nothing is held then, also where this fails.
     fn release(&mut self) -> Result<(), WriteFailed> {
         self.ahead.forget(0);
-        self.reach = Reach::Behind;
+        self.pending = true;
         let written = self.held.write(&self.file).is_ok();
         self.held.cut(0);
         if written { Ok(()) } else { Err(WriteFailed) }
@@ -158,29 +161,29 @@ impl ImageFile {
     /// Writes these bytes at block k of the file.
     fn write_at(&mut self, k: u32, bytes: &[u8]) -> Result<(), WriteFailed> {
         self.ahead.forget(k);
-        self.reach = Reach::Behind;
+        self.pending = true;
         if self.file.write_all_at(bytes, start_of(k)).is_err() {
             return Err(WriteFailed);
         }
         Ok(())
     }
 
-    /// Brings what was written to the device.
+    /// Syncs what was written.
     fn bring(&mut self) -> Result<(), WriteFailed> {
         if self.file.sync_data().is_err() {
             return Err(WriteFailed);
         }
-        self.reach = Reach::There;
+        self.pending = false;
         Ok(())
     }
 
-    /// Brings all that was written to the device, and of an earlier run what this one may have read.
+    /// Writes what is held, and syncs what this run wrote.
     pub fn sync(&self) -> io::Result<()> {
         if !self.held.is_empty() {
             self.held.write(&self.file)?;
             return self.file.sync_data();
         }
-        if self.reach.wants_sync(self.was_read) {
+        if self.pending {
             self.file.sync_data()
         } else {
             Ok(())

@@ -1,7 +1,7 @@
-//! The making of a rack: a folder with two empty reels, which gets its name when it is whole.
+//! How a rack is made: a folder with two empty reels, which gets its name when it is whole.
 
 use crate::claim::sync_folder;
-use crate::names::{has_one_name, is_there, open_unready};
+use crate::names::{has_one_name, is_there, open_unready, own_folder};
 use std::fs::{self, DirEntry};
 use std::io::{self, Error, ErrorKind};
 
@@ -27,16 +27,14 @@ pub(crate) fn make_folder(rt: &HostRuntime, folder: &str) -> io::Result<()> {
     sync_folder(rt, ".")
 }
 
-/// Makes the folder, or looks whether a run left it: a folder, and no link to one, in which nothing lies but empty reels
-/// of a new rack. `AlreadyExists` where anything else is there.
+/// Makes the folder, or checks that an interrupted run left it: a folder, and no link to one, that holds nothing but empty reels
+/// of a new rack. `AlreadyExists` if anything else is there.
 fn make_or_check(rt: &HostRuntime, unready: &str) -> io::Result<()> {
     match fs::create_dir(rt, unready) {
         Err(fault) if fault.kind() == ErrorKind::AlreadyExists => {}
-        made => return made,
+        made => made?,
     }
-    if !fs::symlink_metadata(rt, unready)?.is_dir() {
-        return Err(Error::from(ErrorKind::AlreadyExists));
-    }
+    own_folder(rt, unready)?;
     for entry in fs::read_dir(rt, unready)? {
         if !is_new_reel(&entry?)? {
             return Err(Error::from(ErrorKind::AlreadyExists));

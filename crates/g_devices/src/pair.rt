@@ -1,22 +1,23 @@
-//! Two racks in two folders as one: what a reel of one of them lacks is made again from the other.
+//! Two racks in two folders as one: a reel that is missing or differs in one of them is rebuilt from the other's.
 ghost use Rattle.std.specs.Prelude.{IfOk};
 ghost use Rattle.g_tape.specs.Rack.{AreReels};
 ghost use Rattle.g_tape.specs.Reel.{IsReel};
 
 use crate::ahead::ReadAhead;
 use crate::alike::are_alike;
-use crate::claim::{Access, claim, sync_folder};
+use crate::claim::{Access, claim, claim_folder, sync_folder};
 use crate::file_reel::FileReel;
 use crate::file_tapes::FileTapes;
-use crate::names::{is_there, open_folder, open_unready};
+use crate::names::{is_link, is_there, open_folder, open_unready, sync_folder_of, target_of};
+use crate::pair_fault::PairFault;
 use crate::rack::{CAPACITY, Serial, open_or_make, open_reel, put_behind, serials_in};
 use g_base::MAX_REELS;
-use g_duplex::{Duplex, Standing, Twin};
+use g_duplex::{Duplex, DuplexFault, Standing, Twin};
 use g_tape::Tapes;
 use std::fs::{self, File};
 use std::io::{self, Error, ErrorKind};
 
-/// The reels of two folders, in rising serial, and those that have to be made again.
+/// The reels of two folders, in rising serial, and those that have to be rebuilt.
 #[derive(Drop)]
 struct Reels {
     first: Vec<FileReel>,
@@ -24,29 +25,30 @@ struct Reels {
     lost: Vec<(u32, Twin)>,
 }
 
-/// Opens the racks of two folders as one, for this run alone. The first is made where it isn't there; the second has to be. A
-/// reel that one folder lacks is made again from the other's; where both have it and they differ, it is the first's that is made
-/// again if it alone has no block, and else the second's. The list tells which were made.
+/// Opens the racks of two folders as one, for this run only. The first is made if it isn't there; the second must be. A reel that
+/// one folder lacks is rebuilt from the other's; if both have it and they differ, the first's is rebuilt if only that has no block,
+/// and otherwise the second's. The list says which were rebuilt. The names in both folders are durable then.
 ///
-/// The error is one of `open_rack`; or `InvalidData` where there are more than 16 reels in both; or `Other` where a reel can't
-/// be made again. A reel of the first folder that is made again gets its name when it is whole, so what is cut off in here
-/// begins anew at the next start, and nothing is lost of what the other one holds.
+/// The error is one of `open_rack`; or `InvalidData` if there are more than 16 reels in both. If it lies in one reel, the fault
+/// names that. A reel of the first folder that is rebuilt gets its name when it is whole, so if this is interrupted the next start
+/// begins again, and nothing is lost of what the other one holds. A reel that is a link stays one: the file that it leads to is
+/// rebuilt.
 pub fn open_duplex(
     rt: &HostRuntime,
     first: &str,
     second: &str,
-) -> io::Result<(Duplex<FileTapes>, Vec<(u32, Twin)>)> {
+) -> Result<(Duplex<FileTapes>, Vec<(u32, Twin)>), PairFault> {
     let one = open_or_make(rt, first)?;
-    claim(&one, Access::Run)?;
+    claim_folder(&one, Access::Run)?;
     let other = open_folder(rt, second)?;
-    claim(&other, Access::Run)?;
+    claim_folder(&other, Access::Run)?;
     let Reels {
         first: reels,
         second: beside,
         lost,
     } = open_reels(rt, first, second)?;
     if !are_alike(&reels, &beside, &lost) {
-        return Err(Error::from(ErrorKind::InvalidData));
+        return Err(PairFault::from(Error::from(ErrorKind::InvalidData)));
     }
     let mut pair = Duplex::new(
         FileTapes::new(one, reels, ReadAhead::new(rt.alloc())?),
@@ -60,7 +62,7 @@ pub fn open_duplex(
 }
 
 /// Opens the reels of both folders, two of each serial.
-fn open_reels(rt: &HostRuntime, first: &str, second: &str) -> io::Result<Reels>
+fn open_reels(rt: &HostRuntime, first: &str, second: &str) -> Result<Reels, PairFault>
     ensures first { IfOk result (λ reels. AreReels reels.first.items) }
     ensures second { IfOk result (λ reels. AreReels reels.second.items) }
 {
@@ -72,7 +74,7 @@ fn open_reels(rt: &HostRuntime, first: &str, second: &str) -> io::Result<Reels>
         put_behind(&mut reels, reel)?;
         put_behind(&mut beside, other)?;
         if let Some(twin) = twin {
-            lost.push((serial.number, twin))?;
+            note(&mut lost, serial, twin)?;
         }
     }
     Ok(Reels {
@@ -80,6 +82,12 @@ fn open_reels(rt: &HostRuntime, first: &str, second: &str) -> io::Result<Reels>
         second: beside,
         lost,
     })
+}
+
+/// Adds a reel to those that have to be rebuilt.
+fn note(lost: &mut Vec<(u32, Twin)>, serial: Serial, twin: Twin) -> io::Result<()> {
+    lost.push((serial.number, twin))?;
+    Ok(())
 }
 
 /// The serials of the reels that lie in either folder, rising, or `InvalidData` where there are more than a rack can have.
@@ -97,29 +105,30 @@ fn serials_of_both(rt: &HostRuntime, first: &str, second: &str) -> io::Result<Ve
     Ok(serials)
 }
 
-/// Opens the two reels of a serial, and says which of them has to be made again. Where the first folder has none, or one that
-/// has to be made again, a file that waits for its name is opened in its place; where the second has none, an empty one is made.
+/// Opens the two reels of a serial, and says which of them has to be rebuilt. If the first folder has none, or one that has to be
+/// rebuilt, a file that waits for its name is opened in its place; if the second has none, an empty one is made.
 fn open_twins(
     rt: &HostRuntime,
     first: &str,
     second: &str,
     serial: Serial,
-) -> io::Result<(FileReel, FileReel, Option<Twin>)>
+) -> Result<(FileReel, FileReel, Option<Twin>), PairFault>
     ensures first { IfOk result (λ twins. IsReel twins.0) }
     ensures second { IfOk result (λ twins. IsReel twins.1) }
 {
     if !has_reel(rt, first, serial)? {
-        let other = open_reel(rt, second, serial, Access::Run)?;
+        let other = open_twin(rt, second, serial, Twin::Second)?;
         let reel = open_again(rt, first, serial)?;
         return Ok((reel, other, Some(Twin::First)));
     }
-    let reel = open_reel(rt, first, serial, Access::Run)?;
+    sync_target(rt, first, serial)?;
+    let reel = open_twin(rt, first, serial, Twin::First)?;
     if !has_reel(rt, second, serial)? {
         make_reel(rt, second, serial)?;
-        let other = open_reel(rt, second, serial, Access::Run)?;
+        let other = open_twin(rt, second, serial, Twin::Second)?;
         return Ok((reel, other, Some(Twin::Second)));
     }
-    let other = open_reel(rt, second, serial, Access::Run)?;
+    let other = open_twin(rt, second, serial, Twin::Second)?;
     if hold_same(rt, &reel, &other)? {
         return Ok((reel, other, None));
     }
@@ -128,6 +137,21 @@ fn open_twins(
         return Ok((again, other, Some(Twin::First)));
     }
     Ok((reel, other, Some(Twin::Second)))
+}
+
+/// Opens the reel of a serial in one of the folders, or names it in the fault.
+fn open_twin(
+    rt: &HostRuntime,
+    folder: &str,
+    serial: Serial,
+    twin: Twin,
+) -> Result<FileReel, PairFault>
+    ensures { IfOk result IsReel }
+{
+    match open_reel(rt, folder, serial, Access::Run) {
+        Ok(reel) => Ok(reel),
+        Err(error) => Err(PairFault::in_reel(serial.number, twin, error)),
+    }
 }
 
 /// Whether there is a reel of this serial in the folder.
@@ -145,30 +169,49 @@ fn make_reel(rt: &HostRuntime, folder: &str, serial: Serial) -> io::Result<()> {
     Ok(())
 }
 
-/// Opens an empty file that gets the reel's name when it is whole.
-fn open_again(rt: &HostRuntime, folder: &str, serial: Serial) -> io::Result<FileReel>
+/// If the first folder's reel is a link, makes the name durable of the file that it leads to: an earlier run may have been killed
+/// after it rebuilt that.
+fn sync_target(rt: &HostRuntime, first: &str, serial: Serial) -> io::Result<()> {
+    let number = serial.number;
+    let path = format!(in rt.alloc(); "{first}/{number}.tape")?;
+    if is_link(rt, path.as_str())? {
+        sync_folder_of(rt, target_of(rt, path.as_str())?.as_str())?;
+    }
+    Ok(())
+}
+
+/// Opens an empty file that gets the name of the first folder's reel when it is whole. If that is a link, the new file lies beside
+/// the one that it leads to.
+fn open_again(rt: &HostRuntime, first: &str, serial: Serial) -> io::Result<FileReel>
     ensures { IfOk result IsReel }
 {
     let number = serial.number;
-    let path = format!(in rt.alloc(); "{folder}/{number}.tape.new")?;
-    let file = open_unready(rt, path.as_str())?;
+    let path = format!(in rt.alloc(); "{first}/{number}.tape")?;
+    let target = target_of(rt, path.as_str())?;
+    let unready = format!(in rt.alloc(); "{target}.new")?;
+    let file = open_unready(rt, unready.as_str())?;
     claim(&file, Access::Run)?;
     file.set_len(0)?;
     Ok(FileReel::new(file, number, CAPACITY, 0))
 }
 
-/// Whether two reels hold the same blocks.
-fn hold_same(rt: &HostRuntime, reel: &FileReel, other: &FileReel) -> io::Result<bool> {
+/// Whether two reels hold the same blocks. A fault names the one that can't be read.
+fn hold_same(rt: &HostRuntime, reel: &FileReel, other: &FileReel) -> Result<bool, PairFault> {
     if reel.state().len() != other.state().len() {
         return Ok(false);
     }
+    let serial = reel.state().serial();
     let mut ahead = ReadAhead::new(rt.alloc())?;
     let mut ahead_beside = ReadAhead::new(rt.alloc())?;
     for k in 0..reel.state().len() {
         let mut block = [0; 512];
         let mut beside = [0; 512];
-        reel.read(&mut ahead, k, &mut block)?;
-        other.read(&mut ahead_beside, k, &mut beside)?;
+        if let Err(error) = reel.read(&mut ahead, k, &mut block) {
+            return Err(PairFault::in_reel(serial, Twin::First, error));
+        }
+        if let Err(error) = other.read(&mut ahead_beside, k, &mut beside) {
+            return Err(PairFault::in_reel(serial, Twin::Second, error));
+        }
         if block != beside {
             return Ok(false);
         }
@@ -176,39 +219,53 @@ fn hold_same(rt: &HostRuntime, reel: &FileReel, other: &FileReel) -> io::Result<
     Ok(true)
 }
 
-/// Makes the lost reel of a serial again from the other one, brings it to the device, and gives it its name.
+/// Rebuilds the lost reel of a serial from the other one, makes it durable, and gives it its name.
 fn rebuild(
     rt: &HostRuntime,
     first: &str,
     second: &str,
     pair: &mut Duplex<FileTapes>,
     serial: u32,
-) -> io::Result<()> {
+) -> Result<(), PairFault> {
     let _mounted = pair.mount(serial);
     let Some(Standing::Lost(twin)) = pair.standing(serial) else {
         return Ok(());
     };
-    if pair.rebuild_twin(serial, twin).is_err() {
-        return Err(Error::from(ErrorKind::Other));
+    if let Err(fault) = pair.rebuild_twin(serial, twin) {
+        return Err(fault_of(serial, twin, fault));
     }
-    match twin {
-        Twin::First => finish_first(rt, first, serial)?,
-        Twin::Second => finish_second(rt, second, serial)?,
+    let finished = match twin {
+        Twin::First => finish_first(rt, first, serial),
+        Twin::Second => finish_second(rt, second, serial),
+    };
+    if let Err(error) = finished {
+        return Err(PairFault::NotRebuilt(serial, twin, error));
     }
     let _unmounted = pair.unmount(serial);
     Ok(())
 }
 
-/// Brings the first folder's reel that was made again to the device, and gives it its name.
-fn finish_first(rt: &HostRuntime, first: &str, serial: u32) -> io::Result<()> {
-    let path = format!(in rt.alloc(); "{first}/{serial}.tape")?;
-    let unready = format!(in rt.alloc(); "{first}/{serial}.tape.new")?;
-    File::open(rt, unready.as_str())?.sync_all()?;
-    fs::rename(rt, unready.as_str(), path.as_str())?;
-    sync_folder(rt, first)
+/// Why this reel of a serial can't be rebuilt from the other one: that can't be read, or this one can't be written.
+fn fault_of(serial: u32, twin: Twin, fault: DuplexFault) -> PairFault {
+    let error = Error::from(ErrorKind::Other);
+    match (fault, twin) {
+        (DuplexFault::ReadFailed, Twin::First) => PairFault::Reel(serial, Twin::Second, error),
+        (DuplexFault::ReadFailed, Twin::Second) => PairFault::Reel(serial, Twin::First, error),
+        _ => PairFault::NotRebuilt(serial, twin, error),
+    }
 }
 
-/// Brings the second folder's reel that was made again to the device, with its name.
+/// Makes the first folder's reel durable that was rebuilt, and gives it its name, or that of the file that this leads to.
+fn finish_first(rt: &HostRuntime, first: &str, serial: u32) -> io::Result<()> {
+    let path = format!(in rt.alloc(); "{first}/{serial}.tape")?;
+    let target = target_of(rt, path.as_str())?;
+    let unready = format!(in rt.alloc(); "{target}.new")?;
+    File::open(rt, unready.as_str())?.sync_all()?;
+    fs::rename(rt, unready.as_str(), target.as_str())?;
+    sync_folder_of(rt, target.as_str())
+}
+
+/// Makes the second folder's reel durable that was rebuilt, with its name.
 fn finish_second(rt: &HostRuntime, second: &str, serial: u32) -> io::Result<()> {
     let path = format!(in rt.alloc(); "{second}/{serial}.tape")?;
     File::open(rt, path.as_str())?.sync_all()?;

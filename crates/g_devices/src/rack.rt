@@ -5,7 +5,7 @@ ghost use Rattle.g_tape.specs.Reel.{IsReel};
 
 use crate::ahead::ReadAhead;
 use crate::blocks::blocks_in;
-use crate::claim::{Access, claim};
+use crate::claim::{Access, claim, claim_folder};
 use crate::file_reel::FileReel;
 use crate::file_tapes::FileTapes;
 use crate::names::{open_folder, open_plain};
@@ -48,7 +48,7 @@ pub(crate) fn look_at_rack(rt: &HostRuntime, folder: &str) -> io::Result<FileTap
 
 /// The rack of the reels in an open folder.
 fn reels_in(rt: &HostRuntime, folder: &str, opened: File, access: Access) -> io::Result<FileTapes> {
-    claim(&opened, access)?;
+    claim_folder(&opened, access)?;
     let mut serials = serials_in(rt, folder)?;
     serials.sort_by_key(|serial| serial.number)?;
     let mut reels = Vec::new(rt.alloc());

@@ -1,23 +1,14 @@
-//! Whether what was written to a file is on the device.
+//! Whether what is in a reel's file is durable.
 
-/// How far the writes to a file have come.
+/// How far the blocks of a reel are known to have come.
 #[derive(Clone, Copy, PartialEq, Eq)]
 pub(crate) enum Reach {
-    /// What an earlier run wrote may not be on the device.
+    /// Nothing is known. What an earlier run wrote may not be on the device, and a sync that failed then may have dropped it.
     Unknown,
-    /// What this run wrote may not be there.
+    /// This run wrote something, and the next sync makes all of it durable.
     Behind,
-    /// All is there.
+    /// A write, a cut or a sync failed. The system may have dropped what it didn't bring to the device, and then no later sync does.
+    Failed,
+    /// Everything is durable.
     There,
-}
-
-impl Reach {
-    /// Whether a sync has something to bring to the device: what this run wrote, or what it may have read of an earlier one.
-    pub fn wants_sync(self, was_read: bool) -> bool {
-        match self {
-            Reach::Unknown => was_read,
-            Reach::Behind => true,
-            Reach::There => false,
-        }
-    }
 }

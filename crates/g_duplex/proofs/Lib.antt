@@ -10,5 +10,6 @@ pub mod PairLemmas
 pub mod PlaceLemmas
 pub mod ReadLemmas
 pub mod RebuildLemmas
+pub mod SecureLemmas
 pub mod UnreadLemmas
 pub mod WriteLemmas

@@ -1,12 +1,12 @@
 -- What each call asks of the two racks, and what becomes of the pair.
-use Rattle.std.specs.Prelude.{◌≡◌, ℕ, List, Bool, true, false, Option, Some, None, Result, Ok, Err, ◌==◌, if◌then◌else◌}
+use Rattle.std.specs.Prelude.{◌≡◌, ℕ, List, Bool, true, false, not, ◌||◌, Option, Some, None, Result, Ok, Err, nat_lt, ◌==◌, if◌then◌else◌}
 use Rattle.std.specs.Option.{ForSome}
 use Rattle.g_base.specs.Counts.{one_more}
 use Rattle.g_base.specs.Fuse.{armed_with}
 use Rattle.g_tape.specs.declared.fault.TapeFault.{TapeFault}
 use Rattle.g_tape.specs.declared.fault.TapeFault.TheVariants.{ReadFailed, WriteFailed}
 use Rattle.g_tape.specs.Reel.{with_mounted}
-use Rattle.g_tape.specs.Rack.{Rack, reel, changed, refuses_mount, refuses_unmount, refuses_read, refuses_write, Mounting, Reading, Writing}
+use Rattle.g_tape.specs.Rack.{Rack, reel, changed, refuses_mount, refuses_unmount, refuses_read, refuses_write, is_mounted, told_of, Mounting, Reading, Securing, Writing}
 use Rattle.g_duplex.specs.Twins.{of_leader, of_other, is_lost, after_both, after_failure, may_help}
 use Rattle.g_duplex.specs.Pair.{Pair, armed, shown, standing_in, stands}
 use Rattle.g_duplex.specs.declared.twin.Twin.TheVariants.{Second}
@@ -84,6 +84,57 @@ pub record PairWrites (s k : ℕ) (block : List ℕ) (old : Pair) (result : Answ
       × (new.standings ≡ stands s (λ _. after) old))
   pub kept : new ≡ record old { first = new.first; second = new.second; standings = new.standings; write_faults = new.write_faults; fuse = new.fuse }
   pub refused : (fault : TapeFault) → refuses_write k (reel s (shown old).reels) ≡ Some fault → new ≡ old
+
+-- giving up the other reel doesn't change whether the pair is seen as mounted
+abbrev pub may_give_up : ℕ → Rack → Rack → Bool
+may_give_up s lead other = not (is_mounted (reel s lead.reels)) || is_mounted (reel s other.reels)
+
+-- the other reel has fewer blocks than the leading one
+abbrev pub is_less : Result ℕ TapeFault → Result ℕ TapeFault → Bool
+is_less (Ok m) (Ok n) = nat_lt m n
+is_less m n = false
+
+abbrev pub is_shorter : ℕ → Rack → Rack → Bool
+is_shorter s lead other = is_less (told_of (λ r. r.len) (reel s other.reels)) (told_of (λ r. r.len) (reel s lead.reels))
+
+-- WHAT THE OTHER TWIN IS once the leading one is durable: lost before; lacking blocks that the leading one has; or one that has to be made
+-- durable too, which may be given up or not
+pub data OtherTwin : Type 0 where
+  Gone : OtherTwin
+  Lacking : OtherTwin
+  Spare : OtherTwin
+  Needed : OtherTwin
+
+abbrev pub other_is : Standing → Bool → Bool → OtherTwin
+other_is t spare shorter = if is_lost t then Gone else (if spare then (if shorter then Lacking else Spare) else Needed)
+
+-- It is lost from then on if it lacks blocks or can't be made durable, or else, if it can't be given up, the call fails.
+abbrev pub settles : Bool → Answer → Standing → Answer × Standing
+settles spare (Ok u) t = (Ok tt, t)
+settles true (Err fault) t = (Ok tt, Lost Second)
+settles false (Err fault) t = (Err ReadFailed, t)
+
+abbrev pub SecuresOther : OtherTwin → ℕ → Standing → Rack → Answer → Standing → Rack → Type 0
+SecuresOther Gone s t old result after new = (result ≡ Ok tt) × (after ≡ t) × (new ≡ old)
+SecuresOther Lacking s t old result after new = (result ≡ Ok tt) × (after ≡ Lost Second) × (new ≡ old)
+SecuresOther Spare s t old result after new = (answer : Answer) × Securing s old answer new × ((result, after) ≡ settles true answer t)
+SecuresOther Needed s t old result after new = (answer : Answer) × Securing s old answer new × ((result, after) ≡ settles false answer t)
+
+abbrev pub SecuresOn : ℕ → Standing → Rack → Rack → Answer → Answer → Standing → Rack → Type 0
+SecuresOn s t lead other (Err fault) result after new = (result ≡ Err fault) × (after ≡ t) × (new ≡ other)
+SecuresOn s t lead other (Ok u) result after new = SecuresOther (other_is t (may_give_up s lead other) (is_shorter s lead other)) s t other result after new
+
+-- WHICH REELS ARE MADE DURABLE: the leading twin, first and always, and then the other one
+abbrev pub HasSecured : Standing → ℕ → Rack → Rack → Answer → Standing → Rack → Rack → Type 0
+HasSecured t s lead other result after lead' other' = (answer : Answer) × Securing s lead answer lead' × SecuresOn s t lead' other answer result after other'
+
+-- A PAIR IS MADE DURABLE: the trait's clause holds of what is seen, and these of the two reels
+pub record PairSecures (s : ℕ) (old : Pair) (result : Answer) (new : Pair) : Type 0 where
+  pub securing : Securing s (shown old) result (shown new)
+  pub secured : ForSome (standing_in s old) (λ t. (after : Standing)
+      × HasSecured t s (leading t old) (behind t old) result after (leading t new) (behind t new) × (new.standings ≡ stands s (λ _. after) old))
+  pub kept : new ≡ record old { first = new.first; second = new.second; standings = new.standings; read_faults = new.read_faults }
+  pub missing : standing_in s old ≡ None → new ≡ old
 
 -- the call was done
 abbrev pub is_done : Answer → Bool

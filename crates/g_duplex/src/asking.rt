@@ -1,6 +1,6 @@
 //! What a read and a write ask of two racks: of the one whose reel leads, and of the other one.
 ghost use Rattle.std.specs.Prelude.{◌≡◌};
-ghost use Rattle.g_duplex.specs.Calls.{Follows, HasAsked, HasWritten, armed_when, counted};
+ghost use Rattle.g_duplex.specs.Calls.{Follows, HasAsked, HasSecured, HasWritten, SecuresOther, armed_when, counted, is_shorter, may_give_up, other_is};
 ghost use Rattle.g_duplex.specs.Twins.{is_lost, may_help, of_leader, of_other};
 
 use crate::twin::{Standing, Twin};
@@ -114,6 +114,73 @@ fn write_other<T: Tapes>(
     match other.write(serial, k, from) {
         Ok(()) => standing.after_both(k),
         Err(_) => Standing::Lost(Twin::Second),
+    }
+}
+
+/// Makes the leading twin durable, and then the other one, if that isn't lost. The answer is the leading twin's, unless the other one
+/// fails and can't be given up. Then how they stand.
+pub(crate) fn secure_twins<T: Tapes>(
+    first: &mut T,
+    second: &mut T,
+    standing: Standing,
+    serial: u32,
+) -> (Result<(), TapeFault>, Standing)
+    ensures { HasSecured standing serial (of_leader standing (T.rack first.old) (T.rack second.old)) (of_other standing (T.rack first.old) (T.rack second.old))
+        result.0 result.1 (of_leader standing (T.rack first.new) (T.rack second.new)) (of_other standing (T.rack first.new) (T.rack second.new)) }
+{
+    match standing.leader() {
+        Twin::First => secure_both(first, second, standing, serial),
+        Twin::Second => secure_both(second, first, standing, serial),
+    }
+}
+
+/// Makes the leading reel durable, and then the other one, if that isn't lost. The answer, and how they stand then.
+fn secure_both<T: Tapes>(
+    leading: &mut T,
+    other: &mut T,
+    standing: Standing,
+    serial: u32,
+) -> (Result<(), TapeFault>, Standing)
+    ensures { HasSecured standing serial (T.rack leading.old) (T.rack other.old) result.0 result.1 (T.rack leading.new) (T.rack other.new) }
+{
+    match leading.secure(serial) {
+        Err(fault) => (Err(fault), standing),
+        Ok(()) => secure_other(leading, other, standing, serial),
+    }
+}
+
+/// Makes the other reel durable, if that isn't lost. It is lost from then on if it can't be made durable, or lacks blocks that the
+/// leading one has; but only if the pair isn't seen as mounted for it. The answer, and how the twins stand.
+fn secure_other<T: Tapes>(
+    leading: &T,
+    other: &mut T,
+    standing: Standing,
+    serial: u32,
+) -> (Result<(), TapeFault>, Standing)
+    ensures { SecuresOther (other_is standing (may_give_up serial (T.rack leading.now) (T.rack other.old)) (is_shorter serial (T.rack leading.now) (T.rack other.old)))
+        serial standing (T.rack other.old) result.0 result.1 (T.rack other.new) }
+{
+    if standing.is_lost() {
+        return (Ok(()), standing);
+    }
+    let may_give_up = !leading.mounted(serial) || other.mounted(serial);
+    if may_give_up && is_shorter(leading, other, serial) {
+        return (Ok(()), Standing::Lost(Twin::Second));
+    }
+    match other.secure(serial) {
+        Ok(()) => (Ok(()), standing),
+        Err(_) if may_give_up => (Ok(()), Standing::Lost(Twin::Second)),
+        Err(_) => (Err(TapeFault::ReadFailed), standing),
+    }
+}
+
+/// Whether the other reel has fewer blocks than the leading one.
+fn is_shorter<T: Tapes>(leading: &T, other: &T, serial: u32) -> bool
+    ensures { result ≡ is_shorter serial (T.rack leading.now) (T.rack other.now) }
+{
+    match (other.length(serial), leading.length(serial)) {
+        (Ok(blocks), Ok(most)) => blocks < most,
+        _ => false,
     }
 }
 

@@ -3,7 +3,7 @@ ghost use Rattle.std.specs.Prelude.{◌≡◌, ◌≤◌};
 ghost use Rattle.g_tape.specs.Rack.{reel, refuses_read, refuses_write};
 ghost use Rattle.g_duplex.specs.Pair.{shown};
 
-use crate::asking::{counted, read_twins, write_twins};
+use crate::asking::{counted, read_twins, secure_twins, write_twins};
 use crate::duplex::Duplex;
 use crate::places::{lost_among, place_of};
 use crate::twin::Twin;
@@ -51,7 +51,7 @@ impl<T: Tapes> Duplex<T> {
 }
 
 impl<T: Tapes> Tapes for Duplex<T> {
-    ghost use Rattle.g_duplex.specs.Calls.{PairArms, PairMounts, PairReads, PairUnmounts, PairWrites};
+    ghost use Rattle.g_duplex.specs.Calls.{PairArms, PairMounts, PairReads, PairSecures, PairUnmounts, PairWrites};
     ghost use Rattle.g_duplex.specs.Meaning.{pair_of};
     ghost use Rattle.g_duplex.specs.SeenReels.{are_reels};
 
@@ -150,6 +150,20 @@ impl<T: Tapes> Tapes for Duplex<T> {
         self.lost = lost_among(&self.first, &self.standings);
         self.write_faults = counted(&answer, self.write_faults);
         answer
+    }
+
+    fn secure(&mut self, serial: u32) -> Result<(), TapeFault>
+        ensures { PairSecures serial (pair_of self.old) result (pair_of self.new) }
+    {
+        let Some(place) = place_of(&self.first, serial) else {
+            return Err(TapeFault::NoTape);
+        };
+        let standing = self.standings.get(place);
+        let (secured, after) = secure_twins(&mut self.first, &mut self.second, standing, serial);
+        self.standings.set(place, after);
+        self.lost = lost_among(&self.first, &self.standings);
+        self.read_faults = counted(&secured, self.read_faults);
+        secured
     }
 
     fn arm(&mut self, k: u32)

@@ -161,6 +161,10 @@ impl<T: Tapes> Tapes for KnownReels<T> {
         self.reels.write(serial, k, from)
     }
 
+    fn secure(&mut self, serial: u32) -> Result<(), TapeFault> {
+        self.reels.secure(serial)
+    }
+
     fn arm(&mut self, k: u32) {
         self.reels.tapes.arm(k);
     }

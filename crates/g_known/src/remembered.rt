@@ -1,6 +1,6 @@
 //! A rack, and what is remembered of its reels.
 ghost use Rattle.std.specs.Prelude.{◌≡◌, Err, OnErr, OnOk, false, true};
-ghost use Rattle.g_tape.specs.Rack.{Mounting, Reading, Writing, refuses_mount, refuses_unmount};
+ghost use Rattle.g_tape.specs.Rack.{Mounting, Reading, Securing, Writing, refuses_mount, refuses_unmount};
 ghost use Rattle.g_known.specs.ReelNotes.{AreKnown, Fills, HasForgotten, HasNone, HasWritten, noted};
 
 use crate::lists::{NotedReel, forget, forget_from, notes_of, place_of};
@@ -83,6 +83,16 @@ impl<T: Tapes> Remembered<T> {
         ensures same { self.new.known ≡ self.old.known }
     {
         self.tapes.read(serial, k, into)
+    }
+
+    /// Asks the device each time: a reel whose dumps are remembered need not be durable.
+    pub(crate) fn secure(&mut self, serial: u32) -> Result<(), TapeFault>
+        requires known { AreKnown (T.rack self.old.tapes) self.old.known.items }
+        ensures securing { Securing serial (T.rack self.old.tapes) result (T.rack self.new.tapes) }
+        ensures known { AreKnown (T.rack self.new.tapes) self.new.known.items }
+        ensures same { self.new.known ≡ self.old.known }
+    {
+        self.tapes.secure(serial)
     }
 
     /// A write into the dumps that are remembered forgets the reel; behind them nothing is remembered that it could change.

@@ -73,7 +73,7 @@ start_ways s (Some k) Plain answer new =
     ((false, TapeReadFault) ∷ []) (refl, tt)
 start_ways s (Some k) TapeRead answer new =
     of_reel (option_map (λ d. d.number) (dump_adopted s k)) s (coming_up s (adopted (dump_adopted s k) k)) answer new false MountFirst (λ n. refl) (unmounted_reel s k.intent)
-    ((is_some k.intent, TapeReadFault) ∷ []) (refl, tt)
+    ((true, TapeReadFault) ∷ []) (refl, tt)
 start_ways s (Some k) Cut answer new =
     of_reel (option_map (λ d. d.number) (dump_adopted s k)) s (coming_up s (adopted (dump_adopted s k) k)) answer new (is_completed s k.intent) MountFirst (λ n. refl) (unmounted_reel s k.intent)
     ((false, TapeReadFault) ∷ []) (refl, tt)

@@ -22,7 +22,7 @@ DoesFormat s o answer new =
 abbrev pub DoesStart : State → Option Holding → Outcome → Result (Option ℕ) StoreFault → State → Type 0
 DoesStart s None o answer new = Goes (first_of (when (is_disc_read o) DiscReadFault ∷ Some NoFilestore ∷ [])) (is_cut o) None s [] s answer new
 DoesStart s (Some k) o answer new =
-    Goes (first_of (when (is_disc_read o) DiscReadFault ∷ option_map MountFirst (unmounted_reel s k.intent) ∷ when (is_tape_read o && is_some k.intent) TapeReadFault ∷ []))
+    Goes (first_of (when (is_disc_read o) DiscReadFault ∷ option_map MountFirst (unmounted_reel s k.intent) ∷ when (is_tape_read o) TapeReadFault ∷ []))
     (is_cut o && is_completed s k.intent) (option_map (λ d. d.number) (dump_adopted s k)) s [] (coming_up s (adopted (dump_adopted s k) k)) answer new
 
 -- from the reels, of which a dump gives a tree

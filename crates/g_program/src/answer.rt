@@ -10,7 +10,8 @@ use crate::telling::{tell_lost, tell_rebuilt, tell_unusable};
 use g_base::NoMemory;
 use g_demo::{Asked, asked_by};
 use g_devices::{
-    FileDisc, FileTapes, StdSink, StdSource, is_there, open_duplex, open_image, open_rack,
+    FileDisc, FileTapes, PairFault, StdSink, StdSource, is_there, open_duplex, open_image,
+    open_rack,
 };
 use g_disc::{Disc, MemoryDisc};
 use g_duplex::Duplex;
@@ -26,10 +27,10 @@ const NO_IMAGE: u8 = 7;
 const IMAGE: &str = "george.disc";
 
 /// The folder of the reels' images, there too.
-const RACK: &str = "george.tapes";
+pub(crate) const RACK: &str = "george.tapes";
 
 /// The folder of each reel's second image, where that is kept.
-const SECOND_RACK: &str = "george.tapes2";
+pub(crate) const SECOND_RACK: &str = "george.tapes2";
 
 /// The blocks of a disc on which nothing is looked for: no disc has fewer.
 const LEAST_BLOCKS: u32 = 2_178;
@@ -54,7 +55,7 @@ fn on_files(rt: &HostRuntime, words: &[&str]) -> u8
         Ok(code) => code,
         Err(fault) if fault.kind() == ErrorKind::OutOfMemory => Status::NoMemory.code(),
         Err(fault) => {
-            tell_unusable(rt, fault.kind());
+            tell_unusable(rt, &fault);
             NO_IMAGE
         }
     }
@@ -62,7 +63,7 @@ fn on_files(rt: &HostRuntime, words: &[&str]) -> u8
 
 /// Opens the image, and then the rack, for this run alone, and runs on them; each is made where it isn't there. Where anything
 /// has the second rack's name, that is opened too, and both are one rack.
-fn run_on_files(rt: &HostRuntime, words: &[&str]) -> io::Result<u8>
+fn run_on_files(rt: &HostRuntime, words: &[&str]) -> Result<u8, PairFault>
     ensures known { IfOk result (λ code. IsRun words.now → IsExit IsOfRun code) }
 {
     let disc = open_image(rt, IMAGE)?;

@@ -1,6 +1,8 @@
 //! What is told on standard error, of the reels of two racks and of image and rack that can't be used: the text of a run is alone
 //! on standard output. What can't be told there is dropped.
 
+use crate::answer::{RACK, SECOND_RACK};
+use g_devices::PairFault;
 use g_duplex::Twin;
 use std::io::ErrorKind;
 
@@ -22,10 +24,39 @@ pub(crate) fn tell_lost(rt: &HostRuntime, lost: &[(u32, Twin)]) {
     }
 }
 
-/// Tells why image and rack can't be used.
-pub(crate) fn tell_unusable(rt: &HostRuntime, kind: ErrorKind) {
-    let cause = cause_of(kind);
+/// Reports why image and rack can't be used; and if that lies in a reel of one of two racks, which it is and what to do.
+pub(crate) fn tell_unusable(rt: &HostRuntime, fault: &PairFault) {
+    let cause = cause_of(fault.kind());
     let _told = eprintln!(rt; "george: {cause}");
+    match fault {
+        PairFault::Racks(_) => {}
+        PairFault::Reel(serial, twin, _) => tell_broken(rt, *serial, *twin),
+        PairFault::NotRebuilt(serial, twin, _) => tell_not_rebuilt(rt, *serial, *twin),
+    }
+}
+
+/// Reports which reel can't be opened or read.
+fn tell_broken(rt: &HostRuntime, serial: u32, twin: Twin) {
+    let (folder, name, other) = places_of(twin);
+    let _told = eprintln!(rt;
+        "george: tape {serial}: the cause is the {name} reel, {folder}/{serial}.tape; if the {other} is whole, move this file away and the next run rebuilds it"
+    );
+}
+
+/// Reports which reel can't be rebuilt from the other one.
+fn tell_not_rebuilt(rt: &HostRuntime, serial: u32, twin: Twin) {
+    let (folder, name, other) = places_of(twin);
+    let _told = eprintln!(rt;
+        "george: tape {serial}: the {name} reel, {folder}/{serial}.tape, can't be rebuilt from the {other}; see that it can be written and that there is room"
+    );
+}
+
+/// The folder of a reel, and its name and its twin's.
+fn places_of(twin: Twin) -> (&'static str, &'static str, &'static str) {
+    match twin {
+        Twin::First => (RACK, "first", "second"),
+        Twin::Second => (SECOND_RACK, "second", "first"),
+    }
 }
 
 /// The cause of an error of `open_image`, `open_rack` and `open_duplex`, in words.

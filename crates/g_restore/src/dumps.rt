@@ -8,7 +8,7 @@ ghost use Rattle.g_restore.specs.Reels.{AreOnReels};
 
 use g_incr::{DumpDir, ShelfFault};
 use g_shelf::{OfDump, read_reel};
-use g_tape::Tapes;
+use g_tape::{Tapes, secure_all};
 use std::alloc::Global;
 
 /// A completed dump: the serial of its reel, and its records.
@@ -50,4 +50,24 @@ pub fn read_rack<T: Tapes>(alloc: Global, tapes: &mut T) -> Result<Vec<Found>, S
         }
     }
     Ok(found)
+}
+
+/// Makes the rack durable and then reads it as `read_rack` does: a restore believes no mark that a power loss could still take.
+/// `ReadFault` also if a reel can't be made durable.
+pub(crate) fn read_durable_rack<T: Tapes>(
+    alloc: Global,
+    tapes: &mut T,
+) -> Result<Vec<Found>, ShelfFault>
+    requires mounted { All (λ r. r.mounted ≡ true) (T.rack tapes.old).reels }
+    ensures found { IfOk result (λ found. (dumps : List Dump)
+        × AreOnReels (T.rack tapes.old).reels dumps × (map known found.items ≡ map known_of dumps)) }
+    ensures only { OnlyReads (T.rack tapes.old) (T.rack tapes.new) }
+    ensures faults { OnErr result ((result ≡ Err ShelfFault.ReadFault) ⊎ (result ≡ Err ShelfFault.NoMemory)) }
+    ensures kept { (result ≡ Err ShelfFault.ReadFault → ⊥) → (T.rack tapes.new).read_faults ≡ (T.rack tapes.old).read_faults }
+    ensures rose { result ≡ Err ShelfFault.ReadFault → Rose (T.rack tapes.old).read_faults (T.rack tapes.new).read_faults }
+{
+    match secure_all(tapes) {
+        Ok(()) => read_rack(alloc, tapes),
+        Err(_) => Err(ShelfFault::ReadFault),
+    }
 }

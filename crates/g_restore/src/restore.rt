@@ -18,7 +18,7 @@ ghost use Rattle.g_restore.specs.Restoration.{IsOfDisc, IsOfReels, IsRestored, K
 ghost use Rattle.g_restore.specs.Steps.{CanBeMade, IsGiven, head_of};
 
 use crate::directory::{Dumped, fold};
-use crate::dumps::read_rack;
+use crate::dumps::read_durable_rack;
 use g_disc::Disc;
 use g_entry::Head;
 use g_online::Online;
@@ -31,10 +31,10 @@ use std::alloc::Global;
 /// Makes the filestore that the completed dumps give, on this disc, by one commit, and answers the number of the last dump:
 /// the users and the next stamp are that dump's, each user's files those of the newest dump that holds the user, and every
 /// file that isn't empty is offline, at the place that its record names. The disc may have held anything, and need not
-/// belong to the rack. All reels have to be mounted. A refusal hands the disc back, and reels are only read:
+/// belong to the rack. All reels have to be mounted. A refusal hands the disc back, and no reel changes as it is read:
 ///
-/// - `RackNotMounted`: the first reel that isn't mounted. `TapeReadFault`: a read of a reel failed. `NoDump`: no reel has a
-///   completed dump. With these, and with `LostDirectory`, `LostCopy` and `NoMemory`, the disc is as it was.
+/// - `RackNotMounted`: the first reel that isn't mounted. `TapeReadFault`: a reel couldn't be made durable, or a read of it
+///   failed. `NoDump`: no reel has a completed dump. With these, and with `LostDirectory`, `LostCopy` and `NoMemory`, the disc is as it was.
 /// - `LostDirectory`: the first user of the last dump whose directory no dump holds, or with whose directory those of the
 ///   users up to it break the rules of a directory. `LostCopy`: else the first file, by owner and then in the order of its
 ///   dump, whose place isn't content of completed dumps.
@@ -101,7 +101,7 @@ fn dumped_directory<T: Tapes>(alloc: Global, tapes: &mut T) -> Result<Dumped, St
         Some(serial) => return Err(StoreFault::RackNotMounted(serial)),
         None => {}
     }
-    match read_rack(alloc, tapes) {
+    match read_durable_rack(alloc, tapes) {
         Ok(found) => fold(alloc, found.as_slice()),
         Err(fault) => Err(fault.into()),
     }

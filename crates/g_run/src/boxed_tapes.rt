@@ -47,6 +47,10 @@ impl<T: Tapes> Tapes for BoxedTapes<T> {
         self.tapes.write(serial, k, from)
     }
 
+    fn secure(&mut self, serial: u32) -> Result<(), TapeFault> {
+        self.tapes.secure(serial)
+    }
+
     fn arm(&mut self, k: u32) {
         self.tapes.arm(k);
     }

@@ -253,15 +253,8 @@ module _ (s : State) where
       (from_own MountFirst (λ serial. tt) (unmounted_reel s k.intent), (inl refl, (inl refl, tt))) refl refl
   start_goes k DiscRead = quiet (start_refuses s k) DiscRead (fault_from MountFirst (unmounted_reel s k.intent) ∷ (false, TapeReadFault) ∷ (false, Stopped) ∷ [])
       (from_own MountFirst (λ serial. tt) (unmounted_reel s k.intent), (inl refl, (inl refl, tt))) refl refl
-  start_goes k TapeRead = by (is_some k.intent) refl
-    where
-      by : (b : Bool) → is_some k.intent ≡ b → GoesWith (start_refuses s k) TapeRead
-      by true e = held_tape (start_refuses s k) (fault_from MountFirst (unmounted_reel s k.intent) ∷ []) (from_own MountFirst (λ serial. tt) (unmounted_reel s k.intent), tt)
-          ((false, TapeReadFault) ∷ (false, Stopped) ∷ [], refl) ((false, Stopped) ∷ [])
-          (ap (λ (b : Bool). first_fault (fault_from MountFirst (unmounted_reel s k.intent) ∷ (b, TapeReadFault) ∷ (false, Stopped) ∷ [])) e)
-      by false e = quiet (start_refuses s k) TapeRead (fault_from MountFirst (unmounted_reel s k.intent) ∷ (false, TapeReadFault) ∷ (false, Stopped) ∷ [])
-          (from_own MountFirst (λ serial. tt) (unmounted_reel s k.intent), (inl refl, (inl refl, tt)))
-          (ap (λ (b : Bool). first_fault (fault_from MountFirst (unmounted_reel s k.intent) ∷ (b, TapeReadFault) ∷ (false, Stopped) ∷ [])) e) refl
+  start_goes k TapeRead = held_tape (start_refuses s k) (fault_from MountFirst (unmounted_reel s k.intent) ∷ [])
+      (from_own MountFirst (λ serial. tt) (unmounted_reel s k.intent), tt) ((false, TapeReadFault) ∷ (false, Stopped) ∷ [], refl) ((false, Stopped) ∷ []) refl
   start_goes k Cut = by (is_completed s k.intent) refl
     where
       by : (b : Bool) → is_completed s k.intent ≡ b → GoesWith (start_refuses s k) Cut

@@ -131,9 +131,6 @@ module _ (disc : DiscState) (rack : Rack) (told : AllTold disc.held (told_reels 
           ap (unmounted_reel there) is
           ∙ ap (λ (b : Bool). let o : Option ℕ = if b then None else Some i.serial in o) (mounted_by belong.shelf i.serial rack.reels ∙ mounted)
 
-      pub has_intent : is_some k.intent ≡ true
-      has_intent = ap is_some is
-
       -- its reel
       record IsReelOf (r : Reel) : Type 0 where
         found : reel i.serial rack.reels ≡ Some r

@@ -480,7 +480,7 @@ module _ (disc : DiscState) (rack : Rack) (o : OnlineFacts) (loaded : HasLoaded 
         → StepsDown StartStep s disc rack fault new.disc after) → Refuses (Belong disc.held rack) StartStep disc rack fault new.disc after
     refuses_by steps = unchanged disc new.disc rack after only same_size same_disc none_written fault no_causes rose kept steps
 
-  module _ (told : AllTold disc.held (told_reels rack)) (belong : Belong disc.held rack) (i : Intent) where
+  module _ (told : AllTold disc.held (told_reels rack)) (belong : Belong disc.held rack) where
     abbrev at : state.State
     at = start.there disc rack told belong o.contents holds
 
@@ -491,22 +491,25 @@ module _ (disc : DiscState) (rack : Rack) (o : OnlineFacts) (loaded : HasLoaded 
         → Starts at (Some kk) out (Err fault) at → StartStep s out (Err fault) s
     refused_step out fault s devices step = subst (λ (x : state.State). StartStep x out (Err fault) x) (sym (start.is_there disc rack told belong o.contents holds s devices)) step
 
-    unmounted_step : IsIntent o rack false i → Starts at (Some kk) Plain (Err (MountFirst i.serial)) at
-    unmounted_step intent =
+    unmounted_step : (i : Intent) → IsIntent o rack false i → Starts at (Some kk) Plain (Err (MountFirst i.serial)) at
+    unmounted_step i intent =
         subst
         (λ (r : Option StoreFault).
         Event r (option_map (λ (d : state.Dumped). d.number) (dump_adopted at kk)) at (coming_up at (adopted (dump_adopted at kk) kk)) (Err (MountFirst i.serial)) at)
         (sym (start.refuses_with at kk (Some i.serial) false false (start.reel_first disc rack told belong o.contents holds i intent.is intent.mounted_is)))
         (refl, refl)
 
-    unread_step : IsIntent o rack true i → Starts at (Some kk) TapeRead (Err TapeReadFault) at
-    unread_step intent =
+    -- no reel of an intent is in the way
+    none_down : (intent : Option Intent) → o.contents.head.intent ≡ intent → IfSome intent (λ i. is_mounted (reel i.serial rack.reels) ≡ true) → unmounted_reel at kk.intent ≡ None
+    none_down None is up = start.no_reel disc rack told belong o.contents holds is
+    none_down (Some i) is up = start.reel_up disc rack told belong o.contents holds i is up
+
+    unread_step : IfSome o.contents.head.intent (λ i. is_mounted (reel i.serial rack.reels) ≡ true) → Starts at (Some kk) TapeRead (Err TapeReadFault) at
+    unread_step up =
         subst
         (λ (r : Option StoreFault).
         Event r (option_map (λ (d : state.Dumped). d.number) (dump_adopted at kk)) at (coming_up at (adopted (dump_adopted at kk) kk)) (Err TapeReadFault) at)
-        (sym (start.refuses_with at kk None (is_some kk.intent) false (start.reel_up disc rack told belong o.contents holds i intent.is intent.mounted_is)
-        ∙ ap (λ (b : Bool). first_fault (fault_from MountFirst None ∷ (b, TapeReadFault) ∷ (false, Stopped) ∷ []))
-        (start.has_intent disc rack told belong o.contents holds i intent.is intent.mounted_is)))
+        (sym (start.refuses_with at kk None true false (none_down o.contents.head.intent refl up)))
         (refl, refl)
 
 -- AS THE DUMP OF THE INTENT WAS TAKEN OVER
@@ -544,7 +547,7 @@ module _ (disc : DiscState) (rack : Rack) (o : OnlineFacts) (loaded : HasLoaded 
               left = left_same disc rack o loaded after taken.reads new same fault (rose_by fault taken) (kept_by fault taken) read stop s devices;
               outcome = Plain;
               raised = tt;
-              step = refused_step disc rack o loaded after taken.reads told belong i Plain fault s devices
+              step = refused_step disc rack o loaded after taken.reads told belong Plain fault s devices
                   (subst (λ (n : ℕ). Starts (start.there disc rack told belong o.contents loaded.holds) (Some (start.k disc rack told belong o.contents loaded.holds)) Plain (Err (MountFirst n))
                   (start.there disc rack told belong o.contents loaded.holds)) (sym serial_is) (unmounted_step disc rack o loaded after taken.reads told belong i is));
             });
@@ -557,7 +560,7 @@ module _ (disc : DiscState) (rack : Rack) (o : OnlineFacts) (loaded : HasLoaded 
 
   unread_said : Says TapeReadFault
   unread_said taken =
-      let (same, i, is) = taken.takes in
+      let (same, up) = taken.takes in
       let read : TapeReadFault ≢ DiscReadFault = λ e. let no : ⊥ = cc in no in
       let stop : TapeReadFault ≢ Stopped = λ e. let no : ⊥ = cc in no in
       record {
@@ -567,7 +570,7 @@ module _ (disc : DiscState) (rack : Rack) (o : OnlineFacts) (loaded : HasLoaded 
               left = left_same disc rack o loaded after taken.reads new same TapeReadFault (rose_by TapeReadFault taken) (kept_by TapeReadFault taken) read stop s devices;
               outcome = TapeRead;
               raised = taken.rose refl;
-              step = refused_step disc rack o loaded after taken.reads told belong i TapeRead TapeReadFault s devices (unread_step disc rack o loaded after taken.reads told belong i is);
+              step = refused_step disc rack o loaded after taken.reads told belong TapeRead TapeReadFault s devices (unread_step disc rack o loaded after taken.reads told belong up);
             });
         first = λ n e. let no : ⊥ = cc in absurd no;
         none = λ e. let no : ⊥ = cc in absurd no;

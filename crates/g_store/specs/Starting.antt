@@ -87,7 +87,7 @@ abbrev pub Takes : OnlineFacts → Rack → Result (Option ℕ) StoreFault → O
 Takes old rack (Ok None) new = TakesNone old rack new
 Takes old rack (Ok (Some number)) new = (taken : TakesNamed old rack (λ change. HasChanged change old new)) × (number ≡ taken.intent.number)
 Takes old rack (Err (MountFirst serial)) new = (new ≡ old) × (i : Intent) × IsIntent old rack false i × (serial ≡ i.serial)
-Takes old rack (Err TapeReadFault) new = (new ≡ old) × (i : Intent) × IsIntent old rack true i
+Takes old rack (Err TapeReadFault) new = (new ≡ old) × IfSome old.contents.head.intent (λ i. is_mounted (reel i.serial rack.reels) ≡ true)
 Takes old rack (Err Stopped) new = TakesNamed old rack (λ change. HasStopped change old new)
 Takes old rack (Err NoMemory) new = new ≡ old
 Takes old rack (Err fault) new = ⊥

@@ -82,10 +82,10 @@ pub fn format<D: Disc, T: Tapes>(
 
 /// General restore: makes the filestore that the completed dumps of the rack give, on this disc, by one commit, and answers the
 /// number of the last dump (docs/DEFINITIONS.md). The disc may have held anything, and its filestore is gone. All reels have to
-/// be mounted, and are only read. A refusal hands both devices back:
+/// be mounted; they are made durable and read, and none changes as it is read. A refusal hands both devices back:
 ///
-/// - `RackNotMounted`: the first reel that isn't mounted. `TapeReadFault`: a read of a reel failed. `NoDump`: no reel has a
-///   completed dump. `LostDirectory`: the first user whose directory is lost, or breaks the rules of a directory with those
+/// - `RackNotMounted`: the first reel that isn't mounted. `TapeReadFault`: a reel couldn't be made durable, or a read of one
+///   failed. `NoDump`: no reel has a completed dump. `LostDirectory`: the first user whose directory is lost, or breaks the rules of a directory with those
 ///   before it. `LostCopy`: the first file whose place no completed dump holds. With these, and with `NoMemory`, the disc is as
 ///   it was.
 /// - `DiscReadFault`: the gate couldn't be read; the disc is as it was. `Stopped`: a write failed, and the disc stands for what

@@ -7,7 +7,7 @@ ghost use Rattle.g_tape.specs.Rack.{is_mounted, reel};
 ghost use Rattle.g_tape.specs.Reads.{OnlyReads};
 ghost use Rattle.g_disc_contents.specs.Facts.{IsTied};
 ghost use Rattle.g_store.specs.Making.{Begun, RefusesStart};
-ghost use Rattle.g_store.specs.Starting.{Adopts, HasNamed, NamesNone, TakesOver, copies_named, copy_named, has_empty, names};
+ghost use Rattle.g_store.specs.Starting.{Adopts, HasNamed, IsIntent, NamesNone, TakesOver, copies_named, copy_named, has_empty, names};
 
 use crate::making::Refused;
 use crate::store::Store;
@@ -19,16 +19,17 @@ use g_known::KnownReels;
 use g_online::{CopyList, Online, OnlineFault};
 use g_plain::StoreFault;
 use g_table::FileTable;
-use g_tape::Tapes;
+use g_tape::{Tapes, secure_all};
 use std::alloc::Global;
 
 /// Starts the store that the disc holds. Where the disc has an intent, the system went down while a dump was open: if that dump
 /// stands whole among the completed ones of its reel, its copies and its number are taken over by one commit, and the answer is
 /// the number; else nothing is written, and the next commit drops the intent (docs/DEFINITIONS.md). The reel of the intent has to
-/// be mounted, and is only read. A refusal hands both devices back:
+/// be mounted. All reels are made durable before one of them is read. A refusal hands both devices back:
 ///
 /// - `NoFilestore`: the disc holds none. `DiscReadFault`: a block of it couldn't be read. `MountFirst`: the serial of the intent's
-///   reel, which isn't mounted. `TapeReadFault`: a read of that reel failed. With these, and with `NoMemory`, the disc is as it was.
+///   reel, which isn't mounted. `TapeReadFault`: a reel couldn't be made durable, or a read of the intent's reel
+///   failed. With these, and with `NoMemory`, the disc is as it was.
 /// - `Stopped`: a write failed, and the disc stands for what it stood for, or for that with the dump taken over.
 pub fn start<D: Disc, T: Tapes>(
     alloc: Global,
@@ -68,7 +69,8 @@ pub fn start<D: Disc, T: Tapes>(
     }
 }
 
-/// Takes the dump over that the intent of the disc names, if it is a completed one. Its number.
+/// Makes the rack durable, so that no dump is believed that a power loss could still take; then takes over the dump that the disc's
+/// intent names, if it is a completed one, and answers its number.
 fn take_over<D: Disc, T: Tapes>(
     alloc: Global,
     online: &mut Online<D>,
@@ -79,14 +81,36 @@ fn take_over<D: Disc, T: Tapes>(
     requires tied { IsTied online.old }
     ensures { TakesOver online.old (T.rack tapes.old) result online.new (T.rack tapes.new) }
 {
-    let intent = match online.head().intent {
-        Some(intent) => intent,
-        None => return Ok(None),
-    };
-    if !tapes.mounted(intent.serial) {
-        return Err(StoreFault::MountFirst(intent.serial));
+    let intent = online.head().intent;
+    if let Some(named) = intent {
+        if !tapes.mounted(named.serial) {
+            return Err(StoreFault::MountFirst(named.serial));
+        }
     }
-    let dir = match find_named(alloc, tapes, &intent) {
+    match secure_all(tapes) {
+        Ok(()) => {}
+        Err(_) => return Err(StoreFault::TapeReadFault),
+    }
+    match intent {
+        Some(named) => take_named(alloc, online, tapes, &named),
+        None => Ok(None),
+    }
+}
+
+/// Takes the dump of the disc's intent over, from a reel that is mounted and durable.
+fn take_named<D: Disc, T: Tapes>(
+    alloc: Global,
+    online: &mut Online<D>,
+    tapes: &mut KnownReels<T>,
+    intent: &Intent,
+) -> Result<Option<u64>, StoreFault>
+    requires live { online.old.live ≡ true }
+    requires pins { online.old.pins ≡ None }
+    requires tied { IsTied online.old }
+    requires named { IsIntent online.old (T.rack tapes.old) true intent.now }
+    ensures { TakesOver online.old (T.rack tapes.old) result online.new (T.rack tapes.new) }
+{
+    let dir = match find_named(alloc, tapes, intent) {
         Ok(Some(dir)) => dir,
         Ok(None) => return Ok(None),
         Err(fault) => return Err(fault),

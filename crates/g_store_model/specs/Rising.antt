@@ -63,12 +63,12 @@ dump_adopted s k = if is_completed s k.intent then s.dumped else None
 abbrev pub start_refuses : State → Holding → Outcome → Option StoreFault
 start_refuses s k o = first_fault (
     fault_from MountFirst (unmounted_reel s k.intent)
-    ∷ (is_tape_read o && is_some k.intent, TapeReadFault)
+    ∷ (is_tape_read o, TapeReadFault)
     ∷ (is_cut o && is_completed s k.intent, Stopped)
     ∷ [])
 
--- STARTING takes what the disc holds. Where the intent's reel has the dump that it names, the dump is adopted, and its number is
--- the answer; else the intent stays on the disc until the next commit.
+-- STARTING makes the rack durable and takes what the disc holds. If the intent's reel has the dump that it names, the dump is adopted,
+-- and its number is the answer; otherwise the intent stays on the disc until the next commit.
 abbrev pub Starts : State → Option Holding → Outcome → Result (Option ℕ) StoreFault → State → Type 0
 Starts s k DiscRead answer new = (answer ≡ Err DiscReadFault) × (new ≡ s)
 Starts s None o answer new = (answer ≡ Err NoFilestore) × (new ≡ s)

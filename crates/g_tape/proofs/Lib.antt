@@ -4,4 +4,5 @@ pub mod PlaceLemmas
 pub mod RackLemmas
 pub mod ReadLemmas
 pub mod ReelLemmas
+pub mod SecureLemmas
 pub mod SortLemmas

@@ -1,21 +1,24 @@
 -- The calls of a rack in memory that went through, or whose write failed, by what was done to the reel.
-use Rattle.std.proofs.Common.{◌≡◌, ℕ, ◌<◌, ◌≤◌, List, false, Option, Some, None, Ok, Err, Contains, length, get_or, slice_get, subst, sym, ap, ◌∙◌, refl, arith, eqb}
+use Rattle.std.proofs.Common.{◌≡◌, ℕ, ◌<◌, ◌≤◌, List, true, false, Option, Some, None, is_some, Ok, Err, Contains, length, get_or, slice_get, subst, sym, ap, ◌∙◌, refl, arith, eqb}
 use Rattle.std.specs.Option.{ForSome}
 use Rattle.std.proofs.Math.ListN.{set}
-use Rattle.std.proofs.lemmas.Bool.{eqb-false}
-use Rattle.g_base.specs.Counts.{one_more}
+use Rattle.std.proofs.lemmas.Bool.{eqb-false, eqb-true}
+use Rattle.g_base.specs.Counts.{one_more, Rose}
 use Rattle.g_base.specs.Fuse.{burnt}
-use Rattle.g_tape.specs.declared.fault.TapeFault.TheVariants.{WriteFailed}
-use Rattle.g_tape.specs.Reel.{Reel, read_at, ending, left_by}
+use Rattle.g_tape.specs.declared.fault.TapeFault.TheVariants.{ReadFailed, WriteFailed}
+use Rattle.g_tape.specs.Reel.{Reel, empty_reel, read_at, ending, left_by}
 use Rattle.g_tape.specs.Rack.{Rack, reel, with_reel, refuses_read, refuses_write}
 use Rattle.g_tape.specs.Place.{IsPlaceOf}
 use Rattle.g_tape.specs.Leave.{remains_of}
-use Rattle.g_tape.specs.Memory.{Memory, MemoryReads, MemoryWrites}
+use Rattle.g_tape.specs.Memory.{Memory, MemoryReads, MemorySecures, MemoryWrites}
 use Rattle.g_tape.proofs.RackLemmas.{with_reel-place}
 
 -- the reel of the serial is the one that stands at its place
 pub at-place : (s i : ℕ) (reels : List Reel) (was : Reel) → IsPlaceOf s reels i → was ≡ get_or reels i was → reel s reels ≡ Some was
 at-place s i reels was place is = place.there was ∙ ap Some (sym is)
+
+found : (s i : ℕ) (reels : List Reel) → IsPlaceOf s reels i → is_some (reel s reels) ≡ true
+found s i reels place = ap is_some (place.there (empty_reel 0 0))
 
 -- a number that isn't found in the list isn't in it
 pub not-among : (all : List ℕ) (fail : List ℕ) (number : ℕ) → all ≡ fail → ((k : ℕ) (d : ℕ) → 0 ≤ k → k < length all → eqb (get_or all k d) number ≡ false) → Contains fail number → ⊥
@@ -23,9 +26,13 @@ not-among all fail number same none among =
     let (k, within, is) = subst (λ (xs : List ℕ). Contains xs number) (sym same) among in
     eqb-false (get_or all k number) number (none k number (omega arith) within) is
 
+pub among : (all : List ℕ) (named : List ℕ) (number : ℕ) → all ≡ named → (k : ℕ) × (k < length all) × ((d : ℕ) → eqb (get_or all k d) number ≡ true) → Contains named number
+among all named number same (k, within, is) =
+    subst (λ (xs : List ℕ). Contains xs number) same (k, within, eqb-true (get_or all k number) number (is number))
+
 pub reads-done : (s k i : ℕ) (old : Memory) (reads : ℕ) (was now : Reel) (into : List ℕ) → IsPlaceOf s old.rack.reels i → was ≡ get_or old.rack.reels i was → refuses_read k (Some was) ≡ None
     → ForSome was.blocks (λ bs. slice_get bs k ≡ Some into) → now ≡ read_at k was → reads ≡ one_more old.reads → (Contains old.fail reads → ⊥)
-    → MemoryReads s k old (Ok tt) into (record { rack = record { reels = set old.rack.reels i now; read_faults = old.rack.read_faults; write_faults = old.rack.write_faults; fuse = old.rack.fuse; arms = old.rack.arms }; leave = old.leave; fail = old.fail; reads = reads })
+    → MemoryReads s k old (Ok tt) into (record { rack = record { reels = set old.rack.reels i now; read_faults = old.rack.read_faults; write_faults = old.rack.write_faults; fuse = old.rack.fuse; arms = old.rack.arms }; leave = old.leave; fail = old.fail; reads = reads; insecure = old.insecure })
 reads-done s k i old reads was now into place is allowed block value counted good =
     let here = at-place s i old.rack.reels was place is in
     record {
@@ -37,12 +44,12 @@ reads-done s k i old reads was now into place is allowed block value counted goo
       fails = (λ e. absurd (cc), λ (free, named). absurd (good (subst (Contains old.fail) (sym counted) named)));
       others = ap (λ (n : ℕ).
           let rack : Rack = record old.rack { reels = set old.rack.reels i now } in
-          let memory : Memory = record { rack = rack; leave = old.leave; fail = old.fail; reads = n } in memory) counted;
+          let memory : Memory = record { rack = rack; leave = old.leave; fail = old.fail; reads = n; insecure = old.insecure } in memory) counted;
     }
 
 pub writes-done : (s k i : ℕ) (block : List ℕ) (old : Memory) (fuse : Option ℕ) (was now : Reel) → IsPlaceOf s old.rack.reels i → was ≡ get_or old.rack.reels i was → refuses_write k (Some was) ≡ None
     → now ≡ ending k block was → fuse ≡ burnt old.rack.fuse → (old.rack.fuse ≡ Some 1 → ⊥)
-    → MemoryWrites s k block old (Ok tt) (record { rack = record { reels = set old.rack.reels i now; read_faults = old.rack.read_faults; write_faults = old.rack.write_faults; fuse = fuse; arms = old.rack.arms }; leave = old.leave; fail = old.fail; reads = old.reads })
+    → MemoryWrites s k block old (Ok tt) (record { rack = record { reels = set old.rack.reels i now; read_faults = old.rack.read_faults; write_faults = old.rack.write_faults; fuse = fuse; arms = old.rack.arms }; leave = old.leave; fail = old.fail; reads = old.reads; insecure = old.insecure })
 writes-done s k i block old fuse was now place is allowed value burns good =
     let here = at-place s i old.rack.reels was place is in
     record {
@@ -59,7 +66,7 @@ writes-done s k i block old fuse was now place is allowed value burns good =
 
 pub writes-torn : (s k i : ℕ) (block : List ℕ) (old : Memory) (fuse : Option ℕ) (faults : ℕ) (was now : Reel) → IsPlaceOf s old.rack.reels i → was ≡ get_or old.rack.reels i was → refuses_write k (Some was) ≡ None
     → now ≡ left_by (remains_of old.leave block) k was → fuse ≡ burnt old.rack.fuse → faults ≡ one_more old.rack.write_faults → old.rack.fuse ≡ Some 1
-    → MemoryWrites s k block old (Err WriteFailed) (record { rack = record { reels = set old.rack.reels i now; read_faults = old.rack.read_faults; write_faults = faults; fuse = fuse; arms = old.rack.arms }; leave = old.leave; fail = old.fail; reads = old.reads })
+    → MemoryWrites s k block old (Err WriteFailed) (record { rack = record { reels = set old.rack.reels i now; read_faults = old.rack.read_faults; write_faults = faults; fuse = fuse; arms = old.rack.arms }; leave = old.leave; fail = old.fail; reads = old.reads; insecure = old.insecure })
 writes-torn s k i block old fuse faults was now place is allowed value burns more fired =
     let here = at-place s i old.rack.reels was place is in
     let free = ap (refuses_write k) here ∙ allowed in
@@ -79,3 +86,19 @@ writes-torn s k i block old fuse faults was now place is allowed value burns mor
       left = λ e. torn;
       others = refl;
     }
+
+-- SECURING A REEL that is there
+pub secures_done : (s i : ℕ) (old : Memory) → IsPlaceOf s old.rack.reels i → (Contains old.insecure s → ⊥) → MemorySecures s old (Ok tt) old
+secures_done s i old place sound = record {
+  securing = (found s i old.rack.reels place, refl);
+  fails = (λ e. absurd (cc), λ (there, named). absurd (sound named));
+  others = refl;
+}
+
+pub secures_badly : (s i : ℕ) (old : Memory) (faults : ℕ) → IsPlaceOf s old.rack.reels i → Contains old.insecure s → faults ≡ one_more old.rack.read_faults
+    → MemorySecures s old (Err ReadFailed) (record old { rack = record old.rack { read_faults = faults } })
+secures_badly s i old faults place named counted = record {
+  securing = (found s i old.rack.reels place, subst (λ (n : ℕ). Rose old.rack.read_faults n) (sym counted) (record { more = omega arith }), refl);
+  fails = (λ e. (found s i old.rack.reels place, named), λ both. refl);
+  others = refl;
+}

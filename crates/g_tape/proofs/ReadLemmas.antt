@@ -6,11 +6,11 @@ use Rattle.std.proofs.lemmas.Bool.{ne_eqb, cases_eq, cases_lt, ltb-true}
 use Rattle.std.proofs.lemmas.Bool.Decides.{eqb_tells}
 use Rattle.std.proofs.lemmas.List.Elements.{All-contains}
 use Rattle.std.proofs.lemmas.List.{get_or-set_same, get_or-set_other}
-use Rattle.g_base.specs.Counts.{one_more}
+use Rattle.g_base.specs.Counts.{one_more, Rose}
 use Rattle.g_tape.specs.declared.fault.TapeFault.{TapeFault}
 use Rattle.g_tape.specs.declared.fault.TapeFault.TheVariants.{NoTape, NotMounted, End, ReadFailed, WriteFailed}
 use Rattle.g_tape.specs.Reel.{Reel, IsReel, read_at}
-use Rattle.g_tape.specs.Rack.{Rack, AreReels, reel, with_reel, changed, refuses_read, Reading}
+use Rattle.g_tape.specs.Rack.{Rack, AreReels, reel, with_reel, changed, refuses_read, Reading, Securing, SecuringAll}
 use Rattle.g_tape.specs.Reads.{unread, blocks_in, times_in, count_at, blocks_of, OnlyReads, HasRead}
 use Rattle.g_tape.specs.Laws.{ReadsOnlyRead}
 use Rattle.g_tape.proofs.PlaceLemmas.{reel-found}
@@ -141,6 +141,13 @@ more_reads first middle last one two = record {
   times = λ s k. omega (arith, one.times s k, two.times s k);
 }
 
+-- a device that failed to read or to make a reel durable
+reads_failed : (old new : Rack) → Rose old.read_faults new.read_faults → new ≡ record old { read_faults = new.read_faults } → OnlyReads old new
+reads_failed old new rose is =
+    let failed : Rack = record old { read_faults = new.read_faults } in
+    let only : OnlyReads old failed = record { reels = refl; write_faults = refl; fuse = refl; arms = refl; read_faults = omega (arith, rose.more); times = λ t j. omega arith } in
+    subst (OnlyReads old) (sym is) only
+
 -- a read, however it ends
 pub reading_only : (s k : ℕ) (old new : Rack) (result : Result (Unit {0}) TapeFault) (into : List ℕ) → Reading s k old result into new → OnlyReads old new
 reading_only s k old new (Ok u) into (free, block, is) =
@@ -154,10 +161,7 @@ reading_only s k old new (Ok u) into (free, block, is) =
       times = λ t j. times-with_reel s k t j old.reels;
     } in
     subst (OnlyReads old) (sym is) only
-reading_only s k old new (Err ReadFailed) into (free, rose, is) =
-    let failed : Rack = record old { read_faults = new.read_faults } in
-    let only : OnlyReads old failed = record { reels = refl; write_faults = refl; fuse = refl; arms = refl; read_faults = omega (arith, rose.more); times = λ t j. omega arith } in
-    subst (OnlyReads old) (sym is) only
+reading_only s k old new (Err ReadFailed) into (free, rose, is) = reads_failed old new rose is
 reading_only s k old new (Err WriteFailed) into reading = absurd reading
 reading_only s k old new (Err NoTape) into (refused, is) = nothing_else old new is
 reading_only s k old new (Err NotMounted) into (refused, is) = nothing_else old new is
@@ -220,5 +224,22 @@ then_read s k first middle last only has = record {
       omega (arith, has.more us there, only.times s k);
 }
 
+-- MAKING A REEL DURABLE, however it ends
+pub securing_only : (s : ℕ) (old new : Rack) (result : Result (Unit {0}) TapeFault) → Securing s old result new → OnlyReads old new
+securing_only s old new (Ok u) (there, is) = nothing_else old new is
+securing_only s old new (Err ReadFailed) (there, rose, is) = reads_failed old new rose is
+securing_only s old new (Err NoTape) (missing, is) = nothing_else old new is
+securing_only s old new (Err WriteFailed) never = absurd never
+securing_only s old new (Err NotMounted) never = absurd never
+securing_only s old new (Err End) never = absurd never
+
+pub securing_all_only : (old new : Rack) (result : Result (Unit {0}) TapeFault) → SecuringAll old result new → OnlyReads old new
+securing_all_only old new (Ok u) is = nothing_else old new is
+securing_all_only old new (Err ReadFailed) (rose, is) = reads_failed old new rose is
+securing_all_only old new (Err NoTape) never = absurd never
+securing_all_only old new (Err WriteFailed) never = absurd never
+securing_all_only old new (Err NotMounted) never = absurd never
+securing_all_only old new (Err End) never = absurd never
+
 pub reads_only_read : ReadsOnlyRead
-reads_only_read = record { only = reading_only; counted = has_read; blocks = blocks_after_reads }
+reads_only_read = record { only = reading_only; counted = has_read; blocks = blocks_after_reads; secured = securing_only; all_secured = securing_all_only }

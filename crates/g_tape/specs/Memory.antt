@@ -1,5 +1,5 @@
 -- A rack in memory: what it holds besides what every rack is, and just when and how its calls fail.
-use Rattle.std.specs.Prelude.{◌≡◌, ℕ, ◌↔◌, List, [], Contains, map, Some, None, Result, Err}
+use Rattle.std.specs.Prelude.{◌≡◌, ℕ, ◌↔◌, true, List, [], Contains, map, Some, None, is_some, Result, Err}
 use Rattle.g_base.specs.Counts.{one_more}
 use Rattle.g_base.specs.Fuse.{never}
 use Rattle.g_tape.specs.declared.fault.TapeFault.{TapeFault}
@@ -10,20 +10,22 @@ use Rattle.g_tape.specs.declared.memory.MemoryTapes.{MemoryTapes}
 use Rattle.g_tape.specs.Leave.{remains_of}
 use Rattle.std.specs.List.Sorted.{IsPermutation}
 use Rattle.g_tape.specs.Reel.{left_by, empty_reel_of}
-use Rattle.g_tape.specs.Rack.{Rack, reel, with_reel, refuses_read, refuses_write, Reading, Writing}
+use Rattle.g_tape.specs.Rack.{Rack, reel, with_reel, refuses_read, refuses_write, Reading, Writing, Securing}
 
--- a rack, what its failing writes leave, the numbers of the reads that fail, and how many reads were asked for
+-- a rack, what its failing writes leave, the numbers of the reads that fail, how many reads were asked for, and the serials of
+-- the reels that can't be made durable
 pub record Memory : Type 0 where
   pub rack : Rack
   pub leave : TapeLeave
   pub fail : List ℕ
   pub reads : ℕ
+  pub insecure : List ℕ
 
 abbrev pub rack_of : MemoryTapes → Rack
 rack_of m = record { reels = m.reels.items; read_faults = m.read_faults; write_faults = m.write_faults; fuse = m.fuse; arms = m.arms }
 
 abbrev pub memory_of : MemoryTapes → Memory
-memory_of m = record { rack = rack_of m; leave = m.leave; fail = m.fail.items; reads = m.reads }
+memory_of m = record { rack = rack_of m; leave = m.leave; fail = m.fail.items; reads = m.reads; insecure = m.insecure.items }
 
 -- The read fails exactly where it isn't refused and its number, counted from 1 over all reads, is named.
 pub record MemoryReads (s k : ℕ) (old : Memory) (result : Result (Unit {0}) TapeFault) (into : List ℕ) (new : Memory) : Type 0 where
@@ -38,6 +40,12 @@ pub record MemoryWrites (s k : ℕ) (block : List ℕ) (old : Memory) (result : 
   pub left : result ≡ Err WriteFailed → new.rack.reels ≡ with_reel s (left_by (remains_of old.leave block) k) old.rack.reels
   pub others : new ≡ record old { rack = new.rack }
 
+-- Securing a reel that is there fails exactly if its serial is named.
+pub record MemorySecures (s : ℕ) (old : Memory) (result : Result (Unit {0}) TapeFault) (new : Memory) : Type 0 where
+  pub securing : Securing s old.rack result new.rack
+  pub fails : (result ≡ Err ReadFailed) ↔ ((is_some (reel s old.rack.reels) ≡ true) × Contains old.insecure s)
+  pub others : new ≡ record old { rack = new.rack }
+
 -- A rack of empty, unmounted reels of these serials and capacities, on which no call was made and no failure was set.
 pub record IsEmptyRack (labels : List (ℕ × ℕ)) (memory : Memory) : Type 0 where
   pub reels : IsPermutation (map empty_reel_of labels) memory.rack.reels
@@ -48,3 +56,4 @@ pub record IsEmptyRack (labels : List (ℕ × ℕ)) (memory : Memory) : Type 0 w
   pub leave : memory.leave ≡ Old
   pub fail : memory.fail ≡ []
   pub reads : memory.reads ≡ 0
+  pub insecure : memory.insecure ≡ []

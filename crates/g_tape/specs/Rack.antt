@@ -1,5 +1,5 @@
 -- A rack of reels, when its calls refuse, and what they do to it.
-use Rattle.std.specs.Prelude.{◌≡◌, ◌≢◌, ℕ, ◌≤◌, List, [], ◌∷◌, Bool, false, not, ◌||◌, Option, Some, None, Result, Ok, Err, length, map, All, slice_get, nat_lt, ◌==◌, if◌then◌else◌}
+use Rattle.std.specs.Prelude.{◌≡◌, ◌≢◌, ℕ, ◌≤◌, List, [], ◌∷◌, Bool, true, false, not, ◌||◌, Option, Some, None, is_some, Result, Ok, Err, length, map, All, slice_get, nat_lt, ◌==◌, if◌then◌else◌}
 use Rattle.std.specs.Option.{ForSome}
 use Rattle.std.specs.List.Sorted.{IsStrictlyIncreasing}
 use Rattle.g_base.specs.Counts.{Rose}
@@ -93,3 +93,18 @@ Writing s k block old (Err WriteFailed) new =
     × ((how : Remains) × (new ≡ record (changed s (left_by how k) old) { write_faults = new.write_faults; fuse = burnt old.fuse }))
 Writing s k block old (Err ReadFailed) new = ⊥
 Writing s k block old (Err fault) new = (refuses_write k (reel s old.reels) ≡ Some fault) × (new ≡ old)
+
+-- The reel was made durable, and nothing that a caller can observe has changed; or the device failed, which counts as a failed read; or
+-- there is no such reel.
+abbrev pub Securing : ℕ → Rack → Result (Unit {0}) TapeFault → Rack → Type 0
+Securing s old (Ok _) new = (is_some (reel s old.reels) ≡ true) × (new ≡ old)
+Securing s old (Err ReadFailed) new =
+    (is_some (reel s old.reels) ≡ true) × Rose old.read_faults new.read_faults × (new ≡ record old { read_faults = new.read_faults })
+Securing s old (Err NoTape) new = (is_some (reel s old.reels) ≡ false) × (new ≡ old)
+Securing s old (Err fault) new = ⊥
+
+-- the same of every reel of the rack
+abbrev pub SecuringAll : Rack → Result (Unit {0}) TapeFault → Rack → Type 0
+SecuringAll old (Ok _) new = new ≡ old
+SecuringAll old (Err ReadFailed) new = Rose old.read_faults new.read_faults × (new ≡ record old { read_faults = new.read_faults })
+SecuringAll old (Err fault) new = ⊥

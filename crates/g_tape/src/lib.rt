@@ -7,10 +7,12 @@ mod memory;
 mod memory_reel;
 mod place;
 mod reel_state;
+mod securing;
 mod tapes;
 
 pub use fault::TapeFault;
 pub use leave::{TapeLeave, half_of};
 pub use memory::MemoryTapes;
 pub use reel_state::ReelState;
+pub use securing::secure_all;
 pub use tapes::{Tapes, reads_only_read};

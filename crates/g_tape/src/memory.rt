@@ -12,13 +12,14 @@ use crate::tapes::Tapes;
 use g_base::{Armings, Block, Fuse, NoMemory, raised};
 use std::alloc::Global;
 
-/// A rack in memory. Nothing fails but the write at which its fuse is 1 and the reads that are named.
+/// A rack in memory. Nothing fails but the write at which its fuse is 1, the reads that are named, and `secure` of the reels that are named.
 #[derive(Drop)]
 pub struct MemoryTapes {
     reels: Vec<MemoryReel>,
     leave: TapeLeave,
     fail: Vec<u64>,
     reads: u64,
+    insecure: Vec<u32>,
     read_faults: u64,
     write_faults: u64,
     fuse: Fuse,
@@ -46,6 +47,7 @@ impl MemoryTapes {
             leave: TapeLeave::Old,
             fail: Vec::new(alloc),
             reads: 0,
+            insecure: Vec::new(alloc),
             read_faults: 0,
             write_faults: 0,
             fuse: Fuse::new(),
@@ -67,10 +69,17 @@ impl MemoryTapes {
     {
         self.fail = calls;
     }
+
+    /// Names the reels that can't be made durable from now on, by their serials, in place of those named before.
+    pub fn set_insecure(&mut self, serials: Vec<u32>)
+        ensures { memory_of self.new ≡ record (memory_of self.old) { insecure = serials.items } }
+    {
+        self.insecure = serials;
+    }
 }
 
 impl Tapes for MemoryTapes {
-    ghost use Rattle.g_tape.specs.Memory.{rack_of, memory_of, MemoryReads, MemoryWrites};
+    ghost use Rattle.g_tape.specs.Memory.{rack_of, memory_of, MemoryReads, MemorySecures, MemoryWrites};
 
     ghost rack = { rack_of };
 
@@ -161,6 +170,19 @@ impl Tapes for MemoryTapes {
             return Err(TapeFault::WriteFailed);
         }
         self.reels[place].end_with(k, from);
+        Ok(())
+    }
+
+    fn secure(&mut self, serial: u32) -> Result<(), TapeFault>
+        ensures { MemorySecures serial (memory_of self.old) result (memory_of self.new) }
+    {
+        let Some(_place) = place_of(&self.reels, serial) else {
+            return Err(TapeFault::NoTape);
+        };
+        if self.insecure.contains(&serial) {
+            self.read_faults = raised(self.read_faults);
+            return Err(TapeFault::ReadFailed);
+        }
         Ok(())
     }
 

@@ -2,7 +2,7 @@
 ghost use Rattle.std.specs.Prelude.{◌≡◌, ◌<◌, ◌≤◌, Some, true, false, length, map, slice_get};
 ghost use Rattle.g_base.specs.Fuse.{armed_with};
 ghost use Rattle.g_tape.specs.Laws.{ReadsOnlyRead};
-ghost use Rattle.g_tape.specs.Rack.{Rack, AreReels, IsFused, reel, is_mounted, told_of, refuses_mount, refuses_unmount, Mounting, Reading, Writing};
+ghost use Rattle.g_tape.specs.Rack.{Rack, AreReels, IsFused, reel, is_mounted, told_of, refuses_mount, refuses_unmount, Mounting, Reading, Writing, Securing};
 
 use crate::fault::TapeFault;
 use g_base::Block;
@@ -52,6 +52,13 @@ pub trait Tapes {
     fn write(&mut self, serial: u32, k: u32, from: &Block) -> Result<(), TapeFault>
         ensures { Writing serial k from.now (rack self.old) result (rack self.new) };
 
+    /// Makes the reel durable, mounted or not: after `Ok` its completed dumps survive a power loss as they are read, and a power loss
+    /// completes no other dump on it, whatever failed before (docs/FORMATS.md, "Durability"). Reads, writes and mounts see no
+    /// difference, and the fuse doesn't burn. `NoTape`; `ReadFailed` if the device fails: then nothing is known of what a power loss
+    /// leaves of the blocks that were written last.
+    fn secure(&mut self, serial: u32) -> Result<(), TapeFault>
+        ensures { Securing serial (rack self.old) result (rack self.new) };
+
     /// Sets the fuse, so that the k-th next write that isn't refused fails. It replaces a fuse that was
     /// set before; one that has fired is spent.
     fn arm(&mut self, k: u32)
@@ -65,7 +72,8 @@ pub trait Tapes {
 }
 
 /// The laws of reads: a read, however it ends, changes nothing but counts of reads; a good one counts
-/// its block, where that is told; and after any number of them each reel holds what it held.
+/// its block, if the rack's blocks are observable; and after any number of them each reel holds what it held. `secure` is such a read,
+/// or nothing.
 pub fn reads_only_read()
     ensures { ReadsOnlyRead }
 {}

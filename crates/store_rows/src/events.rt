@@ -41,6 +41,8 @@ pub(crate) enum Device {
     Unread,
     /// The same of the tapes.
     UnreadTape,
+    /// The reel of this serial can't be made durable from here on; each can if the number is 0.
+    Insecure,
     /// A dump is opened on the reel.
     Open,
     /// All versions are written onto the reel, and the other reels released.

@@ -14,7 +14,7 @@ static BARE: [(&str, Event<'static>); 7] = [
 ];
 
 /// Those with a number.
-static DEVICES: [(&str, Device); 9] = [
+static DEVICES: [(&str, Device); 10] = [
     ("mount", Device::Mount),
     ("unmount", Device::Unmount),
     ("open", Device::Open),
@@ -24,6 +24,7 @@ static DEVICES: [(&str, Device); 9] = [
     ("stop_tape", Device::StopTape),
     ("unread", Device::Unread),
     ("unread_tape", Device::UnreadTape),
+    ("insecure", Device::Insecure),
 ];
 
 /// The event that these words are.

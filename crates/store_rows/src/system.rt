@@ -54,7 +54,16 @@ impl System {
         match event {
             Event::Format | Event::Start | Event::Restore => self.opened(alloc, event),
             Event::Shut => self.shut(),
-            Event::Device(Device::UnreadTape, call) => self.unread_tape(alloc, *call),
+            Event::Device(Device::UnreadTape, call) => self.turn_tapes(
+                alloc,
+                TapeCall::Read,
+                *call,
+            ),
+            Event::Device(Device::Insecure, number) => self.turn_tapes(
+                alloc,
+                TapeCall::Secure,
+                *number,
+            ),
             _ => match &mut *self.up {
                 Some(store) => {
                     let answer = happens_up(alloc, store, event);
@@ -100,18 +109,18 @@ impl System {
         }
     }
 
-    /// A read of the tapes of a system that is down fails.
-    fn unread_tape(&mut self, alloc: Global, call: u32) -> Outcome {
-        let calls = [u64::from(call)].to_vec(alloc)?;
-        match (*self.down).take() {
-            Some(Devices { disc, tapes }) => {
-                let mut tapes = tapes.into_tapes();
-                tapes.fail_reads(calls);
-                self.lie_on(disc, KnownReels::new(alloc, tapes));
-                Ok(Answer::Done)
-            }
-            None => Err(StoreFault::NotStarted),
+    /// The tapes of a system that is down fail from here on: the read of this number, or whatever makes the reel of this serial durable.
+    fn turn_tapes(&mut self, alloc: Global, fails: TapeCall, number: u32) -> Outcome {
+        let Some(Devices { disc, tapes }) = (*self.down).take() else {
+            return Err(StoreFault::NotStarted);
+        };
+        let mut tapes = tapes.into_tapes();
+        match fails {
+            TapeCall::Read => tapes.fail_reads([u64::from(number)].to_vec(alloc)?),
+            TapeCall::Secure => tapes.set_insecure([number].to_vec(alloc)?),
         }
+        self.lie_on(disc, KnownReels::new(alloc, tapes));
+        Ok(Answer::Done)
     }
 
     /// A store that is spent is down.
@@ -124,6 +133,14 @@ impl System {
             let _down = self.shut();
         }
     }
+}
+
+/// What the tapes fail at.
+enum TapeCall {
+    /// A read, by its number since the rack was made.
+    Read,
+    /// Making a reel durable, by its serial.
+    Secure,
 }
 
 /// A box for a store, made before there is one.

@@ -14,7 +14,7 @@ invariant_of-result c =
     let reels : c.in_ok-empty_reels.field-0.items ≡ map empty_reel_of c.sort_by_key.new.self.items = c.in_ok-empty_reels.ensures ∙ ap (map empty_reel_of) c.deref.ensures.value in
     record {
       well_formed = subst AreReels (sym reels) (AreReels-empty c.args.reels.items c.sort_by_key.new.self.items (omega (arith, c.requires.few, c.args.reels.ok)) c.requires.limits c.requires.apart c.in_ok-sort_by_key.ensures.permutation (omega (arith, c.in_ok-sort_by_key.ensures.len, c.args.reels.ok, c.sort_by_key.new.self.ok)) sorted);
-      fused = unfailed_never 0 c.new-3.result c.new-2.result c.new-3.ensures c.new-2.ensures;
+      fused = unfailed_never 0 c.new-4.result c.new-3.result c.new-4.ensures c.new-3.ensures;
     }
 
 pub returns : goal.returns
@@ -24,9 +24,10 @@ returns c =
       reels = subst (IsPermutation (map empty_reel_of c.args.reels.items)) (sym reels) (IsPermutation-map empty_reel_of _ _ c.in_ok-sort_by_key.ensures.permutation);
       read_faults = refl;
       write_faults = refl;
-      fuse = c.new-2.ensures;
-      arms = c.new-3.ensures;
+      fuse = c.new-3.ensures;
+      arms = c.new-4.ensures;
       leave = refl;
       fail = c.new.ensures.items;
       reads = refl;
+      insecure = c.new-2.ensures.items;
     }

@@ -1,5 +1,5 @@
 -- The reel that was found is written, or torn, where it stands.
-use Rattle.std.proofs.Common.{◌≡◌, List, Some, None, true, subst, sym, ap, ◌∙◌}
+use Rattle.std.proofs.Common.{◌≡◌, List, Some, true, subst, ap, ◌∙◌}
 use Rattle.g_base.proofs.FuseLemmas.{fused_failed, fused_well}
 use Rattle.g_tape.specs.Reel.{Reel}
 use Rattle.g_tape.specs.Rack.{refuses_write}

@@ -1,0 +1,17 @@
+//! Every reel of a rack is made durable.
+ghost use Rattle.g_tape.specs.Rack.{SecuringAll};
+
+use crate::fault::TapeFault;
+use crate::tapes::Tapes;
+
+/// Makes every reel of the rack durable, as `Tapes::secure` does, in rising serial and whether mounted or not. `ReadFailed` at the
+/// first reel whose device fails; the reels before it are durable then.
+pub fn secure_all<T: Tapes>(tapes: &mut T) -> Result<(), TapeFault>
+    ensures { SecuringAll (T.rack tapes.old) result (T.rack tapes.new) }
+{
+    for i in 0..tapes.reels() {
+        let serial = tapes.serial(i);
+        tapes.secure(serial)?;
+    }
+    Ok(())
+}
