@@ -56,7 +56,9 @@ class Case:
     def goes_wrong(self, how, lines, is_call):
         """Runs a process with a fault at the first call for which this holds. Its later calls wait."""
         calls = self.calls(lines)
-        at = next(i for i in range(len(calls)) if is_call(calls, i))
+        at = next((i for i in range(len(calls)) if is_call(calls, i)), None)
+        if at is None:
+            raise LookupError("no such call")
         records = self.story.recorded(lines, f"{how} {at + 1}")
         self.story.apply(records[: at + 1])
         self.waiting = records[at + 1 :]
@@ -118,10 +120,12 @@ def cases(hard):
     gate = is_after(is_call("W", IMAGE, 1), is_call("W", IMAGE, 0))
     after_gate = is_after(gate, is_call("S", IMAGE))
 
-    def adopted(how, racks):
+    def adopted(how, racks, serial=1):
         """START adopts a dump only if its mark outlives a power loss."""
+        reel = f"{hard.RACK}/{serial}.tape"
         with Case(hard, FORMAT, racks) as case:
-            case.goes_wrong(how, DUMP + AGAIN, after_mark)
+            after = is_after(is_call("W", reel, None, MARK), is_call("S", reel))
+            case.goes_wrong(how, START + script([f"0 DUMP {serial}"]) + AGAIN, after)
             return (case.runs(START + AGAIN) if how == "kill" else case).lost()
 
     def restored():
@@ -219,8 +223,18 @@ def cases(hard):
                 return None if status == 0 else (status, text, errors)
             return None if b"george: tape 1: the second reel is lost\n" in errors else f"the twins differ, and standard error has {errors}"
 
+    def unsecured():
+        """START can't make a second twin durable: the run reports it as lost."""
+        with Case(hard, DUMPED, 2) as case:
+            case.goes_wrong("full", START + script(put(0, "P")), lambda calls, i: calls[i][1] == TWIN and calls[i][0] in "WS")
+            status, text, errors = case.story.ended
+            good = status == 0 and b"0 STARTED\n" in text and b"george: tape 1: the second reel is lost\n" in errors
+            return None if good else (status, text, errors)
+
     return {
         "a dump killed after its mark was written": lambda: adopted("kill", 1),
+        "a dump killed after its mark was written, on the last reel": lambda: adopted("kill", 1, 3),
+        "a second twin that can't be made durable": unsecured,
         "a dump whose mark's sync failed": lambda: adopted("fail", 1),
         "a dump whose mark's sync failed, over two racks": lambda: adopted("fail", 2),
         "a dump whose second twin has no mark": without_mark,
@@ -256,7 +270,10 @@ def tests(hard, only=None):
             return
         for name, case in [*cases(hard).items()][first::4]:
             if only in (None, name):
-                wrong = case()
+                try:
+                    wrong = case()
+                except LookupError as fault:
+                    wrong = fault
                 hard.check(name, wrong is None, wrong)
 
     return tuple(lambda first=first: part(first) for first in range(4))
