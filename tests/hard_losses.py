@@ -299,7 +299,7 @@ class Aftermath:
         dumps = dumps_in(self.hard, files, bytes)
         if dumps not in self.promise.reels:
             return f"the reels have {dumps} and not {self.promise.reels}"
-        racks = [{os.path.basename(it): files[it] for it in files if it.startswith(f"{rack}/")} for rack in (self.hard.RACK, SECOND)]
+        racks = [{os.path.basename(it): files[it] for it in files if re.fullmatch(rf"{rack}/\d+\.tape", it)} for rack in (self.hard.RACK, SECOND)]
         return "the twins differ" if self.has_twins and racks[0] != racks[1] else None
 
     def fault_in_restored(self, text):
