@@ -37,12 +37,21 @@ pub(crate) fn claim(file: &File, access: Access) -> io::Result<()> {
 pub(crate) fn claim_folder(folder: &File, access: Access) -> io::Result<()> {
     claim(folder, access)?;
     if access == Access::Run {
-        folder.sync_all()?;
+        return sync_names(folder);
     }
     Ok(())
 }
 
 /// Makes the names of this folder durable, after a file of it was made or renamed.
 pub(crate) fn sync_folder(rt: &HostRuntime, folder: &str) -> io::Result<()> {
-    File::open(rt, folder)?.sync_all()
+    sync_names(&File::open(rt, folder)?)
+}
+
+/// Makes the names of an open folder durable. A file system that can't do that says that the call is invalid; `Other` then, since
+/// `InvalidInput` is for what is no plain file.
+fn sync_names(folder: &File) -> io::Result<()> {
+    match folder.sync_all() {
+        Err(fault) if fault.kind() == ErrorKind::InvalidInput => Err(Error::from(ErrorKind::Other)),
+        synced => synced,
+    }
 }

@@ -36,8 +36,6 @@ enum Left {
 pub(crate) struct FileReel {
     file: File,
     state: ReelState,
-    /// Whether the file is known to end where the state does.
-    ends_there: bool,
     reach: Reach,
     /// How many blocks, from block 0 on, `secure` needn't rewrite. They are durable; or an earlier run left them before the last
     /// block, and it made them durable before it wrote that one, unless that one completes no dump.
@@ -63,7 +61,6 @@ impl FileReel {
         FileReel {
             file,
             state: ReelState::new(serial, capacity, len),
-            ends_there: true,
             reach: Reach::Unknown,
             durable: len.saturating_sub(1),
         }
@@ -178,11 +175,13 @@ impl FileReel {
     fn cut(&mut self, k: u32) -> Result<(), Left>
         ensures { self.new ≡ self.old }
     {
-        self.ends_there = false;
+        // What an earlier run left before block k may not be durable.
+        if k > 0 && self.reach == Reach::Unknown && self.secure().is_err() {
+            return Err(Left::Unchanged);
+        }
         if self.file.set_len(start_of(k)).is_err() {
             return Err(Left::Unchanged);
         }
-        self.ends_there = true;
         self.durable = self.durable.min(k);
         self.reach = Reach::Behind;
         if self.bring(k).is_err() {
@@ -213,11 +212,9 @@ impl FileReel {
         if self.put(k, bytes).is_ok() {
             return Ok(());
         }
-        self.ends_there = false;
         if self.file.set_len(start_of(k)).is_err() {
             return Err(Left::Torn);
         }
-        self.ends_there = true;
         Err(Left::Shortened)
     }
 
@@ -258,9 +255,10 @@ impl FileReel {
         Ok(())
     }
 
-    /// Makes the reel durable as it is read. This needs no call of the system if this run knows that it is. A block that a failed
-    /// sync may have dropped is rewritten with the bytes that are read there, since no sync alone brings it to the device: of the
-    /// blocks that an earlier run left that is the last one, since it made the others durable before it wrote a mark there.
+    /// Makes the reel durable as it is counted and read. This needs no call of the system if this run knows that it is. What a failed
+    /// sync may have dropped no sync brings to the device by itself. So the file is cut again where the reel ends, and each block that
+    /// may be missing there is rewritten with the bytes that are read: of the blocks that an earlier run left that is the last one,
+    /// since it made the others durable before it wrote a mark there.
     pub fn secure(&mut self) -> io::Result<()>
         ensures { self.new ≡ self.old }
     {
@@ -268,11 +266,8 @@ impl FileReel {
             return Ok(());
         }
         let len = self.state.len();
-        if !self.ends_there {
-            self.file.set_len(start_of(len))?;
-            self.ends_there = true;
-        }
         if self.reach != Reach::Behind {
+            self.file.set_len(start_of(len))?;
             rewrite(&self.file, self.durable, len)?;
         }
         self.reach = Reach::Failed;

@@ -117,40 +117,63 @@ fn open_twins(
     ensures second { IfOk result (λ twins. IsReel twins.1) }
 {
     if !has_reel(rt, first, serial)? {
-        let other = open_twin(rt, second, serial, Twin::Second)?;
-        let reel = open_again(rt, first, serial)?;
+        let other = open_twin(rt, second, serial, Twin::Second, false)?;
+        let reel = open_first_again(rt, first, serial)?;
         return Ok((reel, other, Some(Twin::First)));
     }
+    let has_other = holds_blocks(rt, second, serial)?;
+    let reel = open_twin(rt, first, serial, Twin::First, has_other)?;
     sync_target(rt, first, serial)?;
-    let reel = open_twin(rt, first, serial, Twin::First)?;
+    let has_other = reel.state().len() > 0;
     if !has_reel(rt, second, serial)? {
         make_reel(rt, second, serial)?;
-        let other = open_twin(rt, second, serial, Twin::Second)?;
+        let other = open_twin(rt, second, serial, Twin::Second, has_other)?;
         return Ok((reel, other, Some(Twin::Second)));
     }
-    let other = open_twin(rt, second, serial, Twin::Second)?;
+    let other = open_twin(rt, second, serial, Twin::Second, has_other)?;
     if hold_same(rt, &reel, &other)? {
         return Ok((reel, other, None));
     }
     if reel.state().len() == 0 {
-        let again = open_again(rt, first, serial)?;
+        let again = open_first_again(rt, first, serial)?;
         return Ok((again, other, Some(Twin::First)));
     }
     Ok((reel, other, Some(Twin::Second)))
 }
 
-/// Opens the reel of a serial in one of the folders, or names it in the fault.
+/// Opens the reel of a serial in one of the folders, or names it in the fault, which says whether the other one has blocks.
 fn open_twin(
     rt: &HostRuntime,
     folder: &str,
     serial: Serial,
     twin: Twin,
+    has_other: bool,
 ) -> Result<FileReel, PairFault>
     ensures { IfOk result IsReel }
 {
     match open_reel(rt, folder, serial, Access::Run) {
         Ok(reel) => Ok(reel),
-        Err(error) => Err(PairFault::in_reel(serial.number, twin, error)),
+        Err(error) => Err(PairFault::in_reel(serial.number, twin, has_other, error)),
+    }
+}
+
+/// Opens the file in which the first folder's reel is rebuilt, or names that in the fault.
+fn open_first_again(rt: &HostRuntime, first: &str, serial: Serial) -> Result<FileReel, PairFault>
+    ensures { IfOk result IsReel }
+{
+    match open_again(rt, first, serial) {
+        Ok(reel) => Ok(reel),
+        Err(error) => Err(PairFault::not_rebuilt(serial.number, Twin::First, error)),
+    }
+}
+
+/// Whether there is a reel of this serial in the folder, or what a link of its name leads to, and it isn't empty.
+fn holds_blocks(rt: &HostRuntime, folder: &str, serial: Serial) -> io::Result<bool> {
+    let number = serial.number;
+    let path = format!(in rt.alloc(); "{folder}/{number}.tape")?;
+    match fs::metadata(rt, path.as_str()) {
+        Ok(about) => Ok(about.len() > 0),
+        Err(_) => Ok(false),
     }
 }
 
@@ -171,9 +194,17 @@ fn make_reel(rt: &HostRuntime, folder: &str, serial: Serial) -> io::Result<()> {
 
 /// If the first folder's reel is a link, makes the name durable of the file that it leads to: an earlier run may have been killed
 /// after it rebuilt that.
-fn sync_target(rt: &HostRuntime, first: &str, serial: Serial) -> io::Result<()> {
+fn sync_target(rt: &HostRuntime, first: &str, serial: Serial) -> Result<(), PairFault> {
+    match sync_linked(rt, first, serial) {
+        Ok(()) => Ok(()),
+        Err(error) => Err(PairFault::in_reel(serial.number, Twin::First, false, error)),
+    }
+}
+
+/// Syncs the folder of the file that the reel's name leads to as a link, if it is one.
+fn sync_linked(rt: &HostRuntime, folder: &str, serial: Serial) -> io::Result<()> {
     let number = serial.number;
-    let path = format!(in rt.alloc(); "{first}/{number}.tape")?;
+    let path = format!(in rt.alloc(); "{folder}/{number}.tape")?;
     if is_link(rt, path.as_str())? {
         sync_folder_of(rt, target_of(rt, path.as_str())?.as_str())?;
     }
@@ -207,10 +238,10 @@ fn hold_same(rt: &HostRuntime, reel: &FileReel, other: &FileReel) -> Result<bool
         let mut block = [0; 512];
         let mut beside = [0; 512];
         if let Err(error) = reel.read(&mut ahead, k, &mut block) {
-            return Err(PairFault::in_reel(serial, Twin::First, error));
+            return Err(PairFault::in_reel(serial, Twin::First, true, error));
         }
         if let Err(error) = other.read(&mut ahead_beside, k, &mut beside) {
-            return Err(PairFault::in_reel(serial, Twin::Second, error));
+            return Err(PairFault::in_reel(serial, Twin::Second, true, error));
         }
         if block != beside {
             return Ok(false);
@@ -239,7 +270,7 @@ fn rebuild(
         Twin::Second => finish_second(rt, second, serial),
     };
     if let Err(error) = finished {
-        return Err(PairFault::NotRebuilt(serial, twin, error));
+        return Err(PairFault::not_rebuilt(serial, twin, error));
     }
     let _unmounted = pair.unmount(serial);
     Ok(())
@@ -249,8 +280,8 @@ fn rebuild(
 fn fault_of(serial: u32, twin: Twin, fault: DuplexFault) -> PairFault {
     let error = Error::from(ErrorKind::Other);
     match (fault, twin) {
-        (DuplexFault::ReadFailed, Twin::First) => PairFault::Reel(serial, Twin::Second, error),
-        (DuplexFault::ReadFailed, Twin::Second) => PairFault::Reel(serial, Twin::First, error),
+        (DuplexFault::ReadFailed, Twin::First) => PairFault::OnlyReel(serial, Twin::Second, error),
+        (DuplexFault::ReadFailed, Twin::Second) => PairFault::OnlyReel(serial, Twin::First, error),
         _ => PairFault::NotRebuilt(serial, twin, error),
     }
 }

@@ -31,11 +31,20 @@ pub(crate) fn tell_unusable(rt: &HostRuntime, fault: &PairFault) {
     match fault {
         PairFault::Racks(_) => {}
         PairFault::Reel(serial, twin, _) => tell_broken(rt, *serial, *twin),
+        PairFault::OnlyReel(serial, twin, _) => tell_only(rt, *serial, *twin),
         PairFault::NotRebuilt(serial, twin, _) => tell_not_rebuilt(rt, *serial, *twin),
     }
 }
 
-/// Reports which reel can't be opened or read.
+/// Reports which reel can't be opened or read, and that the other one can't replace it.
+fn tell_only(rt: &HostRuntime, serial: u32, twin: Twin) {
+    let (folder, name, other) = places_of(twin);
+    let _told = eprintln!(rt;
+        "george: tape {serial}: the cause is the {name} reel, {folder}/{serial}.tape; the {other} is missing, empty or not whole, so keep this file"
+    );
+}
+
+/// Reports which reel can't be opened or read, whose other one may be whole.
 fn tell_broken(rt: &HostRuntime, serial: u32, twin: Twin) {
     let (folder, name, other) = places_of(twin);
     let _told = eprintln!(rt;

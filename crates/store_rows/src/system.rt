@@ -136,6 +136,7 @@ impl System {
 }
 
 /// What the tapes fail at.
+#[derive(Drop)]
 enum TapeCall {
     /// A read, by its number since the rack was made.
     Read,

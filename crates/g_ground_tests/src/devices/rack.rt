@@ -83,6 +83,31 @@ fn reels_are_read_as_they_were_written_last(rt: HostRuntime) {
     fs::remove_dir_all(&rt, folder).expect(&rt, "a folder");
 }
 
+/// A reel that is secured holds what it held, mounted or not, in the run that wrote it and in the next one.
+#[test]
+fn secured_reels_hold_what_they_held(rt: HostRuntime) {
+    let (folder, reel) = ("g_devices_secured.tapes", "g_devices_secured.tapes/2.tape");
+    let mut tapes = open_rack(&rt, folder).expect(&rt, "a rack");
+    assert!(rt; tapes.secure(8) == Err(TapeFault::NoTape));
+    assert!(rt; tapes.secure(2) == Ok(()) && tapes.length(2) == Ok(0));
+    tapes.mount(2).expect(&rt, "a reel");
+    for k in 0..4 {
+        assert!(rt; tapes.write(2, k, &[k as u8 + 1; 512]) == Ok(()));
+    }
+    assert!(rt; tapes.secure(2) == Ok(()) && tapes.length(2) == Ok(4));
+    assert!(rt; tapes.write(2, 2, &mark()) == Ok(()));
+    assert!(rt; tapes.secure(2) == Ok(()) && tapes.mounted(2));
+    let mut held = [1; 1_536];
+    held[512..1_024].copy_from_slice(&[2; 512]);
+    held[1_024..].copy_from_slice(&mark());
+    assert!(rt; fs::read(&rt, reel).expect(&rt, "a file").as_slice() == held.as_slice());
+    drop(tapes);
+    let mut tapes = open_rack(&rt, folder).expect(&rt, "a rack");
+    assert!(rt; tapes.secure(2) == Ok(()) && tapes.length(2) == Ok(3) && !tapes.mounted(2));
+    assert!(rt; fs::read(&rt, reel).expect(&rt, "a file").as_slice() == held.as_slice());
+    fs::remove_dir_all(&rt, folder).expect(&rt, "a folder");
+}
+
 #[test]
 fn a_rack_is_one_runs_alone(rt: HostRuntime) {
     let (folder, unready) = ("g_devices_taken.tapes", "g_devices_taken.tapes.new");

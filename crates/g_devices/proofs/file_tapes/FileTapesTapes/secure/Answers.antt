@@ -1,8 +1,7 @@
 -- The reel that was found is durable, or its device failed; the rack holds what it held.
-use Rattle.std.proofs.Common.{List, subst, ap}
-use Rattle.g_tape.specs.Reel.{IsReel, Reel}
+use Rattle.std.proofs.Common.{List, subst}
+use Rattle.g_tape.specs.Reel.{Reel}
 use Rattle.g_tape.specs.Place.{IsPlaceOf}
-use Rattle.g_tape.proofs.RackLemmas.{AreReels-set}
 use Rattle.g_devices.proofs.FileRack.{rack_of, secure_done, secure_failed}
 use Rattle.g_devices.proofs.file_tapes.FileTapesTapes.secure.Goals as goal
 
