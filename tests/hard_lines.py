@@ -8,8 +8,6 @@ read, started, and restored in a copy. It is killed while two terminals type bes
 cut off by a file system that is full, at each write, and made over two racks. Its writes and syncs on disc and reels are looked at in
 their order.
 """
-import importlib.machinery
-import importlib.util
 import os
 import random
 import shutil
@@ -306,10 +304,6 @@ def tests(hard):
 
 if __name__ == "__main__":
     sys.dont_write_bytecode = True
-    beside = os.path.join(os.path.dirname(os.path.realpath(__file__)), "hard")
-    loader = importlib.machinery.SourceFileLoader("hard", beside)
-    hard = importlib.util.module_from_spec(importlib.util.spec_from_loader("hard", loader))
-    sys.modules["hard"] = hard
-    loader.exec_module(hard)
-    hard.TESTS = tests(hard)
-    sys.exit(hard.main())
+    import hard_losses
+
+    hard_losses.run_alone(tests)

@@ -9,8 +9,6 @@ locks are taken in both orders; the second folder is of every wrong kind, and is
 """
 import contextlib
 import fcntl
-import importlib.machinery
-import importlib.util
 import os
 import platform
 import random
@@ -405,15 +403,44 @@ def tests(hard):
             return
         leave_out("a full second device", "no mount is allowed here")
 
-    return (two_racks, damaged, broken, links, kinds, locks, torn, full_second, failing_calls, kills_in_runs, kills_in_rebuilding)
+    def begun_again():
+        """To begin again over two racks both are moved away, or both are emptied; the manual says so."""
+        script, refused = b"0 FORMAT\n", b"0 REFUSED 34 RACK NOT EMPTY 1\n"
+        with with_pair() as (whole, _):
+            with copy_of(whole) as folder:
+                shutil.rmtree(folder.at(RACK))
+                status, text, told = folder.run(script)
+                check("FORMAT with one rack moved away", (status, text) == (0, refused) and told == rebuilt((1, "first")), (text, told))
+            with copy_of(whole) as folder:
+                for rack in (RACK, SECOND):
+                    shutil.rmtree(folder.at(rack))
+                check_told("FORMAT with both racks moved away", folder.run(script), 0, b"0 FORMATTED\n", b"")
+            with copy_of(whole) as folder:
+                for rack in (RACK, SECOND):
+                    os.truncate(folder.at(f"{rack}/1.tape"), 0)
+                check_told("FORMAT with both racks emptied", folder.run(script), 0, b"0 FORMATTED\n", b"")
+        with open(f"{hard.TOP}/docs/MANUAL.md", encoding="ascii") as it:
+            said = [line for line in it if "`george.tapes` away" in line]
+        check("the manual says how to begin again", len(said) > 1, said)
+        check("and names both racks there", all(SECOND in it or "both" in it for it in said), said)
+
+    def unreadable():
+        """A twin that can't be read ends a start with 7, and standard error names its folder and reel."""
+        if not hard.hard_losses.can_record(hard, "a twin that can't be read", True):
+            return
+        for rack in (RACK, SECOND):
+            with with_pair() as (folder, _):
+                before = racks_of(folder)
+                status, text, told = folder.run(START, env={"LD_PRELOAD": hard.RECORDER, "BAD_READ": f"{rack}/1.tape"})
+                check(f"a broken reel of {rack}", (status, text) == (7, b"") and f"{rack}/1.tape".encode() in told, (status, text, told))
+                check(f"a broken reel of {rack} leaves both racks", racks_of(folder) == before)
+
+    more = (begun_again, unreadable)
+    return (two_racks, damaged, broken, links, kinds, locks, torn, full_second, failing_calls, kills_in_runs, kills_in_rebuilding, *more)
 
 
 if __name__ == "__main__":
     sys.dont_write_bytecode = True
-    beside = os.path.join(os.path.dirname(os.path.realpath(__file__)), "hard")
-    loader = importlib.machinery.SourceFileLoader("hard", beside)
-    hard = importlib.util.module_from_spec(importlib.util.spec_from_loader("hard", loader))
-    sys.modules["hard"] = hard
-    loader.exec_module(hard)
-    hard.TESTS = tests(hard)
-    sys.exit(hard.main())
+    import hard_losses
+
+    hard_losses.run_alone(tests)

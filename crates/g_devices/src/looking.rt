@@ -1,23 +1,26 @@
 //! Image and rack opened to be looked at: nothing is made, and nothing can be written.
 ghost use Rattle.std.specs.Prelude.{◌<◌, ◌≤◌, IfOk};
+ghost use Rattle.g_files.specs.FileDisc.{disc_size};
 
-use crate::file_disc::{FileDisc, look_at_image};
 use crate::file_tapes::FileTapes;
+use crate::host::HostFile;
+use crate::image::look_at_image;
 use crate::names::FileId;
 use crate::rack::look_at_rack;
+use g_files::FileDisc;
 use std::io::{self, Error, ErrorKind};
 
 /// Opens image and rack to be read, and locks them shared: other looks may go at once, and no run. No reel is mounted.
 ///
 /// The error is `NotFound` where either isn't there, `WouldBlock` where a run has one of their files, or where two of them
 /// are one file; else it is as `open_image`'s and `open_rack`'s.
-pub fn look_at(rt: &HostRuntime, path: &str, folder: &str) -> io::Result<(FileDisc, FileTapes)>
-    ensures { IfOk result (λ devices. (2177 < devices.0.size) × (devices.0.size ≤ 1048576)) }
+pub fn look_at(rt: &HostRuntime, path: &str, folder: &str) -> io::Result<(FileDisc<HostFile>, FileTapes)>
+    ensures { IfOk result (λ devices. (2177 < disc_size devices.0) × (disc_size devices.0 ≤ 1048576)) }
 {
-    let disc = look_at_image(rt, path)?;
+    let (disc, id) = look_at_image(rt, path)?;
     let tapes = look_at_rack(rt, folder)?;
     let reels = tapes.ids(rt.alloc())?;
-    if reels.contains(&disc.id()?) || !are_apart(&reels) {
+    if reels.contains(&id) || !are_apart(&reels) {
         return Err(Error::from(ErrorKind::WouldBlock));
     }
     Ok((disc, tapes))

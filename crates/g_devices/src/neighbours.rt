@@ -1,5 +1,5 @@
-//! Neighbouring blocks of a file in memory, which one call reads or writes.
-ghost use Rattle.std.specs.Prelude.{◌≡◌, ◌<◌, ◌≤◌, length};
+//! Neighbouring blocks of a file in memory, which one call reads.
+ghost use Rattle.std.specs.Prelude.{◌≡◌, ◌≤◌, length};
 
 use crate::blocks::start_of;
 use g_base::Block;
@@ -40,43 +40,6 @@ impl Neighbours {
         true
     }
 
-    /// Whether there is none.
-    pub fn is_empty(&self) -> bool {
-        self.count == 0
-    }
-
-    /// Whether block k is the one behind the others; where there is none, the one that they were to begin with.
-    pub fn is_next(&self, k: u32) -> bool {
-        k >= self.first && k - self.first == self.count
-    }
-
-    /// Whether they are 64.
-    pub fn is_full(&self) -> bool {
-        self.count >= MOST
-    }
-
-    /// Drops them all. The next ones begin with block k.
-    pub fn begin(&mut self, k: u32) {
-        self.first = k;
-        self.count = 0;
-    }
-
-    /// Puts a block behind the others, where they aren't 64.
-    pub fn push(&mut self, block: &Block) {
-        if self.count < MOST {
-            put_block(&mut self.bytes, self.count, block);
-            self.count += 1;
-        }
-    }
-
-    /// Writes them to their places in the file.
-    pub fn write(&self, file: &File) -> io::Result<()> {
-        file.write_all_at(
-            &self.bytes[..512 * self.count as usize],
-            start_of(self.first),
-        )
-    }
-
     /// Drops block k and those behind it.
     pub fn cut(&mut self, k: u32) {
         let before = k.saturating_sub(self.first);
@@ -90,16 +53,6 @@ impl Neighbours {
         self.first = k;
         self.count = read_blocks(file, &mut self.bytes, wanted, k);
     }
-}
-
-/// Puts a block at its place among these bytes.
-fn put_block(bytes: &mut [u8], place: u32, block: &Block)
-    requires room { length bytes.old ≡ 32768 }
-    requires place { place < 64 }
-    ensures room { length bytes.new ≡ 32768 }
-{
-    let at = 512 * place as usize;
-    bytes[at..at + 512].copy_from_slice(block);
 }
 
 /// Reads so many blocks from k on to the front of these bytes: how many whole ones one read gives, and none where it fails.

@@ -4,6 +4,7 @@ mod rack;
 mod streams;
 
 use g_devices::{open_image, open_rack, texts_of, words_of};
+use g_disc::Disc;
 use g_tape::Tapes;
 use std::fs::{self, File};
 use std::io;
@@ -25,7 +26,7 @@ fn ample(rt: HostRuntime) {
     let texts = texts_of(rt.alloc(), &words).expect(&rt, "texts");
     assert!(rt; texts.len() == words.len());
     let image = open_image(&rt, "g_devices_ample.disc").expect(&rt, "an image");
-    assert!(rt; image.size == 4_096);
+    assert!(rt; image.size() == 4_096);
     let rack = open_rack(&rt, "g_devices_ample.tapes").expect(&rt, "a rack");
     assert!(rt; rack.reels() == 2);
     fs::remove_file(&rt, "g_devices_ample.disc").expect(&rt, "a file");

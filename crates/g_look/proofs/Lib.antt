@@ -11,6 +11,7 @@ pub mod LoopLemmas
 pub mod LostLemmas
 pub mod NamedLemmas
 pub mod NumberLemmas
+pub mod PairLemmas
 pub mod PushLemmas
 pub mod RackLemmas
 pub mod ReadLemmas

@@ -1,6 +1,8 @@
 -- The rules of the rack, of dumps that are in memory, and of the dumps themselves.
-use Rattle.std.proofs.Common.{◌≡◌, ◌⊎◌, inl, inr, ℕ, ◌≤◌, List, [], Result, Err, sym, ◌∙◌, ap, arith, subst, All}
-use Rattle.std.specs.Prelude.{Contains}
+use Rattle.std.proofs.Common.{◌≡◌, ◌⊎◌, inl, inr, ℕ, ◌<◌, ◌≤◌, List, [], length, map, Result, Err, sym, ◌∙◌, ap, arith, subst, All}
+use Rattle.std.specs.Prelude.{Contains, IsPermutation}
+use Rattle.std.proofs.lemmas.List.{get_or-map, length-map}
+use Rattle.std.proofs.lemmas.List.Sorted.{Contains-permutation, IsPermutation-sym}
 use Rattle.g_entry.specs.declared.file_rec.FileRec.{FileRec}
 use Rattle.g_name.specs.declared.full.Full.{Full}
 use Rattle.g_tape.specs.Reel.{Reel}
@@ -14,14 +16,15 @@ use Rattle.g_restore.specs.declared.dumps.Found.{Found}
 use Rattle.g_restore.specs.KnownDumps.{AreKnown, Known, known, known_of}
 use Rattle.g_restore.specs.Losses.{AreApart, HasPlace, IsFirstLost, IsLostDirectory, NamesLost}
 use Rattle.g_restore.specs.Steps.{IsFolded}
-use Rattle.g_restore.proofs.KnownLemmas.{known_at, no_dumps, place_of}
+use Rattle.g_restore.proofs.KnownLemmas.{at_place, known_at, no_dumps, place_of}
 use Rattle.g_look.specs.declared.broken.Broken.{Broken}
 use Rattle.g_look.specs.declared.broken.Broken.TheVariants.{Twice, Falls, LostDirectory, LostCopy}
 use Rattle.g_look.specs.declared.broken.DumpAt.{DumpAt}
 use Rattle.g_look.specs.Rules.{BreaksRack, IsDumpAt, at_of, rule_of}
-use Rattle.g_look.specs.SeenDumps.{HasNoLower, HasNoTwin, IsFalling, IsFirstOfRack, IsRackPassed, IsSeen, IsTwice, at_found}
+use Rattle.g_look.specs.SeenDumps.{HaveNoTwins, IsFalling, IsFirstOfRack, IsRackPassed, IsSeen, IsTwice, NoneFalls, SamePlace, at_found}
 use Rattle.g_look.proofs.FitLemmas.{same_files}
 use Rattle.g_look.proofs.LostLemmas.{not_both}
+use Rattle.g_look.proofs.PairLemmas.{le_cases}
 
 -- what is in memory of a dump tells its place
 at_known : Known → DumpAt
@@ -56,66 +59,90 @@ module _ (found : List Found) (dumps : List Dump) (are : AreKnown found dumps) w
   pub is_at : (f : Found) (a : DumpAt) (has : HasDump f) → at_found f ≡ a → IsDumpAt dumps a has.dump
   is_at f a has told = record { there = has.there; told = told_at f has.dump has.same ∙ told }
 
-  -- RULE 1
-  breaks_twice : (b : Broken) → IsTwice found b → BreaksRack dumps b
-  breaks_twice (Twice a b) (f, in_f, told, other) =
-      let d = dump_of f in_f in
-      let e = dump_of other.one other.there in
-      let number_d : f.dir.note.number ≡ d.dump.number = ap (λ (k : Known). k.note.number) d.same in
-      let number_e : other.one.dir.note.number ≡ e.dump.number = ap (λ (k : Known). k.note.number) e.same in (
-        d.dump,
-        e.dump,
-        is_at f a d told,
-        is_at other.one b e other.told,
-        sym number_d ∙ sym other.holds.0 ∙ number_e,
-        λ same. other.holds.1 (record {
-          serial = ap (λ (k : Known). k.serial) (e.same ∙ ap known_of (sym same) ∙ sym d.same);
-          place = ap (λ (k : Known). k.note.place) (e.same ∙ ap known_of (sym same) ∙ sym d.same);
-        }),
-      )
-  breaks_twice other is = absurd is
+  -- OF THOSE THAT ARE PRINTED, in any order
+  module _ (ats : List DumpAt) (moved : IsPermutation (map at_found found) ats) where
+    pub found_at : (a : DumpAt) → Contains ats a → (f : Found) × Contains found f × (at_found f ≡ a)
+    found_at a in_a =
+        let (k, within, here) = Contains-permutation ats (map at_found found) a (IsPermutation-sym (map at_found found) ats moved) in_a in
+        let long = length-map found at_found in
+        let inside : k < length found = omega (arith, within, long) in
+        let (f, at_f) = at_place found k inside in (
+          f,
+          (k, inside, at_f),
+          ap at_found (sym at_f) ∙ sym (get_or-map at_found found k f a inside) ∙ here,
+        )
 
-  -- RULE 2
-  breaks_falling : (b : Broken) → IsFalling found b → BreaksRack dumps b
-  breaks_falling (Falls a b) (f, in_f, told, other) =
-      let d = dump_of f in_f in
-      let e = dump_of other.one other.there in
-      let number_d : f.dir.note.number ≡ d.dump.number = ap (λ (k : Known). k.note.number) d.same in
-      let number_e : other.one.dir.note.number ≡ e.dump.number = ap (λ (k : Known). k.note.number) e.same in
-      let next_d : f.dir.note.next_stamp ≡ d.dump.next = ap (λ (k : Known). k.note.next_stamp) d.same in
-      let next_e : other.one.dir.note.next_stamp ≡ e.dump.next = ap (λ (k : Known). k.note.next_stamp) e.same in
-      let le = other.holds.number in
-      let less = other.holds.next in (
-        d.dump,
-        e.dump,
-        is_at f a d told,
-        is_at other.one b e other.told,
-        omega (arith, le, number_d, number_e),
-        omega (arith, less, next_d, next_e),
-      )
-  breaks_falling other is = absurd is
+    pub printed : (f : Found) → Contains found f → Contains ats (at_found f)
+    printed f (k, within, here) =
+        Contains-permutation (map at_found found) ats (at_found f) moved
+        (k, (let long = length-map found at_found in omega (arith, within, long)), get_or-map at_found found k f (at_found f) within ∙ ap at_found here)
 
-  pub rises : ((f : Found) → Contains found f → HasNoLower found f) → (d e : Dump) → Contains dumps d → Contains dumps e → d.number ≤ e.number → d.next ≤ e.next
-  rises none d e in_d in_e le =
-      let f = found_of d in_d in
-      let g = found_of e in_e in
-      let number_d : f.one.dir.note.number ≡ d.number = ap (λ (k : Known). k.note.number) f.same in
-      let number_e : g.one.dir.note.number ≡ e.number = ap (λ (k : Known). k.note.number) g.same in
-      let next_d : f.one.dir.note.next_stamp ≡ d.next = ap (λ (k : Known). k.note.next_stamp) f.same in
-      let next_e : g.one.dir.note.next_stamp ≡ e.next = ap (λ (k : Known). k.note.next_stamp) g.same in
-      let up = none f.one f.there g.one g.there (omega (arith, le, number_d, number_e)) in
-      omega (arith, up, next_d, next_e)
+    pub dump_at : (a : DumpAt) → Contains ats a → (d : Dump) × IsDumpAt dumps a d
+    dump_at a in_a =
+        let (f, in_f, told) = found_at a in_a in
+        let d = dump_of f in_f in
+        (d.dump, is_at f a d told)
+
+    -- RULE 1
+    pub breaks_twice : (b : Broken) → IsTwice ats b → BreaksRack dumps b
+    breaks_twice (Twice a b) (in_a, in_b, twin) =
+        let (same, apart) = twin in
+        let (d, is_d) = dump_at a in_a in
+        let (e, is_e) = dump_at b in_b in (
+          d,
+          e,
+          is_d,
+          is_e,
+          ap (λ (x : DumpAt). x.number) is_d.told ∙ sym same ∙ ap (λ (x : DumpAt). x.number) (sym is_e.told),
+          λ one. apart (same_place a b (sym is_d.told ∙ ap at_of one ∙ is_e.told)),
+        )
+      where
+        same_place : (x y : DumpAt) → x ≡ y → SamePlace x y
+        same_place x y is = record { serial = ap (λ (z : DumpAt). z.serial) (sym is); place = ap (λ (z : DumpAt). z.place) (sym is) }
+    breaks_twice other is = absurd is
+
+    -- RULE 2
+    pub breaks_falling : (b : Broken) → IsFalling ats b → BreaksRack dumps b
+    breaks_falling (Falls a b) (in_a, in_b, lower) =
+        let (d, is_d) = dump_at a in_a in
+        let (e, is_e) = dump_at b in_b in
+        let number_d : d.number ≡ a.number = ap (λ (x : DumpAt). x.number) is_d.told in
+        let number_e : e.number ≡ b.number = ap (λ (x : DumpAt). x.number) is_e.told in
+        let next_d : d.next ≡ a.next_stamp = ap (λ (x : DumpAt). x.next_stamp) is_d.told in
+        let next_e : e.next ≡ b.next_stamp = ap (λ (x : DumpAt). x.next_stamp) is_e.told in
+        let le = lower.number in
+        let less = lower.next in
+        (d, e, is_d, is_e, omega (arith, le, number_d, number_e), omega (arith, less, next_d, next_e))
+    breaks_falling other is = absurd is
+
+    pub rises : AreApart dumps → NoneFalls ats → (d e : Dump) → Contains dumps d → Contains dumps e → d.number ≤ e.number → d.next ≤ e.next
+    rises apart none d e in_d in_e le = by_order (le_cases d.number e.number le)
+      where
+        by_order : (d.number < e.number) ⊎ (d.number ≡ e.number) → d.next ≤ e.next
+        by_order (inr same) = let one : d.next ≡ e.next = ap (λ (x : Dump). x.next) (apart d e in_d in_e same) in omega (arith, one)
+        by_order (inl less) =
+            let f = found_of d in_d in
+            let g = found_of e in_e in
+            let number_d : f.one.dir.note.number ≡ d.number = ap (λ (k : Known). k.note.number) f.same in
+            let number_e : g.one.dir.note.number ≡ e.number = ap (λ (k : Known). k.note.number) g.same in
+            let next_d : f.one.dir.note.next_stamp ≡ d.next = ap (λ (k : Known). k.note.next_stamp) f.same in
+            let next_e : g.one.dir.note.next_stamp ≡ e.next = ap (λ (k : Known). k.note.next_stamp) g.same in
+            let up = none (at_found f.one) (at_found g.one) (printed f.one f.there) (printed g.one g.there) (omega (arith, less, number_d, number_e)) in
+            omega (arith, up, next_d, next_e)
 
 -- two of one number at one place are one
-pub are_apart : (reels : List Reel) (shelf : ℕ → List Dump) (found : List Found) → IsSeen reels shelf found → ((f : Found) → Contains found f → HasNoTwin found f) → AreApart (all_dumps shelf reels)
+pub are_apart : (reels : List Reel) (shelf : ℕ → List Dump) (found : List Found) (ats : List DumpAt) → IsPermutation (map at_found found) ats → IsSeen reels shelf found → HaveNoTwins ats
+    → AreApart (all_dumps shelf reels)
 unfolding Apart
-are_apart reels shelf found seen none d e in_d in_e number =
+are_apart reels shelf found ats moved seen none d e in_d in_e number =
     let dumps : List Dump = all_dumps shelf reels in
     let f = found_of found dumps seen.known d in_d in
     let g = found_of found dumps seen.known e in_e in
     let number_d : f.one.dir.note.number ≡ d.number = ap (λ (k : Known). k.note.number) f.same in
     let number_e : g.one.dir.note.number ≡ e.number = ap (λ (k : Known). k.note.number) g.same in
-    let same = none f.one f.there g.one g.there (number_e ∙ sym number ∙ sym number_d) in
+    let in_f = printed found dumps seen.known ats moved f.one f.there in
+    let in_g = printed found dumps seen.known ats moved g.one g.there in
+    let same = none (at_found f.one) (at_found g.one) in_f in_g (number_e ∙ sym number ∙ sym number_d) in
     let serial : d.serial ≡ e.serial = ap (λ (k : Known). k.serial) (sym f.same) ∙ sym same.serial ∙ ap (λ (k : Known). k.serial) g.same in
     let place : d.place ≡ e.place = ap (λ (k : Known). k.note.place) (sym f.same) ∙ sym same.place ∙ ap (λ (k : Known). k.note.place) g.same in
     by_place d e place ((are_right shelf reels seen.told seen.shelved).two d e in_d in_e serial)
@@ -124,6 +151,9 @@ are_apart reels shelf found seen none d e in_d in_e number =
     by_place d e place (inl same) = same
     by_place d e place (inr (inl before)) = absurd (let no : ⊥ = omega (arith, place, before) in no)
     by_place d e place (inr (inr before)) = absurd (let no : ⊥ = omega (arith, place, before) in no)
+
+pub moved_as : (found : List Found) (items slice : List DumpAt) → slice ≡ items → IsPermutation (map at_found found) items → IsPermutation (map at_found found) slice
+moved_as found items slice is moved = subst (IsPermutation (map at_found found)) (sym is) moved
 
 -- THE FIRST RULE
 no_rule_0 : (e : Broken) → 1 ≤ rule_of e
@@ -152,29 +182,29 @@ no_rule_3 dumps apart up none (Falls a b) (d, e, in_d, in_e, le, less) =
     absurd (let no : ⊥ = omega (arith, next, less) in no)
 no_rule_3 dumps apart up none other is = omega arith
 
-module _ (found : List Found) where
-  pub first_twice : (b : Broken) → IsTwice found b → (reels : List Reel) (shelf : ℕ → List Dump) → IsSeen reels shelf found → IsFirstOfRack (all_dumps shelf reels) b
-  first_twice (Twice a b) is reels shelf seen = record { breaks = breaks_twice found (all_dumps shelf reels) seen.known (Twice a b) is; first = λ e breaks. no_rule_0 e }
+module _ (found : List Found) (ats : List DumpAt) (moved : IsPermutation (map at_found found) ats) where
+  pub first_twice : (b : Broken) → IsTwice ats b → (reels : List Reel) (shelf : ℕ → List Dump) → IsSeen reels shelf found → IsFirstOfRack (all_dumps shelf reels) b
+  first_twice (Twice a b) is reels shelf seen = record { breaks = breaks_twice found (all_dumps shelf reels) seen.known ats moved (Twice a b) is; first = λ e breaks. no_rule_0 e }
   first_twice other is reels shelf seen = absurd is
 
-  module _ (no_twin : (f : Found) → Contains found f → HasNoTwin found f) where
-    pub first_falling : (b : Broken) → IsFalling found b → (reels : List Reel) (shelf : ℕ → List Dump) → IsSeen reels shelf found → IsFirstOfRack (all_dumps shelf reels) b
+  module _ (no_twin : HaveNoTwins ats) where
+    pub first_falling : (b : Broken) → IsFalling ats b → (reels : List Reel) (shelf : ℕ → List Dump) → IsSeen reels shelf found → IsFirstOfRack (all_dumps shelf reels) b
     first_falling (Falls a b) is reels shelf seen = record {
-      breaks = breaks_falling found (all_dumps shelf reels) seen.known (Falls a b) is;
-      first = no_rule_1 (all_dumps shelf reels) (are_apart reels shelf found seen no_twin);
+      breaks = breaks_falling found (all_dumps shelf reels) seen.known ats moved (Falls a b) is;
+      first = no_rule_1 (all_dumps shelf reels) (are_apart reels shelf found ats moved seen no_twin);
     }
     first_falling other is reels shelf seen = absurd is
 
-    module _ (no_lower : (f : Found) → Contains found f → HasNoLower found f) where
+    module _ (no_lower : NoneFalls ats) where
       pub first_directory : (result : Result Dumped StoreFault) (user : List ℕ) → result ≡ Err (store.LostDirectory user)
           → ((dumps : List Dump) → AreKnown found dumps → AreApart dumps → NamesLost dumps result)
           → (reels : List Reel) (shelf : ℕ → List Dump) → IsSeen reels shelf found → IsFirstOfRack (all_dumps shelf reels) (LostDirectory user)
       first_directory result user is lost reels shelf seen =
           let dumps : List Dump = all_dumps shelf reels in
-          let apart = are_apart reels shelf found seen no_twin in
+          let apart = are_apart reels shelf found ats moved seen no_twin in
           record {
             breaks = subst (NamesLost dumps) is (lost dumps seen.known apart);
-            first = no_rule_2 dumps apart (rises found dumps seen.known no_lower);
+            first = no_rule_2 dumps apart (rises found dumps seen.known ats moved apart no_lower);
           }
 
       pub first_copy : (result : Result Dumped StoreFault) (full : Full) (serial : ℕ) → result ≡ Err (store.LostCopy full serial)
@@ -182,24 +212,24 @@ module _ (found : List Found) where
           → (reels : List Reel) (shelf : ℕ → List Dump) → IsSeen reels shelf found → IsFirstOfRack (all_dumps shelf reels) (LostCopy full serial)
       first_copy result full serial is lost reels shelf seen =
           let dumps : List Dump = all_dumps shelf reels in
-          let apart = are_apart reels shelf found seen no_twin in
+          let apart = are_apart reels shelf found ats moved seen no_twin in
           let named : IsFirstLost dumps full serial = subst (NamesLost dumps) is (lost dumps seen.known apart) in
           record {
             breaks = named;
-            first = no_rule_3 dumps apart (rises found dumps seen.known no_lower) (λ user. not_both dumps apart full serial user named);
+            first = no_rule_3 dumps apart (rises found dumps seen.known ats moved apart no_lower) (λ user. not_both dumps apart full serial user named);
           }
 
       pub passed_some : (made : Dumped) (files : List FileRec) → files ≡ made.files.items → ((dumps : List Dump) → AreKnown found dumps → IsFolded dumps made)
           → (reels : List Reel) (shelf : ℕ → List Dump) → IsSeen reels shelf found → IsRackPassed (all_dumps shelf reels) files
       passed_some made files are folds reels shelf seen =
           let dumps : List Dump = all_dumps shelf reels in
-          let apart = are_apart reels shelf found seen no_twin in
+          let apart = are_apart reels shelf found ats moved seen no_twin in
           let folded = folds dumps seen.known in
           let t = folded.directory in
           record {
             fits = record {
               apart = apart;
-              rising = rises found dumps seen.known no_lower;
+              rising = rises found dumps seen.known ats moved apart no_lower;
               tree = λ d in_d. t;
               places = λ u. subst (All (HasPlace dumps)) (same_files dumps apart t u) folded.places;
             };
@@ -212,10 +242,11 @@ module _ (found : List Found) where
       passed_none result is empty reels shelf seen =
           let dumps : List Dump = all_dumps shelf reels in
           let none : dumps ≡ [] = no_dumps found dumps seen.known.same (empty is) in
+          let apart = are_apart reels shelf found ats moved seen no_twin in
           record {
             fits = record {
-              apart = are_apart reels shelf found seen no_twin;
-              rising = rises found dumps seen.known no_lower;
+              apart = apart;
+              rising = rises found dumps seen.known ats moved apart no_lower;
               tree = λ d in_d. absurd (nothing d (subst (λ (ds : List Dump). Contains ds d) none in_d));
               places = λ t. absurd (nothing t.last (subst (λ (ds : List Dump). Contains ds t.last) none t.greatest.there));
             };

@@ -40,43 +40,38 @@ pub record AreSeen (reels : List Reel) (found : List Found) : Type 0 where
   pub shelf : ReelsTold reels → (shelf : ℕ → List Dump) × AreShelved shelf reels
   pub seen : ReelsTold reels → (shelf : ℕ → List Dump) → AreShelved shelf reels → IsSeen reels shelf found
 
--- PAIRS OF DUMPS
+-- PAIRS OF DUMPS, as they are printed
 abbrev pub at_found : Found → DumpAt
 at_found f = record { number = f.dir.note.number; serial = f.serial; place = f.dir.note.place; next_stamp = f.dir.note.next_stamp }
 
-pub record SamePlace (f g : Found) : Type 0 where
-  pub serial : g.serial ≡ f.serial
-  pub place : g.dir.note.place ≡ f.dir.note.place
+-- at one block of one reel
+pub record SamePlace (a b : DumpAt) : Type 0 where
+  pub serial : b.serial ≡ a.serial
+  pub place : b.place ≡ a.place
 
--- no other one has this one's number
-abbrev pub IsTwin : Found → Found → Type 0
-IsTwin f g = (g.dir.note.number ≡ f.dir.note.number) × (SamePlace f g → ⊥)
+-- two of one number, at two places
+abbrev pub IsTwin : DumpAt → DumpAt → Type 0
+IsTwin a b = (b.number ≡ a.number) × (SamePlace a b → ⊥)
 
-abbrev pub HasNoTwin : List Found → Found → Type 0
-HasNoTwin found f = (g : Found) → Contains found g → g.dir.note.number ≡ f.dir.note.number → SamePlace f g
+abbrev pub HaveNoTwins : List DumpAt → Type 0
+HaveNoTwins dumps = (a b : DumpAt) → Contains dumps a → Contains dumps b → b.number ≡ a.number → SamePlace a b
 
--- a later one has the lower next stamp
-pub record IsLower (f g : Found) : Type 0 where
-  pub number : f.dir.note.number ≤ g.dir.note.number
-  pub next : g.dir.note.next_stamp < f.dir.note.next_stamp
+abbrev pub IsTwice : List DumpAt → Broken → Type 0
+IsTwice dumps (Twice a b) = Contains dumps a × Contains dumps b × IsTwin a b
+IsTwice dumps broken = ⊥
 
-abbrev pub HasNoLower : List Found → Found → Type 0
-HasNoLower found f = (g : Found) → Contains found g → f.dir.note.number ≤ g.dir.note.number → f.dir.note.next_stamp ≤ g.dir.note.next_stamp
+-- the later one has the lower next stamp, and no dump has a number between theirs
+pub record IsLower (dumps : List DumpAt) (a b : DumpAt) : Type 0 where
+  pub number : a.number ≤ b.number
+  pub next : b.next_stamp < a.next_stamp
+  pub neighbours : (c : DumpAt) → Contains dumps c → a.number < c.number → c.number < b.number → ⊥
 
--- one of them is so to this one, and is told so
-pub record HasOne (found : List Found) (is : Found → Type 0) (a : DumpAt) : Type 0 where
-  pub one : Found
-  pub there : Contains found one
-  pub told : at_found one ≡ a
-  pub holds : is one
+abbrev pub IsFalling : List DumpAt → Broken → Type 0
+IsFalling dumps (Falls a b) = Contains dumps a × Contains dumps b × IsLower dumps a b
+IsFalling dumps broken = ⊥
 
-abbrev pub IsTwice : List Found → Broken → Type 0
-IsTwice found (Twice a b) = (f : Found) × Contains found f × (at_found f ≡ a) × HasOne found (IsTwin f) b
-IsTwice found broken = ⊥
-
-abbrev pub IsFalling : List Found → Broken → Type 0
-IsFalling found (Falls a b) = (f : Found) × Contains found f × (at_found f ≡ a) × HasOne found (IsLower f) b
-IsFalling found broken = ⊥
+abbrev pub NoneFalls : List DumpAt → Type 0
+NoneFalls dumps = (a b : DumpAt) → Contains dumps a → Contains dumps b → a.number < b.number → a.next_stamp ≤ b.next_stamp
 
 -- THE FIRST RULE of the rack that is broken
 pub record IsFirstOfRack (dumps : List Dump) (b : Broken) : Type 0 where

@@ -1,85 +1,73 @@
-//! The rules about pairs of dumps.
-ghost use Rattle.std.specs.Prelude.{◌≡◌, ◌↔◌, All, Contains, IfNone, IfSome, IsTrue};
-ghost use Rattle.g_restore.specs.declared.dumps.Found.{Found};
-ghost use Rattle.g_look.specs.SeenDumps.{HasNoLower, HasNoTwin, HasOne, IsFalling, IsLower, IsTwice, IsTwin, at_found};
+//! The rules about pairs of dumps. In rising number it is enough to compare neighbours.
+ghost use Rattle.std.specs.Prelude.{◌≡◌, IfNone, IfOk, IfSome, IsPermutation, IsTrue, map};
+ghost use Rattle.std.specs.List.Sorted.{IsNonDecreasingBy};
+ghost use Rattle.g_look.specs.SeenDumps.{HaveNoTwins, IsFalling, IsTwice, IsTwin, NoneFalls, SamePlace, at_found};
 
 use crate::{Broken, DumpAt};
+use g_base::NoMemory;
 use g_restore::Found;
+use std::alloc::Global;
 
-/// Rule 1: two dumps of one number, at two places.
-pub(crate) fn twice(found: &[Found]) -> Option<Broken>
-    ensures some { IfSome result (IsTwice found.now) }
-    ensures none { IfNone result ((f : Found) → Contains found.now f → HasNoTwin found.now f) }
+/// What is printed of these dumps, in rising number; those of one number stay in their order. `NoMemory`.
+pub(crate) fn by_number(alloc: Global, found: &[Found]) -> Result<Vec<DumpAt>, NoMemory>
+    ensures same { IfOk result (λ dumps. IsPermutation (map at_found found.now) dumps.items) }
+    ensures order { IfOk result (λ dumps. IsNonDecreasingBy (λ d. d.number) dumps.items) }
 {
+    let mut dumps = all_at(alloc, found)?;
+    dumps.sort_by_key(|dump| dump.number)?;
+    Ok(dumps)
+}
+
+/// What is printed of each of these dumps, in their order.
+fn all_at(alloc: Global, found: &[Found]) -> Result<Vec<DumpAt>, NoMemory>
+    ensures { IfOk result (λ dumps. dumps.items ≡ map at_found found.now) }
+{
+    let mut dumps = Vec::new(alloc);
     for one in found {
-        match twin(one, found) {
-            Some(other) => return Some(Broken::Twice(at_of(one), other)),
-            None => {}
+        dumps.push(at_of(one))?;
+    }
+    Ok(dumps)
+}
+
+/// Rule 1: two dumps of one number, at two places. They are neighbours.
+pub(crate) fn twice(dumps: &[DumpAt]) -> Option<Broken>
+    requires { IsNonDecreasingBy (λ d. d.number) dumps.now }
+    ensures some { IfSome result (IsTwice dumps.now) }
+    ensures none { IfNone result (HaveNoTwins dumps.now) }
+{
+    for i in 1..dumps.len() {
+        let (one, next) = (dumps[i - 1], dumps[i]);
+        if is_twin(&one, &next) {
+            return Some(Broken::Twice(one, next));
         }
     }
     None
 }
 
-/// A dump of this one's number at another place.
-fn twin(one: &Found, found: &[Found]) -> Option<DumpAt>
-    ensures some { IfSome result (HasOne found.now (IsTwin one.now)) }
-    ensures none { IfNone result (HasNoTwin found.now one.now) }
+/// Whether the other dump has the number of this one and lies at another place.
+fn is_twin(one: &DumpAt, other: &DumpAt) -> bool
+    ensures twin { IsTrue result → IsTwin one.now other.now }
+    ensures apart { (IsTrue result → ⊥) → other.now.number ≡ one.now.number → SamePlace one.now other.now }
 {
-    for other in found {
-        if is_twin(one, other) {
-            return Some(at_of(other));
+    one.number == other.number && !(one.serial == other.serial && one.place == other.place)
+}
+
+/// Rule 2: two dumps of which the later one has the lower next stamp. They are neighbours.
+pub(crate) fn falling(dumps: &[DumpAt]) -> Option<Broken>
+    requires { IsNonDecreasingBy (λ d. d.number) dumps.now }
+    ensures some { IfSome result (IsFalling dumps.now) }
+    ensures none { IfNone result (NoneFalls dumps.now) }
+{
+    for i in 1..dumps.len() {
+        let (one, next) = (dumps[i - 1], dumps[i]);
+        if next.next_stamp < one.next_stamp {
+            return Some(Broken::Falls(one, next));
         }
     }
     None
 }
 
-/// Whether the other one has this one's number and lies at another place.
-fn is_twin(one: &Found, other: &Found) -> bool
-    ensures { IsTrue result ↔ IsTwin one.now other.now }
-{
-    if other.dir.note.number == one.dir.note.number {
-        !(other.serial == one.serial && other.dir.note.place == one.dir.note.place)
-    } else {
-        false
-    }
-}
-
-/// Rule 2: two dumps of which the later one has the lower next stamp.
-pub(crate) fn falling(found: &[Found]) -> Option<Broken>
-    ensures some { IfSome result (IsFalling found.now) }
-    ensures none { IfNone result ((f : Found) → Contains found.now f → HasNoLower found.now f) }
-{
-    for one in found {
-        match lower(one, found) {
-            Some(other) => return Some(Broken::Falls(at_of(one), other)),
-            None => {}
-        }
-    }
-    None
-}
-
-/// A dump that isn't earlier than this one and has a lower next stamp.
-fn lower(one: &Found, found: &[Found]) -> Option<DumpAt>
-    ensures some { IfSome result (HasOne found.now (IsLower one.now)) }
-    ensures none { IfNone result (HasNoLower found.now one.now) }
-{
-    for other in found {
-        if is_lower(one, other) {
-            return Some(at_of(other));
-        }
-    }
-    None
-}
-
-/// Whether the other one isn't earlier than this one and has a lower next stamp.
-fn is_lower(one: &Found, other: &Found) -> bool
-    ensures { IsTrue result ↔ IsLower one.now other.now }
-{
-    one.dir.note.number <= other.dir.note.number
-        && other.dir.note.next_stamp < one.dir.note.next_stamp
-}
-
-/// What is told of a dump.
+/// What is printed of a dump.
 pub(crate) fn at_of(one: &Found) -> DumpAt
     ensures { result ≡ at_found one.now }
 {

@@ -8,7 +8,7 @@ ghost use Rattle.g_restore.specs.KnownDumps.{AreKnown};
 ghost use Rattle.g_look.specs.Looks.{ReadsRackByCause};
 ghost use Rattle.g_look.specs.SeenDumps.{AreSeen, IsJudged, WhereSeen};
 
-use crate::pairs::{falling, twice};
+use crate::pairs::{by_number, falling, twice};
 use crate::{Broken, LookFault};
 use g_entry::FileRec;
 use g_incr::ShelfFault;
@@ -46,11 +46,16 @@ pub(crate) fn judge_rack(alloc: Global, found: &[Found]) -> Result<Judged, LookF
     ensures judged { IfOk result (λ judged. WhereSeen found.now (λ reels shelf. IsJudged (all_dumps shelf reels) judged)) }
     ensures only { IfErr result (λ e. e ≡ LookFault.NoMemory) }
 {
-    match twice(found) {
+    let sorted = match by_number(alloc, found) {
+        Ok(sorted) => sorted,
+        Err(_) => return Err(LookFault::NoMemory),
+    };
+    let dumps = sorted.as_slice();
+    match twice(dumps) {
         Some(broken) => return Ok(Judged::Breaks(broken)),
         None => {}
     }
-    match falling(found) {
+    match falling(dumps) {
         Some(broken) => return Ok(Judged::Breaks(broken)),
         None => {}
     }

@@ -10,11 +10,12 @@ use crate::telling::{tell_lost, tell_rebuilt, tell_unusable};
 use g_base::NoMemory;
 use g_demo::{Asked, asked_by};
 use g_devices::{
-    FileDisc, FileTapes, PairFault, StdSink, StdSource, is_there, open_duplex, open_image,
+    FileTapes, HostFile, PairFault, StdSink, StdSource, is_there, open_duplex, open_image,
     open_rack,
 };
 use g_disc::{Disc, MemoryDisc};
 use g_duplex::Duplex;
+use g_files::FileDisc;
 use g_run::{Finish, Status};
 use g_tape::{MemoryTapes, Tapes};
 use std::alloc::Global;
@@ -77,19 +78,21 @@ fn run_on_files(rt: &HostRuntime, words: &[&str]) -> Result<u8, PairFault>
 }
 
 /// Brings image and rack to the device, and gives the exit status of the run.
-fn closed(finish: Finish<FileDisc, FileTapes>) -> u8
+fn closed(finish: Finish<FileDisc<HostFile>, FileTapes>) -> u8
     ensures { result ≡ code_of finish.status }
 {
-    finish.disc.sync();
+    let mut disc = finish.disc;
+    let _saved = disc.finish();
     finish.tapes.sync();
     finish.status.code()
 }
 
 /// Brings image and both racks to the device, tells which reels were lost in the run, and gives its exit status.
-fn closed_pair(rt: &HostRuntime, finish: Finish<FileDisc, Duplex<FileTapes>>) -> u8
+fn closed_pair(rt: &HostRuntime, finish: Finish<FileDisc<HostFile>, Duplex<FileTapes>>) -> u8
     ensures { result ≡ code_of finish.status }
 {
-    finish.disc.sync();
+    let mut disc = finish.disc;
+    let _saved = disc.finish();
     tell_lost(rt, finish.tapes.lost());
     let code = finish.status.code();
     let (first, second) = finish.tapes.into_racks();

@@ -65,7 +65,7 @@ fn blocks_are_read_as_they_were_written_last(rt: HostRuntime) {
             }
         }
     }
-    disc.sync();
+    disc.finish().expect(&rt, "a finish");
     let image = fs::read(&rt, name).expect(&rt, "a file");
     for (k, byte) in last.iter().enumerate() {
         let at = 512 * (2_200 + k);

@@ -1,7 +1,5 @@
-use Rattle.std.proofs.Common.{ℕ, ◌<◌, get_or}
-use Rattle.g_restore.specs.declared.dumps.Found.{Found}
-use Rattle.g_look.specs.SeenDumps.{HasNoLower}
+use Rattle.g_look.proofs.PairLemmas.{RiseUpTo}
 use Rattle.g_look.proofs.pairs.falling.Given as goal
 
-abbrev pub invariant-loop-one : goal.invariant-loop-one
-invariant-loop-one l = (k : ℕ) (d : Found) → k < l.one-index → HasNoLower l.found (get_or l.found k d)
+abbrev pub invariant-loop-i : goal.invariant-loop-i
+invariant-loop-i l = RiseUpTo l.dumps l.i

@@ -1,13 +1,6 @@
-use Rattle.std.proofs.Common.{arith, sym}
-use Rattle.g_look.specs.SeenDumps.{HasNoTwin}
-use Rattle.g_look.proofs.LoopLemmas.{all_seen, one_further}
+use Rattle.std.proofs.Common.{arith}
+use Rattle.g_look.proofs.PairLemmas.{all_apart}
 use Rattle.g_look.proofs.pairs.twice.Goals as goal
 
-pub returns-in-Some-clause-some : goal.returns-in-Some-clause-some
-returns-in-Some-clause-some c = (_, (_, omega arith, sym c.one-item.is), sym c.at_of.ensures, c.in-Some.ensures.some)
-
-pub loop-one-preserved : goal.loop-one-preserved
-loop-one-preserved c = one_further (HasNoTwin c.args.found.now) _ _ _ (omega arith) c.one-item.is c.in-None.ensures.none c.loop-one.invariant
-
 pub returns-clause-none : goal.returns-clause-none
-returns-clause-none c = all_seen (HasNoTwin c.args.found.now) _ _ (omega arith) c.loop-one.invariant
+returns-clause-none c = all_apart _ c.requires _ (omega arith) c.loop-i.invariant

@@ -1,0 +1,54 @@
+//! A file of the operating system: each method is one system call. Its bytes aren't observable; if its answers are those of a
+//! plain file, everything proved of files whose bytes are observable applies to it.
+ghost use Rattle.std.specs.Prelude.{None};
+
+use g_files::RawFile;
+use std::fs::File;
+use std::io::{self, Error, ErrorKind};
+use std::os::unix::fs::FileExt;
+
+/// An open file of the system.
+#[derive(Drop)]
+pub struct HostFile {
+    file: File,
+}
+
+impl HostFile {
+    pub(crate) fn new(file: File) -> HostFile {
+        HostFile { file }
+    }
+
+    /// Waits until the file and what the system notes of it have reached the device.
+    pub(crate) fn sync_all(&self) -> io::Result<()> {
+        self.file.sync_all()
+    }
+}
+
+impl RawFile for HostFile {
+    ghost content = { λ f. None };
+
+    /// `InvalidData` unless it is a plain file: anything else has no length.
+    fn len(&mut self) -> io::Result<u64> {
+        let about = self.file.metadata()?;
+        if !about.is_file() {
+            return Err(Error::from(ErrorKind::InvalidData));
+        }
+        Ok(about.len())
+    }
+
+    fn read_at(&mut self, into: &mut [u8], at: u64) -> io::Result<usize> {
+        self.file.read_at(into, at)
+    }
+
+    fn write_at(&mut self, from: &[u8], at: u64) -> io::Result<usize> {
+        self.file.write_at(from, at)
+    }
+
+    fn set_len(&mut self, len: u64) -> io::Result<()> {
+        self.file.set_len(len)
+    }
+
+    fn sync(&mut self) -> io::Result<()> {
+        self.file.sync_data()
+    }
+}

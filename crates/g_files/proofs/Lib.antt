@@ -1,0 +1,6 @@
+pub mod BlankLemmas
+pub mod BlockLemmas
+pub mod BytesLemmas
+pub mod CallLemmas
+pub mod DiscLemmas
+pub mod ImageLemmas

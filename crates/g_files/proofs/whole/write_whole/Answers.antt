@@ -1,0 +1,34 @@
+use Rattle.std.proofs.Common.{◌-◌, length, take, drop, arith, length-take, length-drop}
+use Rattle.std.proofs.lemmas.List.{take_rest}
+use Rattle.g_files.proofs.CallLemmas.{write_step, write_fails, changes_before}
+use Rattle.std.specs.declared.io.Error.{Error}
+use Rattle.g_files.proofs.whole.write_whole.Goals as goal
+use Rattle.g_files.proofs.whole.write_whole.Goals.{in-Ok, in-Err}
+
+pub returns-in-Err-2 : goal.returns-in-Err-2
+returns-in-Err-2 g c =
+    let done = c.loop-call.done in
+    let bytes = g.F.RawFile.content in
+    let from = c.args.from.now in record {
+      written = write_fails c.args.at done from (take (length from - done) (drop done from)) c.in-Err.fault c.in-Err.fault (bytes c.args.file.now)
+          (bytes c.loop-call.file) (bytes c.write_at.new.self)
+          c.requires.within c.loop-call.invariant.within (take_rest from done) c.loop-call.invariant.told c.in-Err.ensures.written;
+    }
+
+pub loop-call-preserved : goal.loop-call-preserved
+loop-call-preserved g c =
+    let done = c.loop-call.done in
+    let bytes = g.F.RawFile.content in
+    let from = c.args.from.now in
+    elim c.match-write_at.branch [
+      | in-Ok w ↦ rw w.done-is record {
+        within = let few = w.in-Ok.ensures.count in omega (arith, few, length-take (length from - done) (drop done from), length-drop done from);
+        told = write_step Error c.args.at done w.in-Ok.count from (take (length from - done) (drop done from)) (bytes c.args.file.now)
+            (bytes c.loop-call.file) (bytes c.write_at.new.self)
+            c.requires.within c.loop-call.invariant.within (take_rest from done) c.loop-call.invariant.told w.in-Ok.ensures.written;
+      }
+      | in-Err w ↦ rw w.done-is record {
+        within = c.loop-call.invariant.within;
+        told = changes_before (w.in-Err.ensures.interrupted (w.is_interrupted.ensures.0 w.if-is_interrupted.true)) c.loop-call.invariant.told;
+      }
+    ]

@@ -1,0 +1,5 @@
+pub mod Bytes
+pub mod Calls
+pub mod FileDisc
+pub mod Image
+pub mod Window

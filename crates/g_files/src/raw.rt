@@ -1,0 +1,44 @@
+//! An open file, accessed by single system calls.
+ghost use Rattle.std.specs.Prelude.{◌≡◌, ℕ, ◌≤◌, List, Option, length, IfOk, IfErr};
+ghost use Rattle.std.specs.Option.{ForSome};
+ghost use Rattle.std.specs.IoError.{error_kind};
+ghost use Rattle.g_base.specs.ToldContent.{Changes};
+ghost use Rattle.g_files.specs.Bytes.{AreBytes};
+ghost use Rattle.g_files.specs.Calls.{HasCut, HasRead, HasWritten};
+
+use std::io::{self, ErrorKind};
+
+/// An open file; each method is one system call. If its bytes are observable, the calls behave as on a plain file that no
+/// other process writes. If they aren't, the contract says nothing about the answers.
+pub trait RawFile {
+    /// The bytes of the file, if they are observable.
+    ghost content: { Self → Option (List ℕ) };
+
+    /// The length in bytes.
+    fn len(&mut self) -> io::Result<u64>
+        ensures size { IfOk result (λ n. ForSome (content self.old) (λ bytes. length bytes ≡ n)) }
+        ensures bytes { ForSome (content self.old) AreBytes }
+        ensures same { content self.new ≡ content self.old };
+
+    /// Reads some bytes from position `at` on, and returns how many. It returns 0 only at the end of the file.
+    fn read_at(&mut self, into: &mut [u8], at: u64) -> io::Result<usize>
+        ensures count { IfOk result (λ n. n ≤ length into.new) }
+        ensures given { IfOk result (λ n. ForSome (content self.old) (HasRead at n (length into.new) into.new)) }
+        ensures same { content self.new ≡ content self.old };
+
+    /// Writes some of these bytes at position `at`, and returns how many. After an error, each byte of the range is the old
+    /// one or the one to be written. A call that a signal interrupted wrote nothing.
+    fn write_at(&mut self, from: &[u8], at: u64) -> io::Result<usize>
+        requires within { ForSome (content self.old) (λ bytes. at ≤ length bytes) }
+        ensures count { IfOk result (λ n. n ≤ length from.now) }
+        ensures written { Changes (HasWritten at from.now result) (content self.old) (content self.new) }
+        ensures interrupted { IfErr result (λ e. error_kind e ≡ ErrorKind.Interrupted → content self.new ≡ content self.old) };
+
+    /// Sets the length: cuts off what follows, or appends zeros.
+    fn set_len(&mut self, len: u64) -> io::Result<()>
+        ensures cut { Changes (HasCut len result) (content self.old) (content self.new) };
+
+    /// Waits until all writes have reached the device.
+    fn sync(&mut self) -> io::Result<()>
+        ensures same { content self.new ≡ content self.old };
+}

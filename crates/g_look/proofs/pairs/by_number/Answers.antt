@@ -1,0 +1,7 @@
+use Rattle.std.proofs.Common.{rules}
+use Rattle.std.proofs.lemmas.List.Sorted.{IsNonDecreasingBy-from_sort_by_key}
+use Rattle.g_look.specs.declared.broken.DumpAt.{DumpAt}
+use Rattle.g_look.proofs.pairs.by_number.Goals as goal
+
+pub returns-clause-order : goal.returns-clause-order
+returns-clause-order c = IsNonDecreasingBy-from_sort_by_key (λ (p : DumpAt). p.number) _ c.in_ok-sort_by_key.ensures.sorted (λ a r q k. search rules)

@@ -1,5 +1,0 @@
-use Rattle.std.proofs.Common.{arith, sym}
-use Rattle.g_look.proofs.pairs.lower.Goals as goal
-
-pub returns-then-is_lower-clause-some : goal.returns-then-is_lower-clause-some
-returns-then-is_lower-clause-some c = record { one = _; there = (_, omega arith, sym c.other-item.is); told = sym c.at_of.ensures; holds = c.is_lower.ensures.0 c.if-is_lower.true }
