@@ -1,0 +1,8 @@
+use Rattle.std.proofs.Common.{◌≡◌, ℕ, ◌<◌, ◌≤◌, get_or}
+use Rattle.std.specs.Prelude.{Contains}
+use Rattle.g_restore.specs.declared.dumps.Found.{Found}
+use Rattle.g_look.proofs.GapLemmas.{WholeSoFar}
+use Rattle.g_look.proofs.gaps.newest_whole.Given as goal
+
+abbrev pub invariant-loop-one : goal.invariant-loop-one
+invariant-loop-one l = WholeSoFar l.found l.one-index l.newest
