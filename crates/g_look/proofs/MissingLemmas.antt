@@ -6,7 +6,6 @@ use Rattle.g_incr.specs.Layout.{Dump}
 use Rattle.g_restore.specs.declared.dumps.Found.{Found}
 use Rattle.g_restore.specs.KnownDumps.{AreKnown, Known, known, known_of}
 use Rattle.g_look.specs.declared.broken.DumpAt.{DumpAt}
-use Rattle.g_look.specs.Rules.{at_of}
 use Rattle.g_look.specs.SeenDumps.{at_found}
 use Rattle.g_look.specs.Gaps.{HoldsAll, IsGap, IsMissing, IsNewestGap, IsNewestWhole, NamesMissing}
 use Rattle.g_look.proofs.PairLemmas.{either_way, le_cases}

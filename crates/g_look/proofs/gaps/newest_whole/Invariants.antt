@@ -1,6 +1,3 @@
-use Rattle.std.proofs.Common.{◌≡◌, ℕ, ◌<◌, ◌≤◌, get_or}
-use Rattle.std.specs.Prelude.{Contains}
-use Rattle.g_restore.specs.declared.dumps.Found.{Found}
 use Rattle.g_look.proofs.GapLemmas.{WholeSoFar}
 use Rattle.g_look.proofs.gaps.newest_whole.Given as goal
 
