@@ -1,15 +1,13 @@
 -- The files of a disc, by the records that were read.
-use Rattle.std.proofs.Common.{◌≡◌, ◌≢◌, ◌⊎◌, inl, inr, ℕ, zero, suc, ◌+◌, ◌<◌, List, [], ◌∷◌, length, map, Option, Some, None, refl, sym, ◌∙◌, ap, arith, subst, All}
-use Rattle.std.specs.Prelude.{◌==◌, Contains, find, IfSome, get_or, slice_get}
+use Rattle.std.proofs.Common.{◌≡◌, ◌⊎◌, inl, inr, ℕ, zero, suc, ◌<◌, List, [], ◌∷◌, length, map, Option, Some, None, refl, sym, ◌∙◌, ap, arith, subst, All}
+use Rattle.std.specs.Prelude.{◌==◌, Contains, find, IfSome, slice_get}
 use Rattle.std.specs.Option.{ForSome, option_map}
 use Rattle.std.proofs.lemmas.Bool.{cases_eq, cond-false, ne_eqb}
 use Rattle.std.proofs.lemmas.List.{get_or-map, length-map}
 use Rattle.std.proofs.lemmas.List.Elements.{All-contains}
-use Rattle.g_base.specs.Block.{blocks_for}
-use Rattle.g_copy.specs.Copy.{IsCopy, bytes_at}
+use Rattle.g_copy.specs.Copy.{IsCopy}
 use Rattle.g_copy.specs.declared.copy.DiscCopy.{DiscCopy}
 use Rattle.g_entry.specs.declared.file_rec.FileRec.{FileRec}
-use Rattle.g_entry.specs.declared.file_rec.TapeCopy.{TapeCopy}
 use Rattle.g_entry.specs.declared.format.Format.{Format}
 use Rattle.g_entry.specs.declared.format.Format.TheVariants.{One, Two}
 use Rattle.g_entry.specs.declared.head.Head.{Head}
@@ -18,13 +16,13 @@ use Rattle.g_entry.specs.FileFields.{IsFile}
 use Rattle.g_entry.specs.Rules.{AreFiles, AreNumbered}
 use Rattle.g_entry.proofs.OneEncoding.{head_again}
 use Rattle.g_slots.specs.declared.side.Side.{Side}
-use Rattle.g_slots.specs.Layout.{GateNames, current, gate_side, slot}
+use Rattle.g_slots.specs.Layout.{GateNames, current, slot}
 use Rattle.g_dirs.specs.declared.dirs.Dirs.{Dirs}
 use Rattle.g_dirs.specs.Directory.{AreCopies, AreRecords, Directory, IsDirectory, copy_at, entries_of, recs}
 use Rattle.g_dirs.specs.Image.{StandsFor, block_of}
 use Rattle.g_tree.specs.Records.{IsRecords}
 use Rattle.g_tree.proofs.ListLemmas.{contains_first, contains_more, map_of_map}
-use Rattle.g_disc_contents.specs.Contents.{Contents, File, contents_of, file_of}
+use Rattle.g_disc_contents.specs.Contents.{File, contents_of, file_of}
 use Rattle.g_online.proofs.BytesLemmas.{IsItsCopy, copies_are}
 use Rattle.g_look.specs.Standing.{IsSound, IsStanding, directory_in}
 

@@ -4,11 +4,13 @@ pub mod CompareLemmas
 pub mod CopyLemmas
 pub mod DiscLemmas
 pub mod FitLemmas
+pub mod GapLemmas
 pub mod GivenLemmas
 pub mod HeadLemmas
 pub mod JudgeLemmas
 pub mod LoopLemmas
 pub mod LostLemmas
+pub mod MissingLemmas
 pub mod NamedLemmas
 pub mod NumberLemmas
 pub mod PairLemmas

@@ -213,13 +213,13 @@ list_text_is users us files fs head online on only asked text is same_users same
     ∙ ap (λ (o : Option (List ℕ)). text_of (lines_listed users files online (asked_numbers users files o))) same_asked
     ∙ ap text_of (list_is users files is head online asked)
 
-pub dumped_text_is : (users us : List UserRec) (files fs : List FileRec) (number : ℕ) (text : List ℕ) → IsRecords users files → us ≡ users → fs ≡ files → text ≡ text_of (lines_dumped us fs number (all_numbers us fs))
-    → text ≡ text_of (dumped_lines users files number)
-dumped_text_is users us files fs number text is same_users same_files text_is =
+pub dumped_text_is : (users us : List UserRec) (files fs : List FileRec) (number : ℕ) (last text : List ℕ) → IsRecords users files → us ≡ users → fs ≡ files
+    → text ≡ text_of (lines_dumped us fs number (all_numbers us fs)) ++ last → text ≡ text_of (dumped_lines users files number) ++ last
+dumped_text_is users us files fs number last text is same_users same_files text_is =
     text_is
-    ∙ ap (λ (vs : List UserRec). text_of (lines_dumped vs fs number (all_numbers vs fs))) same_users
-    ∙ ap (λ (gs : List FileRec). text_of (lines_dumped users gs number (all_numbers users gs))) same_files
-    ∙ ap text_of (dumped_are users files is number)
+    ∙ ap (λ (vs : List UserRec). text_of (lines_dumped vs fs number (all_numbers vs fs)) ++ last) same_users
+    ∙ ap (λ (gs : List FileRec). text_of (lines_dumped users gs number (all_numbers users gs)) ++ last) same_files
+    ∙ ap (λ (ls : List (List ℕ)). text_of ls ++ last) (dumped_are users files is number)
 
 -- the text of a list, of what the disc stands for
 pub listed_ok : (blocks : List (List ℕ)) (only : Option (List ℕ)) (d : Directory) → StandsFor blocks d → (result : Result (List ℕ) LookFault) → IfOk result (λ text. text ≡ text_of (list_lines d only))

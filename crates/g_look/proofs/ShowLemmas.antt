@@ -1,7 +1,7 @@
 -- The file that is shown is the one that the path names, and its bytes are those of disc or tape.
-use Rattle.std.proofs.Common.{◌≡◌, ◌≢◌, ℕ, zero, suc, ◌<◌, true, false, List, length, Option, Some, None, Result, Ok, Err, IfErr, IfOk, refl, sym, ◌∙◌, ap, arith, subst, is_some}
-use Rattle.std.specs.Prelude.{Contains, IfSome, codes}
-use Rattle.std.specs.Option.{ForSome, option_map}
+use Rattle.std.proofs.Common.{◌≡◌, ℕ, false, List, Option, Some, None, Result, Ok, Err, IfOk, sym, ◌∙◌, ap, arith, subst}
+use Rattle.std.specs.Prelude.{Contains, codes}
+use Rattle.std.specs.Option.{ForSome}
 use Rattle.std.specs.FinMap.{get, get-from_entries}
 use Rattle.std.proofs.lemmas.List.Elements.{All-contains}
 use Rattle.std.proofs.lemmas.Option.{slice_get-get_or}
@@ -20,7 +20,7 @@ use Rattle.g_tree.proofs.RecordLemmas.{name_at, nobody}
 use Rattle.g_tree.proofs.RightLemmas.{numbered_there}
 use Rattle.g_tree.proofs.RuleLemmas.{made_of, numbered_is}
 use Rattle.g_dirs.specs.declared.dirs.Dirs.{Dirs}
-use Rattle.g_dirs.specs.Directory.{FileEntry, LiesSomewhere, copy_at, entries_of, recs}
+use Rattle.g_dirs.specs.Directory.{FileEntry, LiesSomewhere, copy_at, entries_of}
 use Rattle.g_dirs.specs.Image.{StandsFor}
 use Rattle.g_tape.specs.Rack.{Rack}
 use Rattle.g_incr.specs.Layout.{Dump}

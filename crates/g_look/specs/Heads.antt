@@ -9,7 +9,7 @@ use Rattle.g_shelf.specs.CompletedDumps.{all_dumps}
 use Rattle.g_store_meaning.specs.Belonging.{IsIntended, IsPlaced}
 use Rattle.g_restore.specs.declared.dumps.Found.{Found}
 use Rattle.g_look.specs.declared.broken.Broken.{Broken}
-use Rattle.g_look.specs.declared.broken.Broken.TheVariants.{TooNew, LastMissing, TooFar, NoReel, Misplaced}
+use Rattle.g_look.specs.declared.broken.Broken.TheVariants.{TooNew, TooFar, NoReel, Misplaced}
 use Rattle.g_look.specs.Judging.{IsFirstOfDisc}
 use Rattle.g_look.specs.SeenDumps.{at_found}
 

@@ -1,5 +1,6 @@
 pub mod Copies
 pub mod FileLines
+pub mod Gaps
 pub mod Heads
 pub mod Judging
 pub mod Lists

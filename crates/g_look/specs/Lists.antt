@@ -17,6 +17,7 @@ use Rattle.g_monitor.specs.Refusals.{fault_line}
 use Rattle.g_store_meaning.specs.Meaning.{DumpedDirectory, files_in}
 use Rattle.g_restore.specs.Losses.{AreApart, HasPlace, IsFirstLost, IsLostDirectory}
 use Rattle.g_look.specs.FileLines.{disc_file_line, dumped_file_line}
+use Rattle.g_look.specs.Gaps.{NamesMissing}
 use Rattle.g_look.specs.Text.{told}
 
 -- files with their full names, in the order of these; and those of one user
@@ -73,9 +74,15 @@ IsRefusal dumps fault = ⊥
 abbrev pub refused_text : StoreFault → List ℕ
 refused_text fault = ended (codes "REFUSED " ++ fault_line fault)
 
+-- the line of a missing dump, if one is missing
+abbrev pub missing_text : Option ℕ → List ℕ
+missing_text None = []
+missing_text (Some n) = told (codes "DUMP ") n ++ codes " MISSING\n"
+
 -- THE TEXT OF A LOOK AT WHAT CAN BE RESTORED from these completed dumps: the files of the dumped directory, whose bytes are all
--- held, or the refusal, which is right where no two dumps have one number
-abbrev pub IsRestorable : List Dump → Bool → List ℕ → Type 0
-IsRestorable dumps true text =
-    (t : DumpedDirectory dumps) × All (HasPlace dumps) (files_in t) × (text ≡ text_of (dumped_lines t.last.users (files_in t) t.last.number))
-IsRestorable dumps false text = (fault : StoreFault) × (AreApart dumps → IsRefusal dumps fault) × (text ≡ refused_text fault)
+-- held, and the dump that is missing; or the refusal, which is right if no two dumps have one number
+abbrev pub IsRestorable : List Dump → Bool → Option ℕ → List ℕ → Type 0
+IsRestorable dumps true missing text =
+    (t : DumpedDirectory dumps) × All (HasPlace dumps) (files_in t) × NamesMissing dumps missing
+    × (text ≡ text_of (dumped_lines t.last.users (files_in t) t.last.number) ++ missing_text missing)
+IsRestorable dumps false missing text = (fault : StoreFault) × (AreApart dumps → IsRefusal dumps fault) × (text ≡ refused_text fault)

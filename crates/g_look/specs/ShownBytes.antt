@@ -1,18 +1,14 @@
 -- WHAT A FILE IS SHOWN TO HOLD: its bytes on the disc, where it is there, else those of its copy on tape.
-use Rattle.std.specs.Prelude.{◌≡◌, ℕ, ◌<◌, List, length, false, Contains, Option, Some, None, codes}
-use Rattle.std.specs.Option.{ForSome}
+use Rattle.std.specs.Prelude.{◌≡◌, ℕ, List, length, false, Contains, Some, None, codes}
 use Rattle.g_copy.specs.Copy.{bytes_at}
-use Rattle.g_copy.specs.declared.copy.DiscCopy.{DiscCopy}
 use Rattle.g_entry.specs.declared.file_rec.FileRec.{FileRec}
 use Rattle.g_entry.specs.declared.file_rec.TapeCopy.{TapeCopy}
 use Rattle.g_name.specs.declared.path.Path.{Path}
 use Rattle.g_dirs.specs.Directory.{Directory, FileEntry, recs}
 use Rattle.g_dirs.specs.Image.{StandsFor}
 use Rattle.g_plain.specs.PlainTree.{has_file, input_name}
-use Rattle.g_tape.specs.Reel.{Reel}
 use Rattle.g_tree.specs.Records.{ForTree, full_of}
 use Rattle.g_incr.specs.Layout.{Dump}
-use Rattle.g_shelf.specs.CompletedDumps.{AreShelved, all_dumps}
 use Rattle.g_store_meaning.specs.Meaning.{IsContent}
 
 -- THE FILE THAT A PATH NAMES for input, where an absent user is MASTER

@@ -4,22 +4,31 @@ ghost use Rattle.g_look.specs.declared.broken.Broken.{Broken};
 ghost use Rattle.g_look.specs.Text.{broken_line, verdict_line};
 
 use crate::parts::{push_at, push_copy, push_lie, push_told};
-use crate::{Broken, DumpAt, Lie};
+use crate::{Broken, DumpAt, Lie, Verdict};
 use g_base::NoMemory;
 use g_entry::TapeCopy;
 use g_monitor::push_full;
 use g_name::{Full, Text};
 
-/// Puts the verdict's line behind the text, without a byte 10.
-pub(crate) fn push_verdict(
-    text: &mut Text,
-    holds: bool,
-    verdict: &Option<Broken>,
-) -> Result<(), NoMemory>
-    ensures { OnOk result (text.new ≡ text.old ++ verdict_line holds verdict.now) }
+/// Appends the verdict's line to the text, without a byte 10.
+pub(crate) fn push_verdict(text: &mut Text, holds: bool, verdict: &Verdict) -> Result<(), NoMemory>
+    ensures { OnOk result (text.new ≡ text.old ++ verdict_line holds verdict.now.broken verdict.now.missing) }
 {
-    match verdict {
+    match &verdict.broken {
         Some(broken) => push_broken(text, broken),
+        None => push_unbroken(text, holds, verdict.missing),
+    }
+}
+
+/// Appends the line of a missing dump to the text, or else that disc and rack belong together, without a byte 10.
+fn push_unbroken(text: &mut Text, holds: bool, missing: Option<u64>) -> Result<(), NoMemory>
+    ensures { OnOk result (text.new ≡ text.old ++ verdict_line holds None missing) }
+{
+    match missing {
+        Some(number) => {
+            push_told(text, b"BROKEN 13 DUMP ", number)?;
+            text.extend(b" MISSING")
+        }
         None => {
             if holds {
                 text.extend(b"BELONGS")
@@ -30,7 +39,7 @@ pub(crate) fn push_verdict(
     }
 }
 
-/// Puts the line of a rule that is broken behind the text, without a byte 10.
+/// Appends the line of a rule that is broken to the text, without a byte 10.
 pub(crate) fn push_broken(text: &mut Text, broken: &Broken) -> Result<(), NoMemory>
     ensures { OnOk result (text.new ≡ text.old ++ broken_line broken.now) }
 {

@@ -8,7 +8,7 @@ ghost use Rattle.g_look.specs.SeenDumps.{IsSeen};
 ghost use Rattle.g_look.specs.Standing.{IsSound, found_in};
 ghost use Rattle.g_look.specs.Text.{disc_lines, rack_lines, verdict_line};
 
-use crate::Broken;
+use crate::Verdict;
 use crate::broken_text::push_verdict;
 use crate::disc::Standing;
 use crate::disc_text::push_disc;
@@ -26,12 +26,12 @@ pub(crate) fn check_text<T: Tapes>(
     standing: &Standing,
     found: &[Found],
     tapes: &T,
-    verdict: &Option<Broken>,
+    verdict: &Verdict,
 ) -> Result<Text, NoMemory>
     requires { IfSome standing.now.dirs (λ f. IsSound size f.1) }
     ensures { IfOk result (λ text. (shelf : ℕ → List Dump) → IsSeen (told_reels (T.rack tapes.now)) shelf found.now
         → text ≡ text_of (disc_lines size standing.now.side (all_dumps shelf (told_reels (T.rack tapes.now))) (found_in standing.now.dirs)
-        ++ rack_lines shelf (told_reels (T.rack tapes.now)) ++ verdict_line (is_some standing.now.dirs) verdict.now ∷ [])) }
+        ++ rack_lines shelf (told_reels (T.rack tapes.now)) ++ verdict_line (is_some standing.now.dirs) verdict.now.broken verdict.now.missing ∷ [])) }
 {
     let mut text = Text::new(alloc);
     push_disc(&mut text, size, standing, found)?;

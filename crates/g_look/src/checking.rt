@@ -18,10 +18,11 @@ ghost use Rattle.g_look.specs.Text.{IsChecked};
 use crate::bytes::{judge_bytes, read_others};
 use crate::check_text::check_text;
 use crate::disc::{Standing, see_disc};
+use crate::gaps::missing;
 use crate::head::judge_head;
 use crate::rack::{Judged, judge_rack, see_rack};
 use crate::records::{no_copy, other_length};
-use crate::{Broken, LookFault};
+use crate::{Broken, LookFault, Verdict};
 use g_dirs::Dirs;
 use g_disc::Disc;
 use g_entry::FileRec;
@@ -30,12 +31,12 @@ use g_restore::Found;
 use g_tape::Tapes;
 use std::alloc::Global;
 
-/// What a check found: whether the disc holds a filestore, the first rule that disc and rack break, and the text of the
-/// check, each line with its byte 10.
+/// What a check found: whether the disc holds a filestore, which rule disc and rack break, and the text of the check, each
+/// line with its byte 10.
 #[derive(Drop)]
 pub struct Checked {
     pub filestore: bool,
-    pub broken: Option<Broken>,
+    pub verdict: Verdict,
     pub text: Text,
 }
 
@@ -50,11 +51,11 @@ pub fn check<D: Disc, T: Tapes>(
     requires size { 2177 < (D.state disc.old).size }
     requires mounted { All (λ r. r.mounted ≡ true) (T.rack tapes.old).reels }
     ensures right { AllTold (D.state disc.old).held (told_reels (T.rack tapes.old)) → IfOk result (λ c.
-        IsChecked (D.state disc.old).size (D.state disc.old).held (told_reels (T.rack tapes.old)) c.broken c.text) }
+        IsChecked (D.state disc.old).size (D.state disc.old).held (told_reels (T.rack tapes.old)) c.verdict.broken c.verdict.missing c.text) }
     ensures filestore { ForSome (D.state disc.old).held (λ blocks. IfOk result (λ c.
         IsTrue c.filestore ↔ ((d : Directory) × StandsFor blocks d))) }
     ensures read { AllTold (D.state disc.old).held (told_reels (T.rack tapes.old)) → IfOk result (λ c.
-        IfNone c.broken (AreNamedRead (D.state disc.old).held (T.rack tapes.old) (T.rack tapes.new))) }
+        IfNone c.verdict.broken (AreNamedRead (D.state disc.old).held (T.rack tapes.old) (T.rack tapes.new))) }
     ensures disc { ReadsByCause (result ≡ Err LookFault.DiscUnread) (D.state disc.old) (D.state disc.new) }
     ensures tapes { ReadsRackByCause (result ≡ Err LookFault.TapeUnread) (T.rack tapes.old) (T.rack tapes.new) }
     ensures faults { IfErr result (λ e. (e ≡ LookFault.DiscUnread) ⊎ ((e ≡ LookFault.TapeUnread) ⊎ (e ≡ LookFault.NoMemory))) }
@@ -71,11 +72,16 @@ pub fn check<D: Disc, T: Tapes>(
         Ok(broken) => broken,
         Err(fault) => return Err(fault),
     };
+    let missing = match missing(alloc, found.as_slice()) {
+        Ok(missing) => missing,
+        Err(_) => return Err(LookFault::NoMemory),
+    };
+    let verdict = Verdict { broken, missing };
     let size = disc.size();
-    match check_text(alloc, size, &standing, found.as_slice(), tapes, &broken) {
+    match check_text(alloc, size, &standing, found.as_slice(), tapes, &verdict) {
         Ok(text) => Ok(Checked {
             filestore: standing.dirs.is_some(),
-            broken,
+            verdict,
             text,
         }),
         Err(_) => Err(LookFault::NoMemory),

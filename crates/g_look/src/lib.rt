@@ -11,6 +11,7 @@ mod disc;
 mod disc_text;
 mod fault;
 mod file_text;
+mod gaps;
 mod head;
 mod holding;
 mod listing;
@@ -26,7 +27,7 @@ mod tape;
 
 ghost use Rattle.g_look.specs.Rules.{BrokenIsNot, FitsBelong, RackHasNone, VerdictIsRight};
 
-pub use broken::{Broken, DumpAt, Lie};
+pub use broken::{Broken, DumpAt, Lie, Verdict};
 pub use checking::{Checked, check};
 pub use fault::LookFault;
 pub use holding::dumps;

@@ -8,12 +8,13 @@ ghost use Rattle.g_restore.specs.Gathering.{HasFew};
 ghost use Rattle.g_restore.specs.KnownDumps.{AreKnown};
 ghost use Rattle.g_tree.specs.Records.{IsRecords};
 ghost use Rattle.g_look.specs.FileLines.{dumped_file_line, empty_text};
-ghost use Rattle.g_look.specs.Lists.{IsRestorable, dumped_lines, refused_text};
+ghost use Rattle.g_look.specs.Lists.{IsRestorable, dumped_lines, missing_text, refused_text};
 ghost use Rattle.g_look.specs.Looks.{OfDumps, ReadsRackByCause};
 ghost use Rattle.g_look.specs.Numbers.{all_numbers, dumped_line, lines_at, lines_dumped};
 
 use crate::LookFault;
 use crate::file_text::{push_file, push_taped};
+use crate::gaps::missing;
 use crate::ordered::all_numbers;
 use crate::parts::push_told;
 use crate::rack::see_rack;
@@ -27,19 +28,21 @@ use g_tape::Tapes;
 use g_tree::{Tree, full_of};
 use std::alloc::Global;
 
-/// Whether the rack can be restored, and the text: the files that RESTORE would give and the dump, or its refusal.
+/// Whether the rack can be restored, the number of a dump that is missing from it, and the text: the files that RESTORE
+/// would give and the dump, or its refusal.
 #[derive(Drop)]
 pub struct Given {
     pub given: bool,
+    pub missing: Option<u64>,
     pub text: Text,
 }
 
 /// What RESTORE would give of this rack: a line for each file, users by number and the files of a user by full name, and
-/// `RESTORABLE FROM DUMP n`; or the one line of its refusal. All reels have to be mounted; they are only read.
+/// `RESTORABLE FROM DUMP n`, then `DUMP m MISSING` if a dump is missing; or the one line of its refusal. All reels have to be mounted; they are only read.
 /// `TapeUnread`, `NoMemory`.
 pub fn restorable<T: Tapes>(alloc: Global, tapes: &mut T) -> Result<Given, LookFault>
     requires mounted { All (λ r. r.mounted ≡ true) (T.rack tapes.old).reels }
-    ensures text { OfDumps (T.rack tapes.old) (λ dumps. IfOk result (λ g. IsRestorable dumps g.given g.text)) }
+    ensures text { OfDumps (T.rack tapes.old) (λ dumps. IfOk result (λ g. IsRestorable dumps g.given g.missing g.text)) }
     ensures tapes { ReadsRackByCause (result ≡ Err LookFault.TapeUnread) (T.rack tapes.old) (T.rack tapes.new) }
     ensures faults { IfErr result (λ e. (e ≡ LookFault.TapeUnread) ⊎ (e ≡ LookFault.NoMemory)) }
 {
@@ -54,11 +57,14 @@ pub fn restorable<T: Tapes>(alloc: Global, tapes: &mut T) -> Result<Given, LookF
 fn given_by(alloc: Global, found: &[Found]) -> Result<Given, LookFault>
     requires few { All HasFew found.now }
     requires known { (dumps : List Dump) × AreKnown found.now dumps }
-    ensures text { IfOk result (λ g. (dumps : List Dump) → AreKnown found.now dumps → IsRestorable dumps g.given g.text) }
+    ensures text { IfOk result (λ g. (dumps : List Dump) → AreKnown found.now dumps → IsRestorable dumps g.given g.missing g.text) }
     ensures faults { IfErr result (λ e. e ≡ LookFault.NoMemory) }
 {
     match fold(alloc, found) {
-        Ok(dumped) => lines_of(alloc, dumped),
+        Ok(dumped) => match missing(alloc, found) {
+            Ok(missing) => lines_of(alloc, dumped, missing),
+            Err(_) => Err(LookFault::NoMemory),
+        },
         Err(StoreFault::NoDump) => refused(alloc, &StoreFault::NoDump),
         Err(StoreFault::LostDirectory(user)) => refused(alloc, &StoreFault::LostDirectory(user)),
         Err(StoreFault::LostCopy(full, serial)) => {
@@ -76,7 +82,11 @@ fn refused(alloc: Global, fault: &StoreFault) -> Result<Given, LookFault>
     ensures faults { IfErr result (λ e. e ≡ LookFault.NoMemory) }
 {
     match refusal_text(alloc, fault) {
-        Ok(text) => Ok(Given { given: false, text }),
+        Ok(text) => Ok(Given {
+            given: false,
+            missing: None,
+            text,
+        }),
         Err(_) => Err(LookFault::NoMemory),
     }
 }
@@ -93,12 +103,13 @@ fn refusal_text(alloc: Global, fault: &StoreFault) -> Result<Text, NoMemory>
     Ok(text)
 }
 
-/// The lines of a dumped directory.
-fn lines_of(alloc: Global, dumped: Dumped) -> Result<Given, LookFault>
+/// The lines of a dumped directory, and of the dump that is missing.
+fn lines_of(alloc: Global, dumped: Dumped, missing: Option<u64>) -> Result<Given, LookFault>
     requires records { IsRecords dumped.users.items dumped.files.items }
     ensures text { IfOk result (λ g. g.text
-        ≡ text_of (dumped_lines dumped.users.items dumped.files.items dumped.number)) }
+        ≡ text_of (dumped_lines dumped.users.items dumped.files.items dumped.number) ++ missing_text missing) }
     ensures given { IfOk result (λ g. g.given ≡ true) }
+    ensures missing { IfOk result (λ g. g.missing ≡ missing) }
     ensures faults { IfErr result (λ e. e ≡ LookFault.NoMemory) }
 {
     let Dumped {
@@ -111,26 +122,49 @@ fn lines_of(alloc: Global, dumped: Dumped) -> Result<Given, LookFault>
         Ok(tree) => tree,
         Err(_) => return Err(LookFault::NoMemory),
     };
-    match tree_text(alloc, &tree, number) {
-        Ok(text) => Ok(Given { given: true, text }),
+    match tree_text(alloc, &tree, number, missing) {
+        Ok(text) => Ok(Given {
+            given: true,
+            missing,
+            text,
+        }),
         Err(_) => Err(LookFault::NoMemory),
     }
 }
 
-/// The lines of all files, and the last line.
-fn tree_text(alloc: Global, tree: &Tree, number: u64) -> Result<Text, NoMemory>
+/// The lines of all files, and what follows them.
+fn tree_text(
+    alloc: Global,
+    tree: &Tree,
+    number: u64,
+    missing: Option<u64>,
+) -> Result<Text, NoMemory>
     ensures { IfOk result (λ text. text ≡ text_of (lines_dumped tree.now.users tree.now.files number
-        (all_numbers tree.now.users tree.now.files))) }
+        (all_numbers tree.now.users tree.now.files)) ++ missing_text missing) }
 {
     let numbers = all_numbers(alloc, tree)?;
     let mut text = Text::new(alloc);
     push_lines(&mut text, tree, numbers.as_slice())?;
     push_told(&mut text, b"RESTORABLE FROM DUMP ", number)?;
     text.push(b'\n')?;
+    push_missing(&mut text, missing)?;
     Ok(text)
 }
 
-/// Puts the lines of the files of these numbers behind the text.
+/// Appends the line of a missing dump to the text, if one is missing.
+fn push_missing(text: &mut Text, missing: Option<u64>) -> Result<(), NoMemory>
+    ensures { OnOk result (text.new ≡ text.old ++ missing_text missing) }
+{
+    match missing {
+        Some(number) => {
+            push_told(text, b"DUMP ", number)?;
+            text.extend(b" MISSING\n")
+        }
+        None => Ok(()),
+    }
+}
+
+/// Appends the lines of the files of these numbers to the text.
 fn push_lines(text: &mut Text, tree: &Tree, numbers: &[u16]) -> Result<(), NoMemory>
     ensures { OnOk result (text.new ≡ text.old
         ++ text_of (flat_map (lines_at (dumped_line tree.now.users) tree.now.files) numbers.now)) }
@@ -144,7 +178,7 @@ fn push_lines(text: &mut Text, tree: &Tree, numbers: &[u16]) -> Result<(), NoMem
     Ok(())
 }
 
-/// Puts the line of the file of this number behind the text, if there is one.
+/// Appends the line of the file of this number to the text, if there is one.
 fn push_numbered(text: &mut Text, tree: &Tree, number: u16) -> Result<(), NoMemory>
     ensures { OnOk result (text.new ≡ text.old
         ++ text_of (lines_at (dumped_line tree.now.users) tree.now.files number)) }
@@ -158,7 +192,7 @@ fn push_numbered(text: &mut Text, tree: &Tree, number: u16) -> Result<(), NoMemo
     }
 }
 
-/// Puts the line of a file behind the text: an empty one counts as on the disc.
+/// Appends the line of a file to the text: an empty one counts as on the disc.
 fn push_line(
     text: &mut Text,
     full: &Full,
@@ -173,7 +207,7 @@ fn push_line(
     text.push(b'\n')
 }
 
-/// Puts that an empty file counts as on the disc behind the text, if the file is empty.
+/// Appends to the text that an empty file counts as on the disc, if the file is empty.
 fn push_empty(text: &mut Text, len: u32) -> Result<(), NoMemory>
     ensures { OnOk result (text.new ≡ text.old ++ empty_text len) }
 {

@@ -25,14 +25,15 @@ use Rattle.g_look_program.specs.declared.words.Asked.TheVariants as asked
 use Rattle.g_look_program.specs.Telling.{Written, IsCut, IsFaultLine, IsQuiet, IsWhole, Puts, EndsQuietly, TellsFault, Tells, TellsBytes, TellsCheck, TellsGiven, verdict, outcome, HoldsOne, EndsCheck, EndsDumps, EndsGiven, EndsList, EndsShow}
 
 -- A TEXT THAT WAS PUT, or a sink that failed
-ends_put : (size : ℕ) (held : Option (List (List ℕ))) (reels : List Reel) (broken : Option Broken) (filestore : Bool) (text : List ℕ) (w : Written)
-    → IsChecked size held reels broken text → IsTrue filestore ↔ HoldsOne held → IsWhole text w → EndsCheck (verdict broken filestore) size held reels w
-ends_put size held reels (Some b) filestore text w checked one whole = (b, (text, checked, whole))
-ends_put size held reels None true text w checked one whole = ((text, checked, whole), one.0 refl)
-ends_put size held reels None false text w checked one whole = ((text, checked, whole), λ holds. let not : false ≡ true = one.1 holds in cc)
+ends_put : (size : ℕ) (held : Option (List (List ℕ))) (reels : List Reel) (broken : Option Broken) (missing : Option ℕ) (filestore : Bool) (text : List ℕ) (w : Written)
+    → IsChecked size held reels broken missing text → IsTrue filestore ↔ HoldsOne held → IsWhole text w → EndsCheck (verdict broken missing filestore) size held reels w
+ends_put size held reels (Some b) missing filestore text w checked one whole = inl (b, missing, (text, checked, whole))
+ends_put size held reels None (Some n) filestore text w checked one whole = inr (n, (text, checked, whole))
+ends_put size held reels None None true text w checked one whole = ((text, checked, whole), one.0 refl)
+ends_put size held reels None None false text w checked one whole = ((text, checked, whole), λ holds. let not : false ≡ true = one.1 holds in cc)
 
 ends_as : (size : ℕ) (held : Option (List (List ℕ))) (reels : List Reel) (due ended : Status) (text : List ℕ) (w : Written)
-    → (IsWhole text w → EndsCheck due size held reels w) → ((broken : Option Broken) × IsChecked size held reels broken text) ⊎ IsFaultLine text → Puts due text ended w → EndsCheck ended size held reels w
+    → (IsWhole text w → EndsCheck due size held reels w) → ((broken : Option Broken) × (missing : Option ℕ) × IsChecked size held reels broken missing text) ⊎ IsFaultLine text → Puts due text ended w → EndsCheck ended size held reels w
 ends_as size held reels due ended text w good due_text (inl (is, whole)) = subst (λ (s : Status). EndsCheck s size held reels w) (sym is) (good whole)
 ends_as size held reels due ended text w good due_text (inr (is, cut)) = subst (λ (s : Status). EndsCheck s size held reels w) (sym is) (text, due_text, cut)
 
@@ -64,12 +65,13 @@ holds_one held blocks filestore is both =
 
 -- A CHECK ENDS AS IT MUST
 pub ends_check : (size : ℕ) (held : Option (List (List ℕ))) (reels : List Reel) (found : Result Checked LookFault) (ended : Status) (w : Written)
-    → IfOk found (λ c. IsChecked size held reels c.broken c.text)
+    → IfOk found (λ c. IsChecked size held reels c.verdict.broken c.verdict.missing c.text)
     → ForSome held (λ blocks. IfOk found (λ c. IsTrue c.filestore ↔ ((d : Directory) × StandsFor blocks d)))
     → IfErr found CheckFaults → TellsCheck found ended w → EndsCheck ended size held reels w
 ends_check size held reels (Ok c) ended w right filestore faults tells =
     let one : IsTrue c.filestore ↔ HoldsOne held = holds_one held right.blocks c.filestore right.is_told filestore in
-    ends_as size held reels (verdict c.broken c.filestore) ended c.text w (ends_put size held reels c.broken c.filestore c.text w right one) (inl (c.broken, right)) tells
+    ends_as size held reels (verdict c.verdict.broken c.verdict.missing c.filestore) ended c.text w (ends_put size held reels c.verdict.broken c.verdict.missing c.filestore c.text w right one)
+    (inl (c.verdict.broken, c.verdict.missing, right)) tells
 ends_check size held reels (Err why) ended w right filestore faults tells = ends_fault size held reels why ended w faults tells
 
 -- A LOOK AT THE DUMPS ENDS AS IT MUST
@@ -138,12 +140,13 @@ module _ (dumps : List Dump) (ended : Status) (w : Written) where
   abbrev Giving : Status → Type 0
   Giving s = EndsGiven s dumps w
 
-  by_given : (given : Bool) (text : List ℕ) → IsRestorable dumps given text → Puts (outcome given) text ended w → EndsGiven ended dumps w
-  by_given true text is puts = put_ends Giving status.Done ended text w (λ whole. (text, is, whole)) (λ cut. (text, inl (true, is), cut)) puts
-  by_given false text is puts = put_ends Giving status.No ended text w (λ whole. (text, is, whole)) (λ cut. (text, inl (false, is), cut)) puts
+  by_given : (given : Bool) (missing : Option ℕ) (text : List ℕ) → IsRestorable dumps given missing text → Puts (outcome given missing) text ended w → EndsGiven ended dumps w
+  by_given true None text is puts = put_ends Giving status.Done ended text w (λ whole. (text, is, whole)) (λ cut. (text, inl (true, None, is), cut)) puts
+  by_given true (Some n) text is puts = put_ends Giving status.No ended text w (λ whole. (text, inl (n, is), whole)) (λ cut. (text, inl (true, Some n, is), cut)) puts
+  by_given false missing text is puts = put_ends Giving status.No ended text w (λ whole. (text, inr is, whole)) (λ cut. (text, inl (false, missing, is), cut)) puts
 
-  pub ends_given : (found : Result Given LookFault) → IfOk found (λ g. IsRestorable dumps g.given g.text) → IfErr found RackFaults → TellsGiven found ended w → EndsGiven ended dumps w
-  ends_given (Ok g) is faults tells = by_given g.given g.text is tells
+  pub ends_given : (found : Result Given LookFault) → IfOk found (λ g. IsRestorable dumps g.given g.missing g.text) → IfErr found RackFaults → TellsGiven found ended w → EndsGiven ended dumps w
+  ends_given (Ok g) is faults tells = by_given g.given g.missing g.text is tells
   ends_given (Err why) is (inl unread) tells =
       put_ends Giving status.Unread ended (codes "TAPE READ\n") w (λ whole. whole) (λ cut. (codes "TAPE READ\n", inr (inr (inl refl)), cut)) (subst (λ (f : LookFault). TellsFault f ended w) unread tells)
   ends_given (Err why) is (inr memory) tells = quiet_ends Giving status.NoMemory ended w (λ quiet. quiet) (subst (λ (f : LookFault). TellsFault f ended w) memory tells)

@@ -22,7 +22,7 @@ use Rattle.g_look.specs.Text.{IsChecked, rack_lines}
 use Rattle.g_look_program.specs.declared.status.Status.{Status}
 use Rattle.g_look_program.specs.declared.status.Status.TheVariants as status
 
--- what was written to a sink before and behind a look, and the counts of its faults
+-- what was written to a sink before and after a look, and the counts of its faults
 pub record Written : Type 0 where
   pub before : Option (List ℕ)
   pub after : Option (List ℕ)
@@ -89,41 +89,44 @@ abbrev pub TellsBytes : Result (List ℕ) LookFault → Status → Written → T
 TellsBytes (Ok bytes) ended w = Puts status.Done bytes ended w
 TellsBytes (Err why) ended w = EndsQuietly (status_of why) ended w
 
--- the status of a check: what is broken, and whether the disc holds a filestore
-abbrev pub verdict : Option Broken → Bool → Status
-verdict (Some broken) filestore = status.No
-verdict None true = status.Done
-verdict None false = status.Nothing
+-- the status of a check: what is broken, which dump is missing, and whether the disc holds a filestore
+abbrev pub verdict : Option Broken → Option ℕ → Bool → Status
+verdict (Some broken) missing filestore = status.No
+verdict None (Some number) filestore = status.No
+verdict None None true = status.Done
+verdict None None false = status.Nothing
 
 abbrev pub TellsCheck : Result Checked LookFault → Status → Written → Type 0
-TellsCheck (Ok c) ended w = Puts (verdict c.broken c.filestore) c.text ended w
+TellsCheck (Ok c) ended w = Puts (verdict c.verdict.broken c.verdict.missing c.filestore) c.text ended w
 TellsCheck (Err why) ended w = TellsFault why ended w
 
--- the status of what a restore would give, or of its refusal
-abbrev pub outcome : Bool → Status
-outcome true = status.Done
-outcome false = status.No
+-- the status of what a restore would give, with the dump that is missing, or of its refusal
+abbrev pub outcome : Bool → Option ℕ → Status
+outcome true None = status.Done
+outcome true (Some number) = status.No
+outcome false missing = status.No
 
 abbrev pub TellsGiven : Result Given LookFault → Status → Written → Type 0
-TellsGiven (Ok r) ended w = Puts (outcome r.given) r.text ended w
+TellsGiven (Ok r) ended w = Puts (outcome r.given r.missing) r.text ended w
 TellsGiven (Err why) ended w = TellsFault why ended w
 
 -- the disc stands for a filestore
 abbrev pub HoldsOne : Option (List (List ℕ)) → Type 0
 HoldsOne held = (blocks : List (List ℕ)) × (held ≡ Some blocks) × (d : Directory) × StandsFor blocks d
 
--- the text of a check with this verdict
-abbrev pub IsTextOf : ℕ → Option (List (List ℕ)) → List Reel → Option Broken → Written → Type 0
-IsTextOf size held reels broken w = (text : List ℕ) × IsChecked size held reels broken text × IsWhole text w
+-- the text of a check with this verdict on the rules 1 to 12 and on rule 13
+abbrev pub IsTextOf : ℕ → Option (List (List ℕ)) → List Reel → Option Broken → Option ℕ → Written → Type 0
+IsTextOf size held reels broken missing w = (text : List ℕ) × IsChecked size held reels broken missing text × IsWhole text w
 
--- THE END OF A CHECK of devices that tell: its text is put, and the status says whether they belong together, and whether the disc
--- holds a filestore. Or a device, the sink or memory failed; where the sink failed a front of the due text was put.
+-- THE END OF A CHECK of devices whose content is known: its text is printed, and the status says whether they belong together and no dump is missing, and
+-- whether the disc holds a filestore. Or a device, the sink or memory failed; where the sink failed a front of the due text was put.
 abbrev pub EndsCheck : Status → ℕ → Option (List (List ℕ)) → List Reel → Written → Type 0
-EndsCheck status.Done size held reels w = IsTextOf size held reels None w × HoldsOne held
-EndsCheck status.Nothing size held reels w = IsTextOf size held reels None w × (HoldsOne held → ⊥)
-EndsCheck status.No size held reels w = (b : Broken) × IsTextOf size held reels (Some b) w
+EndsCheck status.Done size held reels w = IsTextOf size held reels None None w × HoldsOne held
+EndsCheck status.Nothing size held reels w = IsTextOf size held reels None None w × (HoldsOne held → ⊥)
+EndsCheck status.No size held reels w =
+    ((b : Broken) × (missing : Option ℕ) × IsTextOf size held reels (Some b) missing w) ⊎ ((n : ℕ) × IsTextOf size held reels None (Some n) w)
 EndsCheck status.Unread size held reels w = IsWhole (codes "DISC READ\n") w ⊎ IsWhole (codes "TAPE READ\n") w
-EndsCheck status.OutputFault size held reels w = IsCutOf (λ text. ((broken : Option Broken) × IsChecked size held reels broken text) ⊎ IsFaultLine text) w
+EndsCheck status.OutputFault size held reels w = IsCutOf (λ text. ((broken : Option Broken) × (missing : Option ℕ) × IsChecked size held reels broken missing text) ⊎ IsFaultLine text) w
 EndsCheck status.NoMemory size held reels w = IsQuiet w
 EndsCheck status.Words size held reels w = ⊥
 
@@ -158,12 +161,13 @@ EndsShow status.OutputFault blocks dumps path w = IsCutOf (IsShown blocks dumps 
 EndsShow status.NoMemory blocks dumps path w = IsQuiet w
 EndsShow other blocks dumps path w = ⊥
 
--- THE END OF A LOOK AT WHAT CAN BE RESTORED, where the reels tell
+-- THE END OF A LOOK AT WHAT CAN BE RESTORED from reels whose content is known
 abbrev pub EndsGiven : Status → List Dump → Written → Type 0
-EndsGiven status.Done dumps w = (text : List ℕ) × IsRestorable dumps true text × IsWhole text w
-EndsGiven status.No dumps w = (text : List ℕ) × IsRestorable dumps false text × IsWhole text w
+EndsGiven status.Done dumps w = (text : List ℕ) × IsRestorable dumps true None text × IsWhole text w
+EndsGiven status.No dumps w =
+    (text : List ℕ) × (((n : ℕ) × IsRestorable dumps true (Some n) text) ⊎ IsRestorable dumps false None text) × IsWhole text w
 EndsGiven status.Unread dumps w = IsWhole (codes "TAPE READ\n") w
-EndsGiven status.OutputFault dumps w = IsCutOf (λ text. ((given : Bool) × IsRestorable dumps given text) ⊎ IsFaultLine text) w
+EndsGiven status.OutputFault dumps w = IsCutOf (λ text. ((given : Bool) × (missing : Option ℕ) × IsRestorable dumps given missing text) ⊎ IsFaultLine text) w
 EndsGiven status.NoMemory dumps w = IsQuiet w
 EndsGiven other dumps w = ⊥
 

@@ -5,9 +5,10 @@ ghost use Rattle.g_look_program.specs.Exit.{code_of};
 /// The status of a look. Each has a number, the program's exit status.
 #[derive(Clone, Copy, PartialEq, Eq)]
 pub enum Status {
-    /// What was asked for was told; of a check, that disc and rack belong together and the disc holds a filestore.
+    /// The text was printed; of a check, that disc and rack belong together, no dump is missing and the disc holds a
+    /// filestore.
     Done,
-    /// The answer is no: a rule is broken, no such file or user is there, the rack can't be restored.
+    /// The answer is no: a rule is broken, no such file or user is there, the rack can't be restored, a dump is missing.
     No,
     /// The words of the command line aren't known.
     Words,
@@ -15,9 +16,9 @@ pub enum Status {
     Unread,
     /// The sink failed, and its count of faults rose.
     OutputFault,
-    /// Memory was wanting.
+    /// Memory ran out.
     NoMemory,
-    /// Of a check: disc and rack belong together, and the disc holds no filestore.
+    /// Of a check: disc and rack belong together, no dump is missing, and the disc holds no filestore.
     Nothing,
 }
 

@@ -1,4 +1,4 @@
-//! What is told of an answer, and the status with it.
+//! What is printed for an answer, and the status with it.
 ghost use Rattle.std.specs.Prelude.{◌≡◌};
 ghost use Rattle.g_look_program.specs.Telling as told;
 
@@ -20,15 +20,15 @@ pub(crate) fn tell_check<K: Sink>(out: &mut K, found: Result<Checked, LookFault>
 
 /// The status of a check.
 fn verdict(checked: &Checked) -> Status
-    ensures { result ≡ told.verdict checked.now.broken checked.now.filestore }
+    ensures { result ≡ told.verdict checked.now.verdict.broken checked.now.verdict.missing checked.now.filestore }
 {
-    match &checked.broken {
-        Some(_) => Status::No,
-        None => if checked.filestore {
-            Status::Done
-        } else {
-            Status::Nothing
-        },
+    if checked.verdict.broken.is_some() || checked.verdict.missing.is_some() {
+        return Status::No;
+    }
+    if checked.filestore {
+        Status::Done
+    } else {
+        Status::Nothing
     }
 }
 
@@ -45,9 +45,9 @@ pub(crate) fn tell_restorable<K: Sink>(out: &mut K, found: Result<Given, LookFau
 
 /// The status of what a restore would give.
 fn outcome(given: &Given) -> Status
-    ensures { result ≡ told.outcome given.now.given }
+    ensures { result ≡ told.outcome given.now.given given.now.missing }
 {
-    if given.given {
+    if given.given && given.missing.is_none() {
         Status::Done
     } else {
         Status::No
@@ -76,7 +76,7 @@ pub(crate) fn tell_bytes<K: Sink>(out: &mut K, found: Result<Text, LookFault>) -
     }
 }
 
-/// Tells why nothing else is told.
+/// Prints why there is no other text.
 fn tell_fault<K: Sink>(out: &mut K, fault: LookFault) -> Status
     ensures { told.TellsFault fault result
         (record { before = K.written out.old; after = K.written out.new; faults_before = K.faults out.old; faults_after = K.faults out.new }) }
@@ -92,7 +92,7 @@ fn tell_fault<K: Sink>(out: &mut K, fault: LookFault) -> Status
     }
 }
 
-/// The status with which a look ends that tells nothing.
+/// The status of a look that prints nothing.
 fn status_of(fault: LookFault) -> Status
     ensures { result ≡ told.status_of fault }
 {
@@ -107,7 +107,7 @@ fn status_of(fault: LookFault) -> Status
     }
 }
 
-/// Puts a text, and ends with this status where that was done.
+/// Prints a text, and ends with this status unless the sink fails.
 pub(crate) fn put<K: Sink>(out: &mut K, text: &[u8], status: Status) -> Status
     ensures { told.Puts status text.now result
         (record { before = K.written out.old; after = K.written out.new; faults_before = K.faults out.old; faults_after = K.faults out.new }) }

@@ -1,5 +1,3 @@
-use Rattle.std.proofs.Common.{ℕ, ◌<◌, get_or}
-use Rattle.g_entry.specs.declared.file_rec.FileRec.{FileRec}
 use Rattle.g_look.proofs.bytes.compare_files.Given as goal
 use Rattle.g_look.proofs.ReadLemmas.{ComparedSoFar, AreReadUpto}
 

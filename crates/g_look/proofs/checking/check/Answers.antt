@@ -8,9 +8,9 @@ judge-requires-clause-mounted g c = mounted_told (g.T.Tapes.rack c.args.tapes.no
 
 pub returns-in-Ok-check_text-clause-right : goal.returns-in-Ok-check_text-clause-right
 returns-in-Ok-check_text-clause-right g c =
-    checked_at _ _ _ _ _ _ _ _ _ _ _ _ _ (c.size-size.ensures.size ∙ c.in-Ok-judge.ensures.disc.size ∙ c.in-Ok-see_disc.ensures.reads.size) c.in-Ok-see_disc.ensures.reads.held
-    c.in-Ok.ensures.tapes.only.reels c.in-Ok-judge.ensures.tapes.only.reels c.as_slice.ensures.value c.as_slice-2.ensures.value c.in-Ok.ensures.seen c.in-Ok-see_disc.ensures.standing
-    c.in-Ok-judge.ensures.right c.in-Ok-check_text.ensures
+    checked_at _ _ _ _ _ _ _ _ _ _ _ _ _ _ _ (c.size-size.ensures.size ∙ c.in-Ok-judge.ensures.disc.size ∙ c.in-Ok-see_disc.ensures.reads.size) c.in-Ok-see_disc.ensures.reads.held
+    c.in-Ok.ensures.tapes.only.reels c.in-Ok-judge.ensures.tapes.only.reels c.as_slice.ensures.value c.as_slice-2.ensures.value c.as_slice-3.ensures.value c.in-Ok.ensures.seen c.in-Ok-see_disc.ensures.standing
+    c.in-Ok-judge.ensures.right c.in-Ok-missing.ensures c.in-Ok-check_text.ensures
 
 pub returns-in-Ok-check_text-clause-filestore : goal.returns-in-Ok-check_text-clause-filestore
 returns-in-Ok-check_text-clause-filestore g c = λ blocks told. rw c.is_some.ensures (holds_filestore _ _ _ blocks c.in-Ok-see_disc.ensures.standing told)

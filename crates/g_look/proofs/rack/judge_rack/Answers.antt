@@ -1,5 +1,5 @@
 use Rattle.std.proofs.Common.{Err, ap}
-use Rattle.g_look.proofs.RackLemmas.{first_copy, first_directory, first_falling, first_twice, moved_as, passed_none, passed_some}
+use Rattle.g_look.proofs.RackLemmas.{first_copy, first_directory, first_falling, first_twice, moved_as, passed_some}
 use Rattle.g_look.proofs.rack.judge_rack.Goals as goal
 
 pub returns-in-Some-clause-judged : goal.returns-in-Some-clause-judged

@@ -1,5 +1,3 @@
-use Rattle.std.proofs.Common.{sym}
-use Rattle.g_look.proofs.PushLemmas.{on_ok}
 use Rattle.g_look.proofs.ShownLemmas.{reel_shown_at}
 use Rattle.g_look.proofs.rack_text.push_reel.Goals as goal
 

@@ -2,8 +2,8 @@ use Rattle.g_plain.specs.declared.faults.StoreFault.TheVariants.{LostCopy, LostD
 use Rattle.g_look.proofs.GivenLemmas.{given_ok, refused_ok}
 use Rattle.g_look.proofs.restoring.given_by.Goals as goal
 
-pub returns-in-Ok-clause-text : goal.returns-in-Ok-clause-text
-returns-in-Ok-clause-text c = given_ok _ _ c.in-Ok.ensures.ok _ c.lines_of.ensures.text c.lines_of.ensures.given
+pub returns-in-Ok-missing-clause-text : goal.returns-in-Ok-missing-clause-text
+returns-in-Ok-missing-clause-text c = given_ok _ _ c.in-Ok.ensures.ok _ c.in-Ok-missing.ensures _ c.lines_of.ensures.text c.lines_of.ensures.given c.lines_of.ensures.missing
 
 pub returns-in-Err-LostDirectory-clause-text : goal.returns-in-Err-LostDirectory-clause-text
 returns-in-Err-LostDirectory-clause-text c =
