@@ -36,7 +36,10 @@ pub fn open_image(rt: &HostRuntime, path: &str) -> io::Result<FileDisc<HostFile>
 /// Opens an existing image read-only, with a shared lock that keeps off runs. Also returns which file it is.
 ///
 /// The error is `NotFound` if there is none, `WouldBlock` if a run has it; otherwise it is as `open_image`'s.
-pub(crate) fn look_at_image(rt: &HostRuntime, path: &str) -> io::Result<(FileDisc<HostFile>, FileId)>
+pub(crate) fn look_at_image(
+    rt: &HostRuntime,
+    path: &str,
+) -> io::Result<(FileDisc<HostFile>, FileId)>
     ensures { IfOk result (λ image. (2177 < disc_size image.0) × (disc_size image.0 ≤ 1048576)) }
 {
     let file = open_file(rt, path, Access::Look)?;

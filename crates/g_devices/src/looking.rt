@@ -14,7 +14,11 @@ use std::io::{self, Error, ErrorKind};
 ///
 /// The error is `NotFound` where either isn't there, `WouldBlock` where a run has one of their files, or where two of them
 /// are one file; else it is as `open_image`'s and `open_rack`'s.
-pub fn look_at(rt: &HostRuntime, path: &str, folder: &str) -> io::Result<(FileDisc<HostFile>, FileTapes)>
+pub fn look_at(
+    rt: &HostRuntime,
+    path: &str,
+    folder: &str,
+) -> io::Result<(FileDisc<HostFile>, FileTapes)>
     ensures { IfOk result (λ devices. (2177 < disc_size devices.0) × (disc_size devices.0 ≤ 1048576)) }
 {
     let (disc, id) = look_at_image(rt, path)?;
