@@ -1,10 +1,10 @@
-//! A file of the operating system: each method is one system call. Its bytes aren't observable; if its answers are those of a
-//! plain file, everything proved of files whose bytes are observable applies to it.
+//! Files and streams of the operating system: each method is one system call. Their bytes aren't observable; if the answers are those
+//! of plain files and streams, everything proved of those whose bytes are observable applies to them.
 ghost use Rattle.std.specs.Prelude.{None};
 
-use g_files::RawFile;
+use g_files::{RawFile, RawInput, RawOutput};
 use std::fs::File;
-use std::io::{self, Error, ErrorKind};
+use std::io::{self, Error, ErrorKind, Read, Write};
 use std::os::unix::fs::FileExt;
 
 /// An open file of the system.
@@ -50,5 +50,45 @@ impl RawFile for HostFile {
 
     fn sync(&mut self) -> io::Result<()> {
         self.file.sync_data()
+    }
+}
+
+/// A stream of the system to read from.
+#[derive(Drop)]
+pub struct HostInput<R: Read + Drop> {
+    reader: R,
+}
+
+impl<R: Read + Drop> HostInput<R> {
+    pub fn new(reader: R) -> Self {
+        HostInput { reader }
+    }
+}
+
+impl<R: Read + Drop> RawInput for HostInput<R> {
+    ghost left = { λ s. None };
+
+    fn read(&mut self, into: &mut [u8]) -> io::Result<usize> {
+        self.reader.read(into)
+    }
+}
+
+/// A stream of the system to write to.
+#[derive(Drop)]
+pub struct HostOutput<W: Write + Drop> {
+    writer: W,
+}
+
+impl<W: Write + Drop> HostOutput<W> {
+    pub fn new(writer: W) -> Self {
+        HostOutput { writer }
+    }
+}
+
+impl<W: Write + Drop> RawOutput for HostOutput<W> {
+    ghost written = { λ s. None };
+
+    fn write(&mut self, piece: &[u8]) -> io::Result<usize> {
+        self.writer.write(piece)
     }
 }

@@ -22,12 +22,12 @@ mod streams;
 mod words;
 
 pub use file_tapes::FileTapes;
-pub use host::HostFile;
+pub use host::{HostFile, HostInput, HostOutput};
 pub use image::open_image;
 pub use looking::look_at;
 pub use names::is_there;
 pub use pair::open_duplex;
 pub use pair_fault::PairFault;
 pub use rack::open_rack;
-pub use streams::{StdSink, StdSource, placeholders};
+pub use streams::placeholders;
 pub use words::{texts_of, words_of};

@@ -4,3 +4,5 @@ pub mod BytesLemmas
 pub mod CallLemmas
 pub mod DiscLemmas
 pub mod ImageLemmas
+pub mod MemoryLemmas
+pub mod StreamLemmas

@@ -30,6 +30,7 @@ pub trait RawFile {
     /// one or the one to be written. A call that a signal interrupted wrote nothing.
     fn write_at(&mut self, from: &[u8], at: u64) -> io::Result<usize>
         requires within { ForSome (content self.old) (λ bytes. at ≤ length bytes) }
+        requires bytes { AreBytes from.now }
         ensures count { IfOk result (λ n. n ≤ length from.now) }
         ensures written { Changes (HasWritten at from.now result) (content self.old) (content self.new) }
         ensures interrupted { IfErr result (λ e. error_kind e ≡ ErrorKind.Interrupted → content self.new ≡ content self.old) };

@@ -3,7 +3,7 @@ ghost use Rattle.std.specs.Prelude.{◌≡◌, ◌+◌, ◌^◌, ◌<◌, ◌≤
 ghost use Rattle.std.specs.Option.{ForSome};
 ghost use Rattle.std.specs.IoError.{error_kind};
 ghost use Rattle.g_base.specs.ToldContent.{Changes};
-ghost use Rattle.g_files.specs.Bytes.{part};
+ghost use Rattle.g_files.specs.Bytes.{AreBytes, part};
 ghost use Rattle.g_files.specs.Calls.{HasWrittenAll};
 
 use crate::raw::RawFile;
@@ -36,6 +36,7 @@ pub(crate) fn read_whole<F: RawFile>(file: &mut F, into: &mut [u8], at: u64) -> 
 pub(crate) fn write_whole<F: RawFile>(file: &mut F, from: &[u8], at: u64) -> io::Result<()>
     requires fits { at + length from.now < 2 ^ 63 }
     requires within { ForSome (F.content file.old) (λ bytes. at ≤ length bytes) }
+    requires bytes { AreBytes from.now }
     ensures written { Changes (HasWrittenAll at from.now result) (F.content file.old) (F.content file.new) }
 {
     let mut done = 0;
@@ -54,7 +55,7 @@ pub(crate) fn write_whole<F: RawFile>(file: &mut F, from: &[u8], at: u64) -> io:
 }
 
 /// Whether a signal interrupted the call, which then did nothing.
-fn is_interrupted(fault: &Error) -> bool
+pub(crate) fn is_interrupted(fault: &Error) -> bool
     ensures { IsTrue result ↔ (error_kind fault.now ≡ ErrorKind.Interrupted) }
 {
     fault.kind() == ErrorKind::Interrupted

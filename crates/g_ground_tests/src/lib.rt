@@ -17,6 +17,8 @@ mod devices;
 #[cfg(test)]
 mod discs;
 #[cfg(test)]
+mod files;
+#[cfg(test)]
 mod names;
 #[cfg(test)]
 mod numbers;

@@ -14,8 +14,9 @@ ghost use Rattle.g_look_program.specs.Words.{AskNothing, texts_of};
 use crate::mount::mount_all;
 use crate::tell::{put, tell, tell_bytes, tell_check, tell_restorable};
 use crate::{Asked, Status, asked_by};
-use g_devices::{StdSink, look_at};
+use g_devices::{HostOutput, look_at};
 use g_disc::Disc;
+use g_files::StdSink;
 use g_io::Sink;
 use g_known::KnownReels;
 use g_look::{check, dumps, list, restorable, show};
@@ -36,7 +37,7 @@ const RACK: &str = "george.tapes";
 pub fn answer(rt: &HostRuntime, words: &[&str]) -> u8
     ensures { (AskNothing (texts_of words.now) × IsExit IsOfWords result) ⊎ (result ≡ 7) ⊎ IsExit IsOfLook result }
 {
-    let mut out = StdSink::new(io::writer(rt));
+    let mut out = StdSink::new(HostOutput::new(io::writer(rt)));
     match asked_by(words) {
         Some(asked) => on_files(rt, &asked, &mut out),
         None => put(&mut out, b"WORDS NOT KNOWN\n", Status::Words).code(),

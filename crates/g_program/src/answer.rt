@@ -10,12 +10,12 @@ use crate::telling::{tell_lost, tell_rebuilt, tell_unusable};
 use g_base::NoMemory;
 use g_demo::{Asked, asked_by};
 use g_devices::{
-    FileTapes, HostFile, PairFault, StdSink, StdSource, is_there, open_duplex, open_image,
+    FileTapes, HostFile, HostInput, HostOutput, PairFault, is_there, open_duplex, open_image,
     open_rack,
 };
 use g_disc::{Disc, MemoryDisc};
 use g_duplex::Duplex;
-use g_files::FileDisc;
+use g_files::{FileDisc, StdSink, StdSource};
 use g_run::{Finish, Status};
 use g_tape::{MemoryTapes, Tapes};
 use std::alloc::Global;
@@ -129,7 +129,7 @@ fn run<D: Disc, T: Tapes>(rt: &HostRuntime, words: &[&str], disc: D, tapes: T) -
     ensures unknown { AskNothing (texts_of words.now) → IsOfWords result.status }
     ensures known { IsRun words.now → IsOfRun result.status }
 {
-    let mut script = StdSource::new(rt.reader());
-    let mut out = StdSink::new(io::writer(rt));
+    let mut script = StdSource::new(HostInput::new(rt.reader()));
+    let mut out = StdSink::new(HostOutput::new(io::writer(rt)));
     run_by_rules(rt.alloc(), words, &mut script, &mut out, disc, tapes)
 }

@@ -1,7 +1,8 @@
 //! Standard input and output, which a signal may interrupt.
 use crate::streams::{put_into, take_from};
 use g_base::{ReadFailed, WriteFailed};
-use g_devices::{StdSink, StdSource};
+use g_devices::{HostInput, HostOutput};
+use g_files::{StdSink, StdSource};
 use std::io::{self, Error, ErrorKind, Read, Write};
 
 /// A stream that is interrupted, moves a byte, ends or moves another, and then fails.
@@ -42,12 +43,12 @@ impl Write for Line {
 
 #[test]
 fn an_interrupted_call_is_tried_again(rt: HostRuntime) {
-    let mut source = StdSource::new(Line { calls: 0 });
+    let mut source = StdSource::new(HostInput::new(Line { calls: 0 }));
     let mut into = [0; 4];
     assert!(rt; take_from(&mut source, &mut into) == Ok(1) && into[0] == 9);
     assert!(rt; take_from(&mut source, &mut into) == Ok(0) && into[0] == 9);
     assert!(rt; take_from(&mut source, &mut into) == Err(ReadFailed));
-    let mut sink = StdSink::new(Line { calls: 0 });
+    let mut sink = StdSink::new(HostOutput::new(Line { calls: 0 }));
     assert!(rt; put_into(&mut sink, b"AB") == Ok(()));
     assert!(rt; put_into(&mut sink, b"C") == Err(WriteFailed));
 }

@@ -1,9 +1,16 @@
 use Rattle.std.proofs.Common.{◌-◌, length, take, drop, arith, length-take, length-drop}
 use Rattle.std.proofs.lemmas.List.{take_rest}
+use Rattle.g_files.proofs.BytesLemmas.{AreBytes-drop, AreBytes-take}
 use Rattle.g_files.proofs.CallLemmas.{write_step, write_fails, changes_before}
 use Rattle.std.specs.declared.io.Error.{Error}
 use Rattle.g_files.proofs.whole.write_whole.Goals as goal
 use Rattle.g_files.proofs.whole.write_whole.Goals.{in-Ok, in-Err}
+
+pub write_at-requires-clause-bytes : goal.write_at-requires-clause-bytes
+write_at-requires-clause-bytes g c =
+    let done = c.loop-call.done in
+    let from = c.args.from.now in
+    AreBytes-take (length from - done) (drop done from) (AreBytes-drop done from c.requires.bytes)
 
 pub returns-in-Err-2 : goal.returns-in-Err-2
 returns-in-Err-2 g c =

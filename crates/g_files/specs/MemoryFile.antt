@@ -1,0 +1,6 @@
+-- A file in memory.
+use Rattle.std.specs.Prelude.{ℕ, List}
+use Rattle.g_files.specs.declared.memory_file.MemoryFile.{MemoryFile}
+
+abbrev pub bytes_of : MemoryFile → List ℕ
+bytes_of f = f.bytes.items
