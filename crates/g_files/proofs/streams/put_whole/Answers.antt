@@ -1,4 +1,4 @@
-use Rattle.std.proofs.Common.{◌≡◌, ◌+◌, ◌-◌, ◌≤◌, length, take, drop, arith, length-take, length-drop, ◌∙◌}
+use Rattle.std.proofs.Common.{◌-◌, length, take, drop, arith, length-take, length-drop, ◌∙◌}
 use Rattle.std.proofs.lemmas.List.{take_rest}
 use Rattle.g_files.proofs.StreamLemmas.{more_step}
 use Rattle.g_files.proofs.streams.put_whole.Goals as goal

@@ -1,4 +1,4 @@
-use Rattle.std.proofs.Common.{◌*◌, ◌∙◌, arith, sym}
+use Rattle.std.proofs.Common.{◌*◌, ◌∙◌, arith}
 use Rattle.std.proofs.lemmas.Result.{on_ok_weaker}
 use Rattle.g_files.proofs.ImageLemmas.{read_held, read_beside}
 use Rattle.g_files.proofs.image.Image.read.Goals as goal

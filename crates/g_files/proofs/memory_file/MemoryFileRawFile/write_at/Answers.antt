@@ -1,4 +1,4 @@
-use Rattle.std.proofs.Common.{ℕ, Err, List, subst, take}
+use Rattle.std.proofs.Common.{ℕ, List, subst, take}
 use Rattle.g_files.specs.Calls.{HasWritten, IsMixed}
 use Rattle.g_files.proofs.BytesLemmas.{AreBytes-take}
 use Rattle.g_files.proofs.MemoryLemmas.{changes_some, torn_part, written_bytes, written_part}
