@@ -1,5 +1,4 @@
--- What follows of the fields of blocks: their lengths, how a writer goes on, and which bytes two
--- equal fields have.
+-- Fields of blocks: their lengths, how a writer continues, and which bytes equal fields have.
 use Rattle.std.proofs.Common.{◌≡◌, ℕ, ◌+◌, ◌-◌, ◌^◌, ◌<◌, ◌≤◌, List, [], ◌∷◌, ◌++◌, length, take, drop, replicate, refl, sym, ap, ◌∙◌, arith, length-append, length-set, length-take-le, take-append-drop}
 use Rattle.std.proofs.Math.ListN.{set}
 use Rattle.std.proofs.lemmas.Slice.{drop-put_mid}
@@ -21,12 +20,12 @@ length-padded n bytes fits =
 -- the lengths of fields that were appended to each other
 pub ruleset length_fields = (length-append, length-number, length-padded)
 
--- the zeros behind one byte more
+-- After a byte is written at `at`, the bytes from `at` + 1 on are zero.
 pub zeros_behind : (at : ℕ) (block : List ℕ) (x : ℕ) → at < 512 → drop at block ≡ replicate (512 - at) 0 → drop (at + 1) (set block at x) ≡ replicate (512 - (at + 1)) 0
 zeros_behind at block x below zeros =
     drop-set-lt (at + 1) block at x (omega arith) ∙ sym (drop-drop 1 at block) ∙ ap (drop 1) zeros ∙ drop-replicate 1 (512 - at) 0 ∙ ap (λ (n : ℕ). replicate {A = ℕ} n 0) (let e : 512 - at - 1 ≡ 512 - (at + 1) = omega arith in e)
 
--- the zeros further behind
+-- The bytes further on are zero too.
 pub zeros_further : (at count : ℕ) (block : List ℕ) → at + count ≤ 512 → drop at block ≡ replicate (512 - at) 0 → drop (at + count) block ≡ replicate (512 - (at + count)) 0
 zeros_further at count block fits zeros =
     sym (drop-drop count at block) ∙ ap (drop count) zeros ∙ drop-replicate count (512 - at) 0
@@ -55,7 +54,7 @@ more_bytes at block bytes now is fits was =
       zeros = ends ∙ zeros_further at (length bytes) block fits was.zeros;
     }
 
--- and under more zeros, which stand there already
+-- The same after skipping zeros.
 pub more_zeros : (at count : ℕ) (block : List ℕ) → at + count ≤ 512 → IsPartWritten at block → IsPartWritten (at + count) block
 more_zeros at count block fits was = record {
   within = fits;
@@ -89,7 +88,7 @@ begun_again at block front is was =
       zeros = all;
     }
 
--- a writer's block is what was put, with zeros behind it
+-- A writer's block is what was written, padded with zeros.
 pub block_is_padded : (at : ℕ) (block : List ℕ) → IsPartWritten at block → block ≡ padded 512 (take at block)
 unfolding padded
 block_is_padded at block was =
@@ -124,7 +123,7 @@ same_bytes n x y a b long_x long_y is =
 pub same_byte : (x y : ℕ) (a b : List ℕ) → x ∷ a ≡ y ∷ b → (x ≡ y) × (a ≡ b)
 same_byte x y a b is = (cc, cc)
 
--- a number that was taken off the front is the one that stood there
+-- A number that was read from the front is the number that was encoded there.
 pub number_taken : (n x : ℕ) (bytes taken left rest : List ℕ) → length taken ≡ n → bytes ≡ taken ++ left → x < 256 ^ n → bytes ≡ number n x ++ rest → (big_number n taken ≡ x) × (left ≡ rest)
 unfolding number
 number_taken n x bytes taken left rest long all fits is =

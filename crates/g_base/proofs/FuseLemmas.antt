@@ -5,7 +5,7 @@ use Rattle.g_base.specs.Counts.{Rose, one_more}
 use Rattle.g_base.specs.Fuse.{Arms, BurnsByFailures, BurnsByWrites, IsArmedBy, IsArmedWithin, armed_with, burnt, burnt_by, most, never}
 use Rattle.g_base.proofs.CountLemmas.{Rose-behind, Rose-later}
 
--- nobody armed it; it was armed once; and armings of two parts
+-- Never armed; armed once; armings concatenated.
 pub armed_then : (first later : List ℕ) (old mid new : Arms) → IsArmedBy first old mid → IsArmedBy later mid new → IsArmedBy (first ++ later) old new
 armed_then [] later old mid new is more = subst (λ (x : Arms). IsArmedBy later x new) is more
 armed_then (k ∷ first) later old mid new (since, is) more = (since, armed_then first later (armed_with k since old) mid new is more)
@@ -14,7 +14,8 @@ armed_then (k ∷ first) later old mid new (since, is) more = (since, armed_then
 pub armed_none : (numbers : List ℕ) (old new : Arms) → numbers ≡ [] → new ≡ old → IsArmedBy numbers old new
 armed_none numbers old new none same = subst (λ (ks : List ℕ). IsArmedBy ks old new) (sym none) same
 
--- WITH THE FIRST OF SOME NUMBERS: with none of them; with all; and of two parts, where the second wasn't come to, or the first was gone through
+-- Armed with a prefix of a list: of the empty list; with all of it; and concatenations, where the second part was not reached or the first was
+-- completed.
 pub within_none : (numbers : List ℕ) (old new : Arms) → new ≡ old → IsArmedWithin numbers old new
 within_none numbers old new same = ([], numbers, refl, same)
 
