@@ -207,7 +207,7 @@ start_read = record { known = record { user = refl; local = refl; generation = l
 pub has_read : (bytes : List ℕ) (r : PathReader) → run step (Some start) bytes ≡ Some r → HasRead bytes r
 has_read bytes r here = subst (λ (o : Option PathReader). IfSome o (HasRead bytes)) here (run-read (Some start) [] bytes start_read)
 
--- a reader that takes each byte that may come next ends with all bytes
+-- A reader that accepts each byte that may follow ends with all bytes.
 run_pushes : {S : Type 0} (taken : ℕ → S → Option S) (at : List ℕ → S) (may_come : List ℕ → ℕ → Bool) (is_in : List ℕ → Bool)
     → ((w : List ℕ) (c : ℕ) → may_come w c ≡ true → taken c (at w) ≡ Some (at (w ++ c ∷ [])))
     → ((w : List ℕ) (c : ℕ) (more : List ℕ) → is_in (w ++ (c ∷ more)) ≡ true → may_come w c ≡ true)
@@ -363,7 +363,7 @@ generation_is g most =
     ⊎_elim (λ none. subst In (sym (ap generation_read none)) tt)
     (λ some. let positive : 0 < g = omega (arith, some) in subst In (sym (generation_some g positive).0) (positive, most)) (cases_eq g 0)
 
--- the brackets, of which the reader has the digits and the language
+-- The brackets, whose digits and language the reader has.
 last_of_lang : (g : ℕ) (lang : List ℕ) → ((40 ∷ digits_read g) ++ (47 ∷ lang)) ++ (41 ∷ []) ≡ last_part (generation_read g) (Some lang)
 last_of_lang g lang =
     ⊎_elim
@@ -416,11 +416,11 @@ whole_name r known is = record {
 pub whole_text : (r : PathReader) → IsReading r → is_whole r ≡ true → text_read r ≡ name_text (name_read r)
 whole_text r known is = (whole_in r.part r.user r.local r.generation r.lang known is).1
 
--- what has been read begins the text of a name: what comes behind it
+-- What was read is a prefix of the text of a name, given the bytes that complete it.
 abbrev BeginsIn : Part → List ℕ → List ℕ → ℕ → List ℕ → Type 0
 BeginsIn p u l g lang = IsReading (reader p u l g lang) → Begins IsNameText (text_in p (reader p u l g lang))
 
--- a whole reader that has read the text with something behind it
+-- A complete reader that has read the text and some more.
 begins_by : (r : PathReader) (text rest : List ℕ) → IsReading r → is_whole r ≡ true → text ++ rest ≡ text_read r → Begins IsNameText text
 begins_by r text rest known is longer = (rest, (name_read r, whole_name r known is, longer ∙ whole_text r known is))
 
@@ -468,7 +468,7 @@ pub no_name : (text : List ℕ) (place : ℕ) → IsBadPlace IsNameText text pla
 no_name text place bad inside n is same =
     bad.longest (length text) inside (omega arith) ([], (n, is, append-nil (take (length text) text) ∙ take-length text ∙ same))
 
--- behind the last byte
+-- After the last byte.
 pub at_end : (text : List ℕ) (place : ℕ) (r : PathReader) → length text ≤ place → place ≤ length text → run step (Some start) (take place text) ≡ Some r → run step (Some start) text ≡ Some r
 at_end text place r past within here =
     let whole : place ≡ length text = omega arith in
@@ -507,7 +507,7 @@ module _ (text : List ℕ) (r : PathReader) (here : run step (Some start) text �
   pub path-err : (e : BadName) → e.place ≡ length text → IfErr (ok_or path e) (λ bad. IsBadPlace IsNameText text bad.place)
   path-err e place = ended e place path
 
--- a word alone is the local name of a path without other parts
+-- A single word is the local name of a path without other parts.
 abbrev pub word_name : List ℕ → Name
 word_name w = record { user = None; local = w; generation = None; lang = None }
 

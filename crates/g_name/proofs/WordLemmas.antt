@@ -25,7 +25,7 @@ pub word-from_may_be : (w : List ℕ) → may_be_word w ≡ true → is_empty w 
 word-from_may_be [] may empty = absurd (false≢true (sym empty))
 word-from_may_be (c ∷ cs) may empty = may
 
--- a byte that may come next makes a word of the front of one
+-- A prefix of a word, with a byte that may follow it, is a word.
 pub word-push : (w : List ℕ) (c : ℕ) → may_be_word w ≡ true → extends w c ≡ true → is_word (w ++ c ∷ []) ≡ true
 word-push [] c may next = and_from _ _ (and_from _ _ next refl) refl
 word-push (first ∷ others) c may next =
@@ -35,7 +35,7 @@ word-push (first ∷ others) c may next =
     let room : length (others ++ c ∷ []) ≤ 11 = omega (arith, ltb-true (length others) 11 more.1, length-append others (c ∷ [])) in
     and_from _ _ (and_from _ _ front.0 (le-leb _ _ room)) (all_of_both others (c ∷ []) was.1 (and_from _ _ more.0 refl))
 
--- each byte of a word may come next behind those before it
+-- Each byte of a word may follow those before it.
 pub word-extends : (w : List ℕ) (c : ℕ) (more : List ℕ) → is_word (w ++ (c ∷ more)) ≡ true → extends w c ≡ true
 word-extends [] c more is = (and_parts _ _ (and_parts _ _ is).0).0
 word-extends (first ∷ others) c more is =
@@ -84,7 +84,7 @@ later_user word place bad (suc k) past inside goes_on =
     let within : k ≤ length word = omega arith in
     bad.longest k later within goes_on
 
--- behind the colon the user's word goes wrong
+-- After the colon, the user's word has the bad place.
 pub user_wrong : (word : List ℕ) (place : ℕ) → IsBadPlace IsLocalText word place → IsBadPlace IsUserText (58 ∷ word) (suc place)
 user_wrong word place bad = record {
   within = omega (arith, bad.within);

@@ -1,4 +1,4 @@
--- What a reader of paths does with each byte.
+-- The steps of a reader of paths, which consumes one byte at a time.
 use Rattle.std.specs.Prelude.{ℕ, ◌+◌, ◌-◌, ◌*◌, Bool, true, false, not, ◌&&◌, ◌==◌, nat_le, List, [], ◌∷◌, ◌++◌, Option, Some, None, if◌then◌else◌}
 use Rattle.g_name.specs.Grammar.{is_digit}
 use Rattle.g_name.specs.Words.{is_empty, extends, extends_lang}
@@ -7,7 +7,7 @@ use Rattle.g_name.specs.declared.path_reader.Part.{Part}
 use Rattle.g_name.specs.declared.path_reader.Part.TheVariants.{User, Local, Generation, Lang, Closed, LangClosed}
 use Rattle.g_name.specs.declared.path_reader.PathReader.{PathReader}
 
--- a generation with one more digit
+-- The generation with one more digit.
 abbrev pub with_digit : ℕ → ℕ → ℕ
 with_digit generation byte = 10 * generation + (byte - 48)
 
@@ -17,7 +17,7 @@ is_generation n = nat_le 1 n && nat_le n 4095
 abbrev pub with_part : PathReader → Part → PathReader
 with_part r part = record r { part = part }
 
--- each part, and what of it a byte can be
+-- The step in each part of a path: the bytes that it accepts, and the reader after each.
 abbrev pub step_user : ℕ → PathReader → Option PathReader
 step_user byte r =
     if extends r.user byte then Some (record r { user = r.user ++ byte ∷ [] })
@@ -58,7 +58,7 @@ step byte r = step_in r.part byte r
 abbrev pub start : PathReader
 start = record { part = Local; user = []; local = []; generation = 0; lang = [] }
 
--- a path may end here
+-- A path may end in this part.
 abbrev pub may_end : Part → Bool → Bool
 may_end Local has_local = has_local
 may_end Closed has_local = true
@@ -79,7 +79,7 @@ abbrev pub lang_read : Part → List ℕ → Option (List ℕ)
 lang_read LangClosed lang = Some lang
 lang_read _ lang = None
 
--- what has been read
+-- The name that has been read.
 abbrev pub name_read : PathReader → Name
 name_read r = record {
   user = user_read r.user;
