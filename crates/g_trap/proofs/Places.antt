@@ -1,4 +1,4 @@
--- Where a user's pair stands among pairs in rising user number, and what it is to put or drop it there.
+-- The place of a user's pair among pairs sorted by user number, and the effect of inserting or removing it there.
 use Rattle.std.proofs.Common.{◌≡◌, ℕ, zero, suc, ◌+◌, ◌<◌, ◌≤◌, ◌==◌, Bool, true, false, cond, not, nat_lt, List, [], ◌∷◌, ◌++◌, take, drop, length, length-set, get_or, set, insert, remove, filter, None, Some, Result, Ok, Err, IfOk, IfErr, refl, sym, ap, subst, ◌∙◌, arith, T, inl, inr}
 use Rattle.std.specs.Ordering.{nat_cmp, ordering_index}
 use Rattle.std.proofs.Math.Seq.{take-length, drop-length}
@@ -73,7 +73,7 @@ stands_in vs es user k e at = subst (λ (xs : List (ℕ × ℕ)). StandsAt user 
 pub fits_in : (vs es : List (ℕ × ℕ)) (user k : ℕ) → vs ≡ es → FitsAt user vs k → FitsAt user es k
 fits_in vs es user k e at = subst (λ (xs : List (ℕ × ℕ)). FitsAt user xs k) e at
 
--- the pair stands there
+-- The pair is at the place.
 stands_later : (e : ℕ × ℕ) (es : List (ℕ × ℕ)) (user k : ℕ) → StandsAt user (e ∷ es) (suc k) → StandsAt user es k
 stands_later e es user k at = record { within = let w = at.within in omega arith; has = λ d. at.has d }
 
@@ -108,7 +108,7 @@ replaced (e ∷ es) user modes (suc k) s at =
     let below : e.0 < user = let w = at.within in subst (λ n. e.0 < n) (at.has e) (above_at e.0 es k e (rest_rises e es s).0 (omega arith)) in
     grind (arith, nat_tests)
 
--- no pair stands there, but would fit
+-- No pair is at the place, but one would fit.
 fits_later : (e : ℕ × ℕ) (es : List (ℕ × ℕ)) (user k : ℕ) → FitsAt user (e ∷ es) (suc k) → FitsAt user es k
 fits_later e es user k at = record {
   within = let w = at.within in omega arith;
@@ -196,7 +196,7 @@ are_sets-put : (user modes : ℕ) (es : List (ℕ × ℕ)) → modes < 32 → ar
 are_sets-put user modes [] m u = grind (arith, nat_tests)
 are_sets-put user modes (e ∷ es) m u = let more = are_sets-put user modes es m in grind (arith, nat_tests)
 
--- what stands there after a change can be a file's other users, where there are at most 8
+-- The pairs after a change are valid as a file's other users, if there are at most 8.
 pub with_other-IsOthers : (es fs : List (ℕ × ℕ)) (user modes : ℕ) → fs ≡ with_other es user modes → IsOthers es → modes < 32 → length fs ≤ 8 → IsOthers fs
 with_other-IsOthers es fs user modes e o below few = record {
   rising = rw e (elim (modes == 0) as (λ b. is_sorted nat_cmp (cond b (others_than user es) (put nat_cmp user modes es)) ≡ true) [
@@ -214,7 +214,7 @@ with_other-IsOthers es fs user modes e o below few = record {
   few = few;
 }
 
--- what each change comes to, by whether the new set is empty
+-- The result of each change, by whether the new set is empty.
 by_empty : (es : List (ℕ × ℕ)) (user modes : ℕ) (b : Bool) → b ≡ (modes == 0) → cond b (others_than user es) (put nat_cmp user modes es) ≡ with_other es user modes
 by_empty es user modes b e = ap (λ t. cond t (others_than user es) (put nat_cmp user modes es)) e
 
