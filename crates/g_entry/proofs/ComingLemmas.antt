@@ -1,4 +1,4 @@
--- Fields that come one behind the other.
+-- Fields that follow one another in a block.
 use Rattle.std.proofs.Common.{◌≡◌, ℕ, ◌+◌, ◌-◌, ◌≤◌, Bool, List, [], ◌∷◌, ◌++◌, length, drop, Option, Some, None, refl, ap, ◌∙◌, sym, arith, append_assoc, subst}
 use Rattle.std.specs.Prelude.{◌↔◌, ◌==◌, IsTrue, true, false, replicate, if◌then◌else◌}
 use Rattle.std.proofs.Math.Seq.{drop-append_seam}

@@ -1,4 +1,4 @@
--- The full name of a file, with its owner's number.
+-- The full name of a file, with the number of its owner.
 use Rattle.std.specs.Prelude.{Bool, ◌&&◌, nat_eq}
 use Rattle.std.specs.Cmp.Lexicographic.{pointwise}
 use Rattle.g_entry.specs.declared.file_rec.FileRec.{FileRec}

@@ -6,11 +6,11 @@ use Rattle.g_entry.specs.declared.format.Format.{Format}
 use Rattle.g_entry.specs.declared.head.Head.{Head}
 use Rattle.g_entry.specs.declared.head.Intent.{Intent}
 
--- serials of reels
+-- The number is a valid serial of a reel.
 abbrev pub IsSerial : ℕ → Type 0
 IsSerial serial = (1 ≤ serial) × (serial ≤ 999999)
 
--- an intent is of the dump behind the last one
+-- The intent is for the dump after the last one.
 pub record IsIntent (last : ℕ) (i : Intent) : Type 0 where
   pub serial : IsSerial i.serial
   pub place : i.place < 2 ^ 32
