@@ -1,4 +1,4 @@
--- Records beside their numbers, and without them.
+-- Records with their numbers, and without them.
 use Rattle.std.proofs.Common.{◌≡◌, ℕ, zero, suc, ◌+◌, ◌<◌, ◌==◌, not, List, [], ◌∷◌, ◌++◌, length, filter, find, map, take, get_or, AllPairs, Bool, Option, Some, None, option_map, refl, sym, ◌∙◌, ap, arith, subst, cond, true, false}
 use Rattle.std.specs.Prelude.{IfSome, is_some, nat_lt}
 use Rattle.std.specs.List.{AllByRecursion}
@@ -88,7 +88,7 @@ pub free_least : (items : Records) (files : List FileRec) (found : Option ℕ) �
 free_least items files None have is least = tt
 free_least items files (Some n) have is least = λ lower less. ap is_some (sym (rec_in items files lower have is)) ∙ least lower less
 
--- A RECORD BEHIND those of lower numbers
+-- A record after those of lower numbers.
 low_all : (n : ℕ) (files : List FileRec) → AllByRecursion (λ s. s.number < n) files → filter (λ s. nat_lt s.number n) files ≡ files
 low_all n [] lower = refl
 low_all n (r ∷ files) lower =

@@ -26,7 +26,7 @@ module _ {A : Type 0} where
   listed_none first zero = refl
   listed_none first (suc count) = listed_none (first + 1) count
 
-  -- the items alone, and how many they are
+  -- The items without their numbers, and how many they are.
   pub items_present : (first : ℕ) (places : Places A) → map (λ c. c.1) (listed_from first places) ≡ present places
   items_present first [] = refl
   items_present first (None ∷ places) = items_present (first + 1) places
