@@ -1,4 +1,4 @@
--- Groups of flags that are noted as full: what keeps the notes true, and what they tell.
+-- Groups of flags that are noted as full: what preserves the notes, and what follows from them.
 use Rattle.std.proofs.Common.{◌≡◌, ◌≢◌, ℕ, ◌+◌, ◌-◌, ◌/◌, ◌<◌, ◌≤◌, List, Bool, true, false, Some, length, slice_get, get_or, replicate, sym, ◌∙◌, ap, subst, inl, inr, arith, length-set}
 use Rattle.std.specs.Prelude.{◌⊎◌}
 use Rattle.std.proofs.Math.ListN.{set}

@@ -128,14 +128,14 @@ AreSetBefore-cleared low now flags i lower none before = record {
   each = λ j h. slice_get-set_other flags i j false (omega (arith, h)) ∙ before.each j (omega (arith, h));
 }
 
--- none at all; one more that is set; those behind the place
+-- No flag; one more that is set; the flags after the place.
 pub AreSetBefore-none : (flags : List Bool) → AreSetBefore 0 flags
 AreSetBefore-none flags = record { within = omega arith; each = λ j h. absurd (omega (arith, h)) }
 
 pub slice_from : {X : Type 0} (n : ℕ) (xs : List X) → take (length xs - n) (drop n xs) ≡ drop n xs
 slice_from n xs = take_all (length xs - n) (drop n xs) (omega (arith, length-drop n xs))
 
--- The count beside the flags, when the flag of a free block is set, and when that of a taken one is cleared.
+-- The number of free flags when a free block is taken, and when a taken one is freed.
 pub count-taken : (free low : ℕ) (flags pool : List Bool) (i : ℕ) → flags ≡ pool → slice_get pool i ≡ Some false
     → (free ≡ free_flags flags) × (2177 + length flags ≤ 1_048_576) × AreSetBefore low flags
     → (free - 1 ≡ free_flags (set flags i true)) × (2177 + length (set flags i true) ≤ 1_048_576) × AreSetBefore low (set flags i true)
