@@ -13,7 +13,7 @@ use Rattle.g_tape.specs.Leave.{remains_of}
 use Rattle.g_tape.specs.Memory.{Memory, MemoryReads, MemorySecures, MemoryWrites}
 use Rattle.g_tape.proofs.RackLemmas.{with_reel-place}
 
--- the reel of the serial is the one that stands at its place
+-- The reel with the serial is the one at its place.
 pub at-place : (s i : ℕ) (reels : List Reel) (was : Reel) → IsPlaceOf s reels i → was ≡ get_or reels i was → reel s reels ≡ Some was
 at-place s i reels was place is = place.there was ∙ ap Some (sym is)
 

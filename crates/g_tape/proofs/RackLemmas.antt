@@ -23,16 +23,16 @@ AreReels-set reels i old new are within was keeps same =
       each = All-set IsReel reels i new kept are.each;
     }
 
--- the reel of the serial is changed where it stands
+-- The reel with the serial is changed at its place.
 pub with_reel-place : (s : ℕ) (reels : List Reel) (i : ℕ) (f : Reel → Reel) (old new : Reel) → IsPlaceOf s reels i → old ≡ get_or reels i old → new ≡ f old → set reels i new ≡ with_reel s f reels
 with_reel-place s reels i f old new place was is =
     ap (set reels i) (is ∙ ap f was) ∙ sym (place.change f old)
 
--- what stands at one place, read twice
+-- Two reads of one place give the same item.
 pub same-place : (reels : List Reel) (i : ℕ) (here was : Reel) → i < length reels → here ≡ get_or reels i here → was ≡ get_or reels i was → here ≡ was
 same-place reels i here was within one two = one ∙ get_or_default reels i here was within ∙ sym two
 
--- a call that isn't refused by the reel that was asked isn't by the one that is changed
+-- A call that wasn't refused for the reel that was checked isn't refused for the reel that is changed.
 pub still-free : (refuses : Option Reel → Option TapeFault) (reels : List Reel) (i : ℕ) (here was : Reel) (answer : Option TapeFault) → i < length reels
     → here ≡ get_or reels i here → was ≡ get_or reels i was → answer ≡ refuses (Some here) → answer ≡ None → refuses (Some was) ≡ None
 still-free refuses reels i here was answer within one two asked free =

@@ -9,7 +9,7 @@ use Rattle.g_tape.specs.declared.fault.TapeFault.TheVariants.{NotMounted, End}
 use Rattle.g_tape.specs.Reel.{Reel, IsReel, with_mounted, cut_at, ending}
 use Rattle.g_tape.specs.Rack.{refuses_write}
 
--- what holds of each value that is told, through a change of it
+-- A property of each exposed value, after a change of that value.
 told-map : {X Y : Type 0} (f : X → Y) (P : X → Type 0) (Q : Y → Type 0) (o : Option X) → ForSome o P → ((x : X) → P x → Q (f x)) → ForSome (option_map f o) Q
 told-map f P Q None all each y is = absurd (cc)
 told-map f P Q (Some x) all each y is =
@@ -21,7 +21,7 @@ passes true true under is = absurd (cc)
 passes true false true is = (refl, refl)
 passes true false false is = absurd (cc)
 
--- a write that isn't refused goes to a place on the reel or just behind it, and within its capacity
+-- A write that isn't refused is to a block of the reel or directly after the last one, and within the capacity.
 pub allowed-write : (k : ℕ) (r : Reel) → refuses_write k (Some r) ≡ None → (k ≤ r.len) × (k < r.capacity)
 allowed-write k r is =
     let tests = passes r.mounted (nat_lt r.len k) (nat_lt k r.capacity) is in
