@@ -1,4 +1,4 @@
--- A dump that stands on a reel, put together from its header, its records and its mark, and taken apart.
+-- A dump on a reel, composed of its header, its records and its mark, and decomposed into them.
 use Rattle.std.proofs.Common.{◌≡◌, ℕ, zero, suc, ◌+◌, ◌-◌, ◌^◌, ◌<◌, ◌≤◌, Bool, false, List, [], ◌∷◌, ◌++◌, length, get_or, take, drop, replicate, Option, Some, None, refl, sym, ◌∙◌, ap, arith, slice_get, subst, inl, inr}
 use Rattle.std.specs.Prelude.{◌⊎◌, All, IfNone, IfSome, IsTrue, map}
 use Rattle.std.specs.Option.{ForSome}
@@ -193,7 +193,7 @@ module _ (bs : List (List ℕ)) (e : Dump) (stands : StandsOn bs e) where
         };
       }
 
--- NO DUMP STANDS THERE
+-- No dump is at this place.
 pub none_by_header : (serial place : ℕ) (rack : Rack) → FindsHeader serial place rack None → HasNone serial place rack
 none_by_header serial place rack finds = λ bs told d on at stands.
     let found = finds bs told d stands.rules at (ap (slice_get bs) (sym at) ∙ header_there bs d stands) in

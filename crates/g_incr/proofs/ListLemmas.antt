@@ -1,4 +1,4 @@
--- Lists, and what stands at their places.
+-- Lists, and the items at their positions.
 use Rattle.std.specs.Prelude.{IfNone, IfSome, map}
 use Rattle.std.proofs.Common.{◌≡◌, ◌⊎◌, inl, inr, ℕ, zero, suc, ◌+◌, ◌<◌, ◌≤◌, List, [], ◌∷◌, ◌++◌, length, take, drop, get_or, Option, Some, None, refl, sym, ◌∙◌, ap, arith, slice_get, subst}
 
@@ -36,7 +36,7 @@ get_some [] i within = absurd (let no : ⊥ = omega arith in no)
 get_some (y ∷ ys) zero within = (y, refl)
 get_some (y ∷ ys) (suc i) within = get_some ys i (omega arith)
 
--- what stands in a list with one more behind it
+-- The items of a list with one more appended.
 pub get_push : {X : Type 0} (xs : List X) (y : X) (i : ℕ) (x : X) → slice_get (xs ++ y ∷ []) i ≡ Some x → (slice_get xs i ≡ Some x) ⊎ ((i ≡ length xs) × (x ≡ y))
 get_push [] y zero x is = inr (refl, cc)
 get_push [] y (suc i) x is = absurd (let no : ⊥ = cc in no)

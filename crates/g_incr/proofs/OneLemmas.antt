@@ -33,7 +33,7 @@ pub header_peeled : (d : Dump) → header_block d
 unfolding header_fields padded
 header_peeled d = simp append_assoc
 
--- what a header tells
+-- The facts that a header determines.
 pub record SameHeader (d e : Dump) : Type 0 where
   pub format : d.format ≡ e.format
   pub number : d.number ≡ e.number
@@ -125,7 +125,7 @@ same_files format rs ss num_r num_s all_r all_s long is = same_lists rs ss long 
     ∙ (slice_get-map (λ (w : FileRec). file_block format w (numbers_in w)) ss i ∙ ap (option_map (λ (w : FileRec). file_block format w (numbers_in w))) at_s) in
     (file_again format r s (numbers_in r) (numbers_in s) (all_r i d within) (all_s i d inside) (no_numbers format r) (no_numbers format s) (num_r i r at_r ∙ sym (num_s i s at_s)) (same_Some block_r block_s there)).0)
 
--- HELD USERS: rising numbers are told by which are among them
+-- Held users: an increasing list of numbers is determined by its members.
 abbrev pub RisesFrom : ℕ → List ℕ → Type 0
 RisesFrom a [] = Unit {0}
 RisesFrom a (x ∷ xs) = (a ≤ x) × RisesFrom (x + 1) xs
@@ -200,7 +200,7 @@ same_held m a b rise_a rise_b all_a all_b same =
     by_bound n (inl below) = same_flags (holds a n) (holds b n) (same n below)
     by_bound n (inr past) = none_beyond m n a all_a past ∙ sym (none_beyond m n b all_b past)
 
--- THE DUMP that stands at one place of one reel
+-- The dump at one place of one reel is unique.
 pub same_dump : (d e : Dump) → IsDump d → IsDump e → d.serial ≡ e.serial → d.place ≡ e.place → dump_blocks d ≡ dump_blocks e → d ≡ e
 unfolding dump_blocks
 same_dump d e is_d is_e serial place is =

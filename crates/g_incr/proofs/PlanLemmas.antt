@@ -27,7 +27,7 @@ pub record KeepsCopy (r s : FileRec) : Type 0 where
   pub waits : waits r ≡ false
   pub tape : s.tape ≡ r.tape
 
--- a record of the dump, beside the record that it was made of: that one with another number and place on tape
+-- A record of the dump and the record that it was made from: the same, with another number and place on tape.
 pub record IsMade (serial from to : ℕ) (r s : FileRec) : Type 0 where
   pub same : s ≡ record r { number = s.number; tape = s.tape }
   pub copy : GetsCopy serial from to r s ⊎ KeepsCopy r s

@@ -53,7 +53,7 @@ ahead_rises files n all so i j d le within =
     let rise = blocks_rise files i j le in
     omega (arith, low, high, rise)
 
--- the version that has the block, where so many stand ahead of it
+-- The version that has the block, if that many blocks are ahead of it.
 version_found : (files : List FileRec) (offset i part : ℕ) (a : Ahead) (r : FileRec) → i < length files → r ≡ get_or files i r → waits r ≡ true → part < blocks_for r.len → IsAhead files i a → offset ≡ a.blocks + part
     → IsVersionAt files offset a.versions part
 version_found files offset i part a r within is wait below so sum =
@@ -81,7 +81,7 @@ pub record IsBehind (files : List FileRec) (all : List Ahead) (offset j : ℕ) :
   pub found : (d : Ahead) → IsVersionAt files offset (get_or all (j - 1) d).versions (offset - (get_or all (j - 1) d).blocks)
 
 module _ (files : List FileRec) (all : List Ahead) (offset : ℕ) (so : AreAhead files (length files + 1) all) where
-  -- the file of which no more are ahead, where more are ahead of the next
+  -- The file that has as many blocks ahead of it as asked for, if more are ahead of the next one.
   file_found : (i : ℕ) (a b : Ahead) (r : FileRec) → i < length files → r ≡ get_or files i r → IsAhead files i a → IsAhead files (i + 1) b → a.blocks ≤ offset → offset < b.blocks
       → IsVersionAt files offset a.versions (offset - a.blocks)
   file_found i a b r within is here next low high = by_waiting (cases_Bool (waits r))

@@ -1,4 +1,4 @@
--- What a fault of a reader of tape is to a store.
+-- The faults of a reader of tape, as faults of a store.
 use Rattle.g_plain.specs.declared.faults.StoreFault.{StoreFault}
 use Rattle.g_plain.specs.declared.faults.StoreFault.TheVariants as store
 use Rattle.g_incr.specs.declared.fault.ShelfFault.{ShelfFault}
