@@ -122,7 +122,7 @@ module _ (rs : List Reel) (r : Reel) (dumps : List Dump) (before : All (λ q. q.
           subst (LastOf (rs ++ r ∷ [])) (sym (cond-false (nat_lt l.1.number d.number) (Some (r.serial, note_of d)) (Some l) not_lower))
           (stays l.0 l.1 is (has_upto is.dump.number (All-weaker (λ (e : Dump). e.number ≤ d.number) (λ (e : Dump). e.number ≤ is.dump.number) (λ e low. omega arith) dumps is_top.most)))
 
-  -- whichever of the two it is
+  -- The same for either of the two.
   one_more : (last : Option (ℕ × DumpNote)) (o : Option Dump) → AreInRow r.serial 0 0 dumps → (end_of dumps ≤ r.len) → slice_get dumps (length dumps - 1) ≡ o → LastOf rs last
       → LastOf (rs ++ r ∷ []) (later last r.serial (option_map note_of o))
   one_more None None row fits is last = no_dumps None (none_last dumps is) last
@@ -136,7 +136,7 @@ pub record SeenSoFar (i : ℕ) (last : Option (ℕ × DumpNote)) (old new : Rack
   pub only : OnlyReads old new
   pub kept : new.read_faults ≡ old.read_faults
 
--- the note that stays or comes was read
+-- The note that is kept or found was read.
 still_read : (last : Option (ℕ × DumpNote)) (old mid new : Rack) → OnlyReads mid new → IfSome last (λ l. HasReadDump l.0 l.1 old mid) → IfSome last (λ l. HasReadDump l.0 l.1 old new)
 still_read None old mid new only has = tt
 still_read (Some l) old mid new only has = read_dump_then l.0 l.1 old mid new has only

@@ -32,7 +32,7 @@ there serial x old new reads =
     (λ is. let wrong = reads.no_tape.1 is in let no : ⊥ = cc in no)
     (λ is. let wrong = reads.not_mounted.1 is in let no : ⊥ = cc in no)
 
--- REFUSALS stay as they are through reads
+-- Reads preserve refusals.
 refuses-unread : (o : Option Reel) → refuses_unmount (option_map unread o) ≡ refuses_unmount o
 refuses-unread None = refl
 refuses-unread (Some r) = refl
@@ -76,7 +76,7 @@ starved serial x old mid new only kept reads =
     (λ is. absurd (let no : ⊥ = cc in no), λ is. absurd (let no : ⊥ = cc in no))
     (λ is. absurd (let no : ⊥ = cc in no), λ is. absurd (let no : ⊥ = cc in no)) reads
 
--- LENGTHS stay as they are through reads
+-- Reads preserve lengths.
 pub len-unread : (o p : Option Reel) (n : ℕ) → option_map unread o ≡ option_map unread p → ForSome o (λ r. n ≤ r.len) → ForSome p (λ r. n ≤ r.len)
 len-unread o None n same fits r is = absurd (let no : ⊥ = cc in no)
 len-unread None (Some p) n same fits r is = absurd (let no : ⊥ = cc in no)
