@@ -1,4 +1,4 @@
--- What is known of a reel stays known, and what stands behind it is found.
+-- What is known of a reel remains known, and the dumps after it are found.
 use Rattle.std.proofs.Common.{◌≡◌, ◌⊎◌, ℕ, zero, suc, ◌+◌, ◌-◌, ◌^◌, ◌<◌, ◌≤◌, ◌==◌, Bool, true, false, List, [], ◌∷◌, ◌++◌, length, Option, Some, None, Result, Ok, Err, refl, sym, ◌∙◌, ap, arith, slice_get, subst, inl, inr, map, All, take, get_or, append_assoc, append-nil, eq-eqb}
 use Rattle.std.specs.Prelude.{OnErr, OnOk, option_map, if◌then◌else◌}
 use Rattle.std.specs.Option.{ForSome}
@@ -64,7 +64,7 @@ number_last from (m ∷ k ∷ ks) n is =
     let next : length (m ∷ k ∷ ks) - 1 ≡ suc (length (k ∷ ks) - 1) = omega arith in
     number_last (m.number + 1) (k ∷ ks) n (is ∙ ap (λ (i : ℕ). slice_get (m ∷ k ∷ ks) i) next)
 
--- the number behind dumps is in its limit
+-- The least number after the dumps is within its limit.
 pub number_low : (serial at from : ℕ) (ds : List Dump) → from ≤ 2 ^ 62 → AreInRow serial at from ds → number_behind from ds ≤ 2 ^ 62
 number_low serial at from [] low row = low
 number_low serial at from (d ∷ ds) low row =
@@ -228,7 +228,7 @@ known_unmounted s old new result lists left reels unmounts forgotten all =
     by_reel (λ (t : ℕ). IsKnown new t (noted t left)) s (nothing_known new s (noted s left) forgotten.none)
     (λ t other. still_noted new t (noted t lists) (noted t left) (forgotten.others t other) (others_unmounted s old new result t (noted t lists) reels unmounts other (all t)))
 
--- A WRITE behind the end of what is known
+-- A write after the end of what is known.
 told_before : (g : List (List ℕ) → List (List ℕ)) (o : Option (List (List ℕ))) (new : List (List ℕ)) → option_map g o ≡ Some new → (old : List (List ℕ)) × (o ≡ Some old) × (g old ≡ new)
 told_before g None new is = absurd (let no : ⊥ = cc in no)
 told_before g (Some old) new is = (old, refl, same_Some (g old) new is)
@@ -332,7 +332,7 @@ place_first s (l ∷ ls) (suc i) within here before =
       others = λ new named t other. ap (λ (ns : List DumpNote). if t == l.serial then l.notes.items else ns) (rest.others new named t other);
     }
 
--- a list behind the others
+-- A list appended to the others.
 pub noted_behind : (s : ℕ) (lists : List NotedReel) (new : NotedReel) → HasNone s lists → new.serial ≡ s → noted s (lists ++ new ∷ []) ≡ new.notes.items
 noted_behind s [] new other named = cond-true (s == new.serial) new.notes.items [] (eq-eqb s new.serial (sym named))
 noted_behind s (l ∷ ls) new other named =
@@ -367,7 +367,7 @@ read_on_behind s lists new other named = record {
 pub nothing_more : (s : ℕ) (lists : List NotedReel) → HasReadOn s lists lists
 nothing_more s lists = record { more = ([], sym (append-nil (noted s lists))); others = λ t other. refl }
 
--- all stay known, where reads alone happened and of this reel more is
+-- All lists remain valid if only reads happened and more dumps of this reel are known.
 pub known_read_on : (s : ℕ) (lists new_lists : List NotedReel) (notes : List DumpNote) (old new : Rack) → HasReadOn s lists new_lists → noted s new_lists ≡ notes → OnlyReads old new
     → IsKnown new s notes → AreKnown old lists → AreKnown new new_lists
 known_read_on s lists new_lists notes old new so are only known all =
@@ -427,7 +427,7 @@ fills_unkept s lists new_lists (Err fault) result old new all reads ok err is =
       more = nothing_more s lists;
     })
 
--- READING ON from the end of what is known
+-- Reading on from the end of what is known.
 pub record ReadOn (serial at least : ℕ) (start notes : List DumpNote) (old new : Rack) : Type 0 where
   pub first : AreFirst (reel serial old.reels) serial notes
   pub end_is : at ≡ end_in 0 notes
@@ -509,7 +509,7 @@ one_read_on serial at least start notes then_notes dir old mid new x so reads ne
       kept = reads.kept (λ wrong. let no : ⊥ = cc in no) ∙ so.kept;
     }
 
--- where nothing stands behind them they are all
+-- If no dump follows them, they are all the dumps.
 all_next : (serial : ℕ) (blocks : List (List ℕ)) (at from : ℕ) (ds : List Dump) → AreInRow serial at from ds → All (StandsOn blocks) ds
     → ((d : Dump) → IsNext serial blocks (end_behind at ds) (number_behind from ds) d → ⊥) → AreNext serial blocks at from ds
 all_next serial blocks at from [] row all none = none
