@@ -1,4 +1,4 @@
--- Tests that come before others.
+-- Checks that precede others.
 use Rattle.std.proofs.Common.{◌≡◌, Bool, true, false, cond, not, ◌++◌, List, [], ◌∷◌, ℕ, Option, Some, None, Result, Ok, is_some, refl, sym, ap, ◌∙◌, true≢false}
 use Rattle.std.specs.List.{AllByRecursion}
 use Rattle.g_name.specs.declared.full.Full.{Full}
@@ -64,7 +64,7 @@ value_of None v x e = cc
 pub granted_is : {A : Type 0} (a : Checks) (v x : A) → Ok x ≡ granted_by a v → x ≡ v
 granted_is a v x e = value_of (first_fault a) v x e
 
--- a name for input is one alone
+-- A name for input determines its full name.
 pub same_input : (a b : Full) → name.Input a ≡ name.Input b → a ≡ b
 same_input a b e = cc
 

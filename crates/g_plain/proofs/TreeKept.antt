@@ -42,7 +42,7 @@ user_there t user is there =
     let row = some_of (get t.users user) there in
     subst (λ o. IsUserRow t user (unwrap_or o no_budgets)) (sym row.1) (is.users user row.0 row.1)
 
--- a user who comes in new, or whose superior stays
+-- A user who is new, or whose superior is unchanged.
 module _ (t : Tree) (user : List ℕ) (row : UserRow) (is : IsTree t) (r : IsUserRow t user row) (stays_below : has_user t user ≡ true → row.superior ≡ (user_row t user).superior) where
   more_users : HasUsersOf t (with_user t user row)
   more_users q h = grows text_total text_exact t.users user row q h

@@ -1,4 +1,4 @@
--- The rows and maps of a tree as data that proofs can tell apart.
+-- Codes of the rows and maps of a tree, by which proofs tell values apart.
 use Rattle.std.specs.Prelude.{ℕ, List, refl}
 use Rattle.std.specs.Coded.{Coded, code_by, coded×, coded_ℕ, coded_list}
 use Rattle.std.specs.FinMap as map

@@ -1,4 +1,4 @@
--- The plain directory tree, and what the calls of jobs do to it.
+-- The plain directory tree, and the effects of jobs' calls on it.
 pub mod Programs
 pub mod Codes
 pub mod Faults

@@ -1,4 +1,4 @@
--- The plain tree as a store holds its tree.
+-- The plain tree itself is a store that holds a tree.
 use Rattle.std.proofs.Common.{◌≡◌, ℕ, List, Err, refl, ap, ◌∙◌, inl, true≢false}
 use Rattle.g_plain.specs.declared.calls.StoreCall.{StoreCall}
 use Rattle.g_plain.specs.declared.faults.StoreFault.TheVariants.{NoMemory}

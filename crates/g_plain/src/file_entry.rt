@@ -11,8 +11,7 @@ use std::alloc::Global;
 use std::collections::BTreeMap;
 use std::marker::Model;
 
-/// A file's traps, its bytes, at most 65,536, and the stamp of its version. Contracts see a row of
-/// the tree.
+/// A file's traps, its bytes (at most 65,536), and the stamp of its version. Contracts see a row of the tree.
 #[derive(Drop)]
 pub(crate) struct FileEntry {
     traps: BTreeMap<User, Modes>,
@@ -37,7 +36,7 @@ impl Model for FileEntry {
 }
 
 impl FileEntry {
-    /// A file of which nobody has modes; it takes no memory.
+    /// A file for which no user has modes. It allocates nothing.
     pub fn new(alloc: Global, bytes: Text, stamp: u64) -> FileEntry
         requires { length bytes ≤ 65536 }
         ensures { result ≡ record { traps = finmap.empty; bytes = bytes; stamp = stamp } }
@@ -49,7 +48,7 @@ impl FileEntry {
         }
     }
 
-    /// How many users have modes.
+    /// The number of users with modes.
     pub fn trapped(&self) -> usize
         ensures { result ≡ finmap.len self.now.traps }
     {
@@ -62,7 +61,7 @@ impl FileEntry {
         self.traps.contains_key(user)
     }
 
-    /// The user's modes, none where the user isn't there.
+    /// The user's modes; none if the user has no trap.
     pub fn given(&self, user: &User) -> Modes
         ensures { result ≡ unwrap_or (finmap.get self.now.traps user.now) 0 }
     {
@@ -87,7 +86,7 @@ impl FileEntry {
         self.bytes.as_slice().len() as u32
     }
 
-    /// The blocks of 512 bytes that the bytes take, at most 128.
+    /// The number of blocks of 512 bytes that the bytes occupy, at most 128.
     pub fn blocks(&self) -> u32
         ensures value { result ≡ blocks_for (length self.now.bytes) }
         ensures few { result ≤ 128 }
@@ -95,7 +94,7 @@ impl FileEntry {
         blocks_for(self.len())
     }
 
-    /// Other bytes, as the version of this stamp.
+    /// Replaces the bytes, as the version with this stamp.
     pub fn renew(&mut self, bytes: Text, stamp: u64)
         requires { length bytes ≤ 65536 }
         ensures { self.new ≡ record self.old { bytes = bytes; stamp = stamp } }
@@ -104,7 +103,7 @@ impl FileEntry {
         self.stamp = stamp;
     }
 
-    /// The user gets these modes; without memory all stays as it was.
+    /// Sets the user's modes. If memory runs out, nothing is changed.
     pub fn give(&mut self, user: User, modes: Modes) -> Result<(), NoMemory>
         ensures ok { OnOk result
             (self.new ≡ record self.old { traps = finmap.insert self.old.traps user modes }) }
@@ -120,8 +119,8 @@ impl FileEntry {
         self.traps.remove(user);
     }
 
-    /// The user gets exactly these modes, and stands there no more without any, but for the owner;
-    /// without memory all stays as it was.
+    /// Gives the user exactly these modes. A user without modes is removed, unless it is the owner. If memory runs out,
+    /// nothing is changed.
     pub fn set_traps(&mut self, full: &Full, user: &User, modes: Modes) -> Result<(), NoMemory>
         ensures ok { OnOk result
             (let traps = with_modes full.now user.now modes self.old.traps in

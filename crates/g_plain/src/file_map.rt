@@ -36,7 +36,7 @@ impl Model for FileMap {
 }
 
 impl FileMap {
-    /// No file, which takes no memory yet.
+    /// The empty map. It allocates nothing.
     pub fn new(alloc: Global) -> FileMap
         ensures { result ≡ finmap.empty }
     {
@@ -63,7 +63,7 @@ impl FileMap {
         self.rows.get(full)
     }
 
-    /// Sets the row of a file; without memory the map stays as it was.
+    /// Sets the row of a file. If memory runs out, the map is unchanged.
     pub fn insert(&mut self, full: Full, entry: FileEntry) -> Result<(), NoMemory>
         ensures ok { OnOk result (self.new ≡ finmap.insert self.old full entry) }
         ensures err { OnErr result (self.new ≡ self.old) }
@@ -78,7 +78,7 @@ impl FileMap {
         self.rows.remove(full);
     }
 
-    /// A file that is there gets other bytes, as the version of this stamp.
+    /// Replaces the bytes of an existing file, as the version with this stamp.
     pub fn renew(&mut self, full: &Full, bytes: Text, stamp: u64)
         requires there { is_some (finmap.get self.old full.now) ≡ true }
         requires few { length bytes ≤ 65536 }
@@ -92,7 +92,7 @@ impl FileMap {
         }
     }
 
-    /// A user gets exactly these modes of a file that is there; without memory all stays as it was.
+    /// Gives a user exactly these modes for an existing file. If memory runs out, nothing is changed.
     pub fn set_traps(&mut self, full: &Full, user: &User, modes: Modes) -> Result<(), NoMemory>
         requires { is_some (finmap.get self.old full.now) ≡ true }
         ensures ok { let row = unwrap_or (finmap.get self.old full.now) no_row in
@@ -107,7 +107,7 @@ impl FileMap {
         }
     }
 
-    /// A file that is there gets a name that no file has; without memory all stays as it was.
+    /// Gives an existing file a name that no file has. If memory runs out, nothing is changed.
     pub fn rename(&mut self, alloc: Global, full: &Full, to: Full) -> Result<(), NoMemory>
         requires there { is_some (finmap.get self.old full.now) ≡ true }
         requires free { is_some (finmap.get self.old to) ≡ false }
@@ -122,7 +122,7 @@ impl FileMap {
         Ok(())
     }
 
-    /// Takes a file that is there out, and gives its row.
+    /// Removes an existing file and returns its row.
     fn take(&mut self, full: &Full) -> FileEntry
         requires { is_some (finmap.get self.old full.now) ≡ true }
         ensures row { Some result ≡ finmap.get self.old full.now }
@@ -134,7 +134,7 @@ impl FileMap {
         }
     }
 
-    /// Sets the row of a file that is there, which takes no memory.
+    /// Replaces the row of an existing file, without allocating.
     fn replace(&mut self, full: Full, entry: FileEntry)
         requires { is_some (finmap.get self.old full) ≡ true }
         ensures { self.new ≡ finmap.insert self.old full entry }
@@ -145,7 +145,7 @@ impl FileMap {
         }
     }
 
-    /// The blocks of a user's files.
+    /// The number of blocks of a user's files.
     pub fn used(&self, user: &User) -> u32
         requires { finmap.len self.now ≤ 1024 }
         ensures { result ≡ sum_by (blocks_of user.now) (finmap.entries self.now) }

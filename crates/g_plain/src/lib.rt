@@ -1,6 +1,5 @@
-//! The plain directory tree, against which every store is measured: the calls of jobs with their
-//! replies and faults, the order of refusals, what each call does to a tree, programs that ask a
-//! store, and a store in memory.
+//! The plain directory tree, the reference for every store: the calls of jobs with their replies and faults, the order
+//! of refusals, the effect of each call on a tree, programs that call a store, and a store in memory.
 #![tactic(auto)]
 
 mod calls;

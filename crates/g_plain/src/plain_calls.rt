@@ -1,4 +1,4 @@
-//! What calls that are granted do to the plain tree, and what they are answered.
+//! The effects and replies of granted calls on the plain tree.
 ghost use Rattle.std.specs.Prelude.{◌≡◌, ◌≤◌, ◌+◌, ◌<◌, ◌^◌, true, false, None, length};
 ghost use Rattle.g_trap.specs.declared.mode_set.Mode.{Mode};
 ghost use Rattle.g_plain.specs.PlainTree as tree;
@@ -15,7 +15,7 @@ use g_trap::Modes;
 use std::alloc::Global;
 
 impl PlainTree {
-    /// Does what a call without a fault asks, or finds no memory and changes nothing.
+    /// Executes a call that has no fault. If memory runs out, nothing is changed.
     pub fn grant(
         &mut self,
         alloc: Global,

@@ -1,4 +1,4 @@
-//! A store in memory that is the plain tree and nothing else.
+//! A store in memory that is the plain tree and nothing more.
 ghost use Rattle.std.specs.Prelude.{◌≡◌, IfOk, IsOk, is_some};
 ghost use Rattle.std.specs.Option.{option_map};
 ghost use Rattle.std.specs.FinMap.{get};
@@ -16,8 +16,8 @@ use g_trap::Modes;
 use std::alloc::Global;
 use std::marker::Model;
 
-/// The plain tree as a store: each call answers the plain step, or finds no memory and changes
-/// nothing. It never waits and never stops. Contracts see the tree.
+/// The plain tree as a store: each call is answered by the plain step, or memory runs out and nothing is changed. It
+/// never waits and never stops. Contracts see the tree.
 #[derive(Drop)]
 pub struct PlainStore {
     tree: PlainTree,
@@ -38,8 +38,8 @@ impl Model for PlainStore {
 }
 
 impl PlainStore {
-    /// A new filestore: `MASTER`, and `MACROS` below it, both with SPACE 65,535 and TIME and MONEY
-    /// 1,000,000, and no file.
+    /// A new filestore: `MASTER`, and `MACROS` below it, both with SPACE 65,535 and TIME and MONEY 1,000,000, and no
+    /// files.
     pub fn new(alloc: Global) -> Result<PlainStore, NoMemory>
         ensures { IfOk result (λ store. store ≡ formatted) }
     {
@@ -47,7 +47,7 @@ impl PlainStore {
         Ok(PlainStore { tree })
     }
 
-    /// The file of a full name. It is known by its name here: its number tells that it is there.
+    /// The file with a full name. This store identifies files by name; the number says only that the file exists.
     fn find(&self, full: Full) -> NamedFile
         ensures named { result ≡ file_named (λ f. option_map (λ row. 0) (get self.now.files f)) full }
         ensures there { is_some result.number ≡ has_file self.now full }
@@ -67,7 +67,7 @@ impl Questions for PlainStore {
 
     ghost tree = { λ s. s };
 
-    // That it is there.
+    // 0 if the file exists.
     ghost numbers = { λ s full. option_map (λ row. 0) (get s.files full) };
 
     fn has_user(&self, user: &User) -> bool {

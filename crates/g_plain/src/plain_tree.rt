@@ -1,4 +1,4 @@
-//! The plain directory tree in memory, and the calls on it.
+//! The plain directory tree in memory, and its calls.
 ghost use Rattle.std.specs.Prelude.{◌≡◌, ◌≤◌, ◌^◌, ◌<◌, ◌++◌, ◌&&◌, ◌==◌, true, false, not};
 ghost use Rattle.std.specs.Prelude.{OnOk, OnErr, IfOk, is_none, length, unwrap_or, nat_le, codes};
 ghost use Rattle.std.specs.Option.{option_copied};
@@ -20,7 +20,7 @@ use std::alloc::Global;
 use std::collections::BTreeMap;
 use std::marker::Model;
 
-/// Users, files and the next stamp. Contracts see a tree, of whose rules the calls make use.
+/// Users, files and the next stamp. Contracts see a tree. The calls rely on the rules of a tree.
 #[derive(Drop)]
 pub(crate) struct PlainTree {
     users: BTreeMap<User, UserEntry>,
@@ -52,7 +52,7 @@ impl PlainTree {
         Ok(first)
     }
 
-    /// A tree without users and files, which takes no memory yet.
+    /// A tree without users and files. It allocates nothing.
     fn empty(alloc: Global) -> PlainTree
         ensures { result ≡ record { users = finmap.empty; files = finmap.empty; next = 1 } }
     {
@@ -102,7 +102,7 @@ impl PlainTree {
         self.files.has(full)
     }
 
-    /// The greatest generation there is of what a path names, or 0.
+    /// The greatest existing generation of what a path names, or 0.
     pub fn newest(&self, who: &User, path: &Path) -> u16
         requires { IsTree self.now }
         ensures newest { result ≡ tree.newest self.now who.now path.now }
@@ -127,7 +127,7 @@ impl PlainTree {
         named(who, path, path.generation.unwrap_or(newest + 1))
     }
 
-    /// The modes that the traps of a file give a user.
+    /// The modes that the traps of a file give to a user.
     pub fn given_modes(&self, full: &Full, user: &User) -> Modes
         requires { tree.has_file self.now full.now ≡ true }
         ensures { let traps = (tree.file_row self.now full.now).traps in
@@ -139,7 +139,7 @@ impl PlainTree {
         }
     }
 
-    /// Whether a user who is to get these modes of a file would be the ninth beside its owner.
+    /// Whether giving these modes to a user would trap a ninth user besides the file's owner.
     pub fn is_ninth(&self, full: &Full, user: &User, modes: Modes) -> bool
         requires { tree.has_file self.now full.now ≡ true }
         ensures { let traps = (tree.file_row self.now full.now).traps in
@@ -152,7 +152,7 @@ impl PlainTree {
         }
     }
 
-    /// What a user may do with a file.
+    /// The modes that a user has for a file.
     pub fn modes_of(&self, full: &Full, user: &User) -> Modes
         requires { tree.has_file self.now full.now ≡ true }
         ensures { result ≡ tree.modes_of (tree.file_row self.now full.now) full.now user.now }
@@ -165,7 +165,7 @@ impl PlainTree {
         }
     }
 
-    /// The length of a file in bytes, 0 where there is none.
+    /// The length of a file in bytes; 0 if it doesn't exist.
     pub fn len_of(&self, full: &Full) -> u32
         ensures value { result ≡ length (tree.file_row self.now full.now).bytes }
         ensures few { result ≤ 65536 }
@@ -176,7 +176,7 @@ impl PlainTree {
         }
     }
 
-    /// The blocks that the owner has left for a file of this name.
+    /// The number of blocks that the owner has left for a file of this name.
     pub fn space_left(&self, full: &Full) -> u32
         requires tree { IsTree self.now }
         requires owner { tree.has_user self.now full.now.user ≡ true }
@@ -208,7 +208,7 @@ impl PlainTree {
         self.next >= 4611686018427387904
     }
 
-    /// A text of its own with the bytes of a file, and more behind them.
+    /// A new text with the bytes of a file, followed by more.
     pub fn bytes_with(&self, alloc: Global, full: &Full, more: &[u8]) -> Result<Text, NoMemory>
         requires { tree.has_file self.now full.now ≡ true }
         ensures { IfOk result (λ text. text ≡ (tree.file_row self.now full.now).bytes ++ more.now) }
@@ -231,7 +231,7 @@ impl PlainTree {
         self.files.listing(alloc, user)
     }
 
-    /// Sets a user's row; without memory the tree stays as it was.
+    /// Sets a user's row. If memory runs out, the tree is unchanged.
     pub fn add_user(&mut self, user: User, entry: UserEntry) -> Result<(), NoMemory>
         ensures ok { OnOk result
             (self.new ≡ record self.old { users = finmap.insert self.old.users user entry }) }
@@ -241,7 +241,7 @@ impl PlainTree {
         Ok(())
     }
 
-    /// Sets one budget of a user who is there.
+    /// Sets one budget of an existing user.
     pub fn set_budget(&mut self, user: &User, kind: BudgetKind, amount: u64)
         requires there { tree.has_user self.old user.now ≡ true }
         requires limit { amount ≤ most_of kind }
@@ -254,7 +254,7 @@ impl PlainTree {
         }
     }
 
-    /// A new version of a file, or a new file; without memory the tree stays as it was.
+    /// Writes a new version of a file, or a new file. If memory runs out, the tree is unchanged.
     pub fn put_version(&mut self, alloc: Global, full: Full, bytes: Text) -> Result<(), NoMemory>
         requires few { length bytes ≤ 65536 }
         requires stamps { self.old.next < 2 ^ 62 }
@@ -278,7 +278,7 @@ impl PlainTree {
         self.files.remove(full);
     }
 
-    /// A file gets a name that no file has; without memory the tree stays as it was.
+    /// Gives a file a name that no file has. If memory runs out, the tree is unchanged.
     pub fn rename(&mut self, alloc: Global, full: &Full, to: Full) -> Result<(), NoMemory>
         requires there { tree.has_file self.old full.now ≡ true }
         requires free { tree.has_file self.old to ≡ false }
@@ -290,7 +290,7 @@ impl PlainTree {
         self.files.rename(alloc, full, to)
     }
 
-    /// A user gets exactly these modes of a file; without memory the tree stays as it was.
+    /// Gives a user exactly these modes for a file. If memory runs out, the tree is unchanged.
     pub fn set_traps(&mut self, full: &Full, user: &User, modes: Modes) -> Result<(), NoMemory>
         requires { tree.has_file self.old full.now ≡ true }
         ensures ok { OnOk result (self.new ≡ step.with_traps self.old full.now user.now modes) }
@@ -300,7 +300,7 @@ impl PlainTree {
     }
 }
 
-/// A first user's budgets.
+/// The budgets of the first two users.
 fn first_entry() -> UserEntry
     ensures { result
         ≡ record { superior = codes "MASTER"; space = 65535; time = 1000000; money = 1000000 } }

@@ -1,4 +1,4 @@
--- The files so far, and behind them those that are left.
+-- The files so far, followed by the remaining ones.
 use Rattle.std.proofs.Common.{◌≡◌, ◌++◌}
 use Rattle.g_plain.specs.PlainTree.{lengths}
 use Rattle.g_plain.proofs.file_map.listing_of.Given as goal

@@ -1,4 +1,4 @@
--- The row that was found is written back with other traps, or as it was.
+-- The row that was found is written back with other traps, or unchanged.
 use Rattle.std.proofs.Common.{◌∙◌, ap}
 use Rattle.std.specs.FinMap as map
 use Rattle.g_plain.proofs.Rows.{row_found, not_absent, found_some, written, row_is, with_row_modes, insert_same, on_ok, on_err}
