@@ -1,4 +1,5 @@
--- WHAT A JOB'S CALL DOES to the store's state, by what the devices did in it. The store is up and holds k.
+-- The effect of a job's call on the store's state, given what the devices did during the call. The store is up and
+-- holds k.
 use Rattle.std.specs.Prelude.{◌≡◌, ◌⊎◌, ℕ, ◌+◌, ◌<◌, ◌≤◌, Bool, true, false, not, ◌&&◌, ◌||◌, nat_lt, List, [], ◌∷◌, length, Option, Some, None, MatchOption, Result, Ok, Err, option_map, is_some, unwrap_or, if◌then◌else◌}
 use Rattle.std.specs.Ordering.{nat_cmp}
 use Rattle.std.specs.FinMap.{FinMap, insert, remove, empty}
@@ -15,7 +16,8 @@ use Rattle.g_plain.specs.PlainTree.{Tree, input_name, output_name, file_row}
 use Rattle.g_plain.specs.PlainStep.{first_fault, fault_of, plain_tree, reply_to}
 use Rattle.g_store_model.specs.State.{State, Holding, OpenDump, Place, place_at, fresh, is_mounted, room, is_taken, is_candidate, taken_blocks, taken_offline, with_online, with_all, without_all}
 
--- what the devices did in an event
+-- What the devices did in an event: nothing failed, a read of the disc failed, a read of tape failed, or a write
+-- failed.
 pub data Outcome : Type 0 where
   Plain : Outcome
   DiscRead : Outcome
@@ -34,8 +36,9 @@ abbrev pub is_cut : Outcome → Bool
 is_cut Cut = true
 is_cut o = false
 
--- WHAT EACH CALL WANTS: whose version it reads, whether it wants the bytes of an online one too, whether it brings an
--- offline one back, how many blocks its new version takes, whether it writes, and whose directory it changes
+-- What each call needs: the version that it reads; below, whether it needs the bytes of an online version, whether it
+-- brings an offline one back, how many blocks its new version occupies, whether it writes, and whose directories it
+-- changes.
 abbrev pub version_read : Tree → List ℕ → StoreCall → Option Full
 version_read tree who (Append path bytes) = Some (input_name tree who path)
 version_read tree who (Fetch path mode) = Some (input_name tree who path)
@@ -77,7 +80,7 @@ changes tree who call = []
 abbrev pub stamp_of : Tree → Full → ℕ
 stamp_of tree full = (file_row tree full).stamp
 
--- a new version takes the place of the old one
+-- A new version replaces the old one.
 abbrev pub with_version : Tree → Full → FinMap nat_cmp Place → FinMap nat_cmp Place
 with_version tree full places = insert (remove places (stamp_of tree full)) tree.next fresh
 
@@ -89,7 +92,7 @@ places_after tree who (Fetch path mode) places = with_online true (stamp_of tree
 places_after tree who (Retrieve path) places = with_online true (stamp_of tree (input_name tree who path)) places
 places_after tree who call places = places
 
--- an intent that no open dump has goes with the first commit
+-- A commit removes the intent from the disc, unless its dump is open.
 abbrev pub kept_intent : Option OpenDump → Option Intent → Option Intent
 kept_intent None intent = None
 kept_intent (Some d) intent = intent
@@ -100,7 +103,8 @@ commits s k = record s { holding = Some (record k { intent = kept_intent s.open_
 abbrev pub no_longer_kept : Holding → Holding
 no_longer_kept k = record k { kept = empty }
 
--- The store is gone, and all that it had in memory. (Kept is empty while no store is up: which users are kept is known in memory alone.)
+-- The store is down, and what it had in memory is lost. `kept` is empty while no store is up, since the kept users are known only in
+-- memory.
 abbrev pub down : State → State
 down s = record s { up = false; open_dump = None; holding = option_map no_longer_kept s.holding }
 
@@ -132,7 +136,7 @@ module _ (s : State) (k : Holding) (who : List ℕ) (call : StoreCall) where
   abbrev pub room_until : ℕ → ℕ
   room_until until = room s k + taken_blocks k until
 
-  -- The candidates with stamps below `until` are taken: just enough of them, or all.
+  -- The candidates with stamps below `until` are taken offline: only as many as are needed, or all.
   pub record IsUnjam (until : ℕ) : Type 0 where
     pub enough : (need ≤ room_until until) ⊎ ((stamp : ℕ) → is_candidate (place_at k.places stamp) ≡ true → stamp < until)
     pub least : (lower : ℕ) → lower < until → room_until lower < need
@@ -143,7 +147,7 @@ module _ (s : State) (k : Holding) (who : List ℕ) (call : StoreCall) where
   abbrev pub after_unjam : ℕ → State
   after_unjam until = commits s (taken_offline until k)
 
-  -- what is held behind the call
+  -- What the store holds after the call.
   abbrev pub held_after : ℕ → Holding
   held_after until = record (taken_offline until k) {
     tree = plain_tree k.tree who call;
@@ -155,9 +159,9 @@ module _ (s : State) (k : Holding) (who : List ℕ) (call : StoreCall) where
   after_call until =
       if writes call || brings_now then record (commits s (held_after until)) { open_dump = option_map touched_by s.open_dump } else s
 
--- WITH WHAT THE DEVICES DID
+-- The same, given what the devices did.
 module _ (s : State) (k : Holding) (who : List ℕ) (call : StoreCall) (o : Outcome) where
-  -- THE REFUSALS in their order: those before room is looked for, and those behind
+  -- The refusals in their order: those before room is checked; below, those after.
   abbrev pub early : Option StoreFault
   early = first_fault (
       (is_some (fault_of k.tree who call), unwrap_or (fault_of k.tree who call) Stopped)
@@ -172,8 +176,8 @@ module _ (s : State) (k : Holding) (who : List ℕ) (call : StoreCall) (o : Outc
       ∷ (is_cut o && (writes call || brings_now s k who call), Stopped)
       ∷ [])
 
-  -- A stop leaves all as before, or with what was to be taken offline offline, where there is any, or all as after.
-  -- Any other refusal leaves all as before.
+  -- A failed write leaves the state as before; or with the chosen versions offline, if there are any; or as after the
+  -- call. The store is then down. Any other refusal leaves the state unchanged.
   abbrev pub LeftByRefusal : ℕ → StoreFault → State → Type 0
   LeftByRefusal until Stopped new =
       (new ≡ down s)
@@ -188,6 +192,6 @@ module _ (s : State) (k : Holding) (who : List ℕ) (call : StoreCall) (o : Outc
         ((answer ≡ Ok (reply_to k.tree who call)) × (new ≡ after_call s k who call until))
         (λ fault. (answer ≡ Err fault) × LeftByRefusal until fault new)
 
-  -- THE STEP
+  -- The step of a call.
   abbrev pub CallStep : Result StoreReply StoreFault → State → Type 0
   CallStep answer new = MatchOption early (Planned answer new) (λ fault. (answer ≡ Err fault) × (new ≡ s))
