@@ -109,7 +109,7 @@ among_found until stamp (e ∷ es) sorted = by (cases_Bool (stamp == e.0)) (amon
 pub among_taken : (k : Holding) (until stamp : ℕ) → is_among stamp (below until (candidates k)) ≡ is_taken k until stamp
 among_taken k until stamp = among_found until stamp (entries k.places) (entries_sorted k.places) ∙ sym (ap (is_taken_of until stamp) (get-entries k.places stamp))
 
--- WHAT COMES OF IT: the room, and what is held
+-- The consequences: the room, and what the store holds.
 funext : {A B : Type 0} (f g : A → B) → ((x : A) → f x ≡ g x) → f ≡ g
 funext f g same = λ i x. same x i
 

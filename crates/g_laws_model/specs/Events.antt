@@ -1,4 +1,5 @@
--- THE OPERATOR'S EVENTS OF ONE COMMIT told so: each refusal an option, and a cut by itself.
+-- The operator's events of one commit, defined in the same way: each refusal as an option, and a failed write
+-- separately.
 use Rattle.std.specs.Prelude.{◌≡◌, ℕ, ◌+◌, ◌-◌, ◌^◌, ◌==◌, ◌↔◌, true, false, not, ◌&&◌, ◌||◌, nat_lt, List, [], ◌∷◌, Option, Some, None, Result, option_map, is_none, is_some}
 use Rattle.std.specs.List.{list_all}
 use Rattle.std.specs.Ordering.{nat_cmp}
@@ -25,7 +26,7 @@ DoesStart s (Some k) o answer new =
     Goes (first_of (when (is_disc_read o) DiscReadFault ∷ option_map MountFirst (unmounted_reel s k.intent) ∷ when (is_tape_read o) TapeReadFault ∷ []))
     (is_cut o && is_completed s k.intent) (option_map (λ d. d.number) (dump_adopted s k)) s [] (coming_up s (adopted (dump_adopted s k) k)) answer new
 
--- from the reels, of which a dump gives a tree
+-- From the reels, if their last dump gives a tree.
 abbrev pub DoesRestore : State → Dumped → Outcome → Result ℕ StoreFault → State → Type 0
 DoesRestore s d o answer new =
     Goes (first_of (
@@ -64,7 +65,7 @@ DoesMigrate s k user full o answer new =
     ∷ []))
     (is_cut o) full s [] (commits s (record k { places = with_online false (stamp_of k.tree full) k.places })) answer new
 
--- a mount and an unmount write nothing, so nothing cuts them
+-- A mount and an unmount write nothing, so no write can fail.
 abbrev pub DoesMount : State → ℕ → Result (Unit {0}) StoreFault → State → Type 0
 DoesMount s serial answer new = Goes (when (lacks s serial) NoTape) false tt s [] (record s { reels = with_reel serial (with_mounted true) s.reels }) answer new
 
@@ -73,7 +74,7 @@ DoesUnmount s serial answer new =
     Goes (first_of (when (lacks s serial) NoTape ∷ when (not (is_mounted s serial)) NotMounted ∷ when (is_busy serial s.open_dump) TapeBusy ∷ []))
     false tt s [] (record s { reels = with_reel serial (with_mounted false) s.reels }) answer new
 
--- the refusals of PROCESS before the reels are read
+-- The refusals of PROCESS before the reels are read.
 abbrev pub process_refusal : State → Holding → ℕ → Option StoreFault
 process_refusal s k serial = first_of (
     when (lacks s serial) NoTape
@@ -82,7 +83,7 @@ process_refusal s k serial = first_of (
     ∷ when (k.last == 2 ^ 62 - 1) CountersSpent
     ∷ [])
 
--- they are the steps of these events
+-- The steps of these events, and these definitions of them, are equivalent.
 pub record EventsAreSimple : Type 0 where
   pub format : (s : State) (o : Outcome) (answer : Result (Unit {0}) StoreFault) (new : State) → FormatStep s o answer new ↔ DoesFormat s o answer new
   pub start : (s : State) (o : Outcome) (answer : Result (Option ℕ) StoreFault) (new : State) → StartStep s o answer new ↔ DoesStart s s.holding o answer new
