@@ -97,7 +97,7 @@ module _ (users : List UserRec) (files : List FileRec) (bytes : FileRec → List
       output_found (with_generation full (n + 1)) output found (output_newest full n rules is none top)
       (ap (λ o. is_none o && (newest tree who path == 4095)) none ∙ ap (λ m. m == 4095) (sym same) ∙ not_same n 4095 below)
 
-  -- one behind the newest, which isn't there
+  -- The generation after the newest, which doesn't exist.
   below_next : (full : Full) (n : ℕ) → n ≡ newest_of users full files → newest_of users (with_generation full (n + 1)) files < n + 1
   below_next full n top = subst (λ m. m < n + 1) top (omega arith)
 

@@ -237,7 +237,7 @@ module _ (users : List UserRec) (files : List FileRec) (is : IsRecords users fil
   pub owner_at : (place : ℕ) (r : FileRec) → place < length files → r ≡ get_or files place r → r.owner < 63
   owner_at place r within here = owner_few r.owner (subst (λ s. s.owner < length users) (sym here) (is.among_files.owners place r within))
 
--- no version is there behind the newest
+-- No version after the newest exists.
 pub nothing_newer : (users : List UserRec) (files : List FileRec) (full : Full) → IsRecords users files → newest_of users full files < full.generation → number_of users files full ≡ None
 nothing_newer users files full is newer =
     elim (number_of users files full) as (λ o. number_of users files full ≡ o → o ≡ None) [

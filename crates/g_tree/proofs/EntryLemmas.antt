@@ -122,7 +122,7 @@ two_newest e two = nat_two e.newest (both_true (e.newest == 2) (is_some e.number
 pub two_number : (e : NameEntry) → is_first_of_two e ≡ true → is_some e.number ≡ true
 two_number e two = (both_true (e.newest == 2) (is_some e.number) two).1
 
--- generations behind the first
+-- Generations greater than 1.
 
 lt_is : (m n : ℕ) → nat_lt m n ≡ true → m < n
 lt_is m n e = grind (arith, nat_tests)
@@ -455,7 +455,7 @@ pub put_twice : (old mid new : FinMap full_cmp NameEntry) (full again named : Fu
 put_twice old mid new full again named e f before is is_named again_named =
     is ∙ (λ i. insert (before i) (again_named i) f) ∙ ap (λ k. insert (insert old k e) named f) is_named ∙ insert_twice old named e f
 
--- one behind the first, once the greatest generation is known
+-- A generation greater than 1, once the greatest generation is recorded.
 pub number_behind : (old mid new : FinMap full_cmp NameEntry) (full : Full) (e : NameEntry) → HasNumbers old mid → new ≡ insert mid full e → HasNumber old new full e.number
 number_behind old mid new full e same is = λ q.
     ap (λ m. number_in m q) is ∙ numbers_inserted mid full e q ∙ ap (λ o. cond (eq_by_cmp full_cmp q full) e.number o) (same q)

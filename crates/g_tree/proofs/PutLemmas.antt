@@ -1,4 +1,4 @@
--- How a changed record changes the maps that records stand for.
+-- How a changed record changes the maps that records represent.
 use Rattle.std.proofs.Common.{◌≡◌, ◌≢◌, ℕ, suc, ◌+◌, ◌<◌, ◌≤◌, Bool, true, false, cond, List, [], ◌∷◌, ◌++◌, length, map, filter, take, drop, nat_eq, nat_lt, ◌&&◌, get_or, Option, Some, None, refl, sym, ap, subst, ◌∙◌, arith, is_some, true≢false, ◌⊎◌, inl, inr, not}
 use Rattle.std.proofs.Math.ListN.{set}
 use Rattle.std.specs.List.{All, AllWithin, Contains}
@@ -205,7 +205,7 @@ module _ (users : List UserRec) (files : List FileRec) (place : ℕ) (r file : F
   by_names : not same ≡ not (full_eq (full_of users r) (full_of users file))
   by_names = ap not (told ∙ same_parts users files r file is (subst (λ s. s.owner < length users) (sym here) (is.among_files.owners place r at.within)))
 
-  -- the file that stands there has the name, whatever stands for none
+  -- The file at the place has the name, for any default value.
   pub stands_named : same ≡ true → (d : FileRec) → full_of users (get_or files place d) ≡ full_of users file
   stands_named named d =
       ap (full_of users) (get_or_default files place d r at.within ∙ sym here) ∙ names_agree (full_of users r) (full_of users file) (not same) by_names (ap not named)

@@ -172,7 +172,7 @@ module _ (users : List UserRec) (owner : ℕ) (traps : TrapList) (is : AreTrappe
         | false ↦ λ t. other u m within t
       ] refl
 
--- how many stand in the traps
+-- The number of users in the traps.
 
 one_more : (n : ℕ) → nat_le 9 (n + 1) ≡ nat_le 8 n
 one_more n = grind (arith, nat_tests)

@@ -1,4 +1,4 @@
--- How a changed or a new user changes the tree that records stand for.
+-- How a changed or a new user changes the tree that records represent.
 use Rattle.std.proofs.Common.{◌≡◌, ◌≢◌, ℕ, suc, ◌+◌, ◌<◌, ◌≤◌, List, [], ◌∷◌, ◌++◌, length, map, filter, fold, max, take, drop, get_or, Some, None, slice_get, refl, sym, ap, subst, ◌∙◌, arith, inl, inr}
 use Rattle.std.proofs.Math.ListN.{set}
 use Rattle.std.specs.List.{All, slice_index_or}
@@ -124,7 +124,7 @@ module _ (users : List UserRec) (files : List FileRec) (n : ℕ) (u : UserRec) (
       ap (λ ns. tree_by ns (set users n u) files bytes next) names_kept
       ∙ ap (λ m. record (tree_of users files bytes next) { users = m }) (users_other (user_row_of users) users n u within same rules.among_users.names)
 
--- a user behind the others
+-- A user appended to the others.
 
 pub superior_there : (us : List UserRec) (n : ℕ) → AreUsers us → 2 ≤ n → length us ≤ n + 1 → All (λ v. v.superior < n) us
 superior_there us n is both few = λ k d within.

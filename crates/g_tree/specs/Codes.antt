@@ -1,4 +1,4 @@
--- The states of this crate as data that proofs can tell apart.
+-- Codes of the states of this crate, by which proofs tell values apart.
 use Rattle.std.specs.Prelude.{ℕ, List, Option, refl}
 use Rattle.std.specs.Coded.{Coded, code_by, coded×, coded_ℕ, coded_option}
 use Rattle.std.specs.FinMap as map
