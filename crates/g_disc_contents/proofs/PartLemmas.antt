@@ -29,7 +29,7 @@ drop_cut n len xs = by_case (cases_lt len n)
         let sum : len ≡ n + (len - n) = omega (arith, long) in
         ap (λ (k : ℕ). drop n (take k xs)) sum ∙ drop-take n (len - n) xs
 
--- the first n bytes of a block and of what is behind it, and of these a block at most
+-- The first n bytes of a block and the blocks after it, and at most one block of these.
 front : (n : ℕ) (block rest : List ℕ) → length block ≡ 512 → take (length (take n (block ++ rest))) block ≡ take 512 (take n (block ++ rest))
 front n block rest whole =
     let text : List ℕ = block ++ rest in
@@ -55,7 +55,7 @@ part_at text len part block rest whole at =
     drop_cut (512 * part) len text ∙ ap (take (len - 512 * part)) at in
     record { front = subst (λ (t : List ℕ). take (length t) block ≡ take 512 t) (sym same) (front (len - 512 * part) block rest whole) }
 
--- what is behind the first blocks
+-- What follows the first blocks.
 module _ {A : Type 0} (F : A → List ℕ) where
   joined_at : (xs : List A) (part : ℕ) (d : A) → All (λ x. length (F x) ≡ 512) xs → part < length xs → (rest : List ℕ) × (drop (512 * part) (flat_map F xs) ≡ F (get_or xs part d) ++ rest)
   joined_at [] part d whole within = absurd (let no : ⊥ = omega (arith, within) in no)
