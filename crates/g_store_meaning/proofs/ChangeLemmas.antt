@@ -15,7 +15,7 @@ use Rattle.g_store_meaning.specs.Belonging.{DiscBelongs, IsIntended, KeepsFile, 
 use Rattle.g_store_meaning.specs.Laws.{BringsText, ClosingBelongs, FilesBelong, FormatBelongs, HasContent, IntentsBelong, RecordsAnew, RestoreBelongs, restored_file}
 use Rattle.g_store_meaning.proofs.BelongLemmas.{HasKept, Keeps, none_is}
 
--- other files alone
+-- Only the files change.
 with_other : (text : ℕ → List ℕ) (shelf : ℕ → List Dump) (reels : List Reel) (c : Contents) (files : List File) → DiscBelongs text shelf reels c
     → All (Keeps text (all_dumps shelf reels)) files → DiscBelongs text shelf reels (record c { files = files })
 with_other text shelf reels c files disc keep =

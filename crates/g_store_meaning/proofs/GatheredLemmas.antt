@@ -1,4 +1,4 @@
--- The records that are gathered of dumps, and those of the first users alone.
+-- The records that are gathered from dumps, for all users and for the first users only.
 use Rattle.std.proofs.Common.{◌≡◌, ◌≢◌, ℕ, ◌<◌, ◌≤◌, ◌==◌, List, [], ◌∷◌, ◌++◌, get_or, None, refl, sym, ◌∙◌, ap, arith, subst, All}
 use Rattle.std.specs.Prelude.{AllPairs, Contains}
 use Rattle.std.proofs.lemmas.List.{append_assoc, get_or_append_left, length-append}

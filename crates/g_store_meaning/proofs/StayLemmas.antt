@@ -19,7 +19,7 @@ use Rattle.g_store_meaning.proofs.BelongLemmas.{new_version_belongs}
 use Rattle.g_store_meaning.proofs.ChangeLemmas.{files_belong}
 use Rattle.g_store_meaning.proofs.DirectoryLemmas.{changes_keep_others, others_stay}
 
--- whatever dumps there are, what belonged belongs behind the change
+-- The change preserves belonging, for any dumps.
 unfoldable pub Carries : (ℕ → List ℕ) → (ℕ → List ℕ) → List Reel → Contents → Contents → Type 0
 Carries text new reels c e = (shelf : ℕ → List Dump) → RackBelongs text (all_dumps shelf reels) → DiscBelongs text shelf reels c → RackBelongs new (all_dumps shelf reels) × DiscBelongs new shelf reels e
 
