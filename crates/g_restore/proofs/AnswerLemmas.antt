@@ -1,4 +1,4 @@
--- The answers of a restore, from those of what was made.
+-- The answers of a restore, from the answers about the directory that was built.
 use Rattle.std.proofs.Common.{◌≡◌, ◌≢◌, ◌⊎◌, ◌↔◌, ℕ, List, Option, Some, Result, Ok, Err, refl, sym, subst, inr}
 use Rattle.std.specs.Prelude.{IfErr, IfOk, is_some}
 use Rattle.g_base.specs.ToldContent.{Changes}
@@ -91,7 +91,7 @@ pub one_of : {A B : Type 0} (result : Result A (StoreFault × B)) → IfErr resu
 one_of (Ok made) of = tt
 one_of (Err e) of = inr of
 
--- WHERE NONE IS MADE the refusal is one of the reels, whatever would have been answered
+-- If no directory was built, the refusal concerns the reels, for any other answer.
 pub not_of_reels : {P : Type 0} (fault y : StoreFault) → IsOfReels fault → (IsOfReels y → ⊥) → fault ≡ y → P
 not_of_reels fault y of never is = absurd (never (subst IsOfReels is of))
 

@@ -1,4 +1,4 @@
--- Disc and rack go on belonging together.
+-- A restore preserves the belonging of disc and rack.
 use Rattle.std.proofs.Common.{◌≡◌, ◌⊎◌, ℕ, true, List, Option, Some, None, refl, sym, ◌∙◌, ap, subst, inl, inr}
 use Rattle.std.proofs.lemmas.Option.{same_Some}
 use Rattle.g_base.specs.ToldContent.{Changes}

@@ -1,4 +1,4 @@
--- The directories of users, gathered one behind the other.
+-- The directories of users, gathered one after another.
 use Rattle.std.proofs.Common.{◌≡◌, ℕ, ◌+◌, ◌<◌, ◌≤◌, Bool, false, List, [], ◌∷◌, ◌++◌, length, get_or, take, Result, Some, Ok, Err, ◌↔◌, refl, sym, ◌∙◌, ap, arith, subst, below_more}
 use Rattle.std.specs.Prelude.{IfOk, IsTrue}
 use Rattle.std.proofs.lemmas.Bool.{false≢true}

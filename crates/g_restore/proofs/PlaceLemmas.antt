@@ -1,4 +1,4 @@
--- That a place is held, by the notes and by the dumps.
+-- A place is held according to the notes if and only if it is held by the dumps.
 use Rattle.std.proofs.Common.{◌≡◌, ℕ, ◌+◌, ◌-◌, ◌*◌, ◌<◌, ◌≤◌, List, [], ◌∷◌, length, get_or, take, drop, Option, Some, None, refl, sym, ◌∙◌, ap, arith, subst, All}
 use Rattle.std.specs.Prelude.{IfSome}
 use Rattle.std.proofs.lemmas.List.{get_or_default, length-append, length-drop, length-take-le}
@@ -25,7 +25,7 @@ length-joined (b ∷ bs) all =
 blocks_hold : (n : ℕ) → n ≤ 512 * blocks_for n
 blocks_hold n = omega arith
 
--- a text of this length stands at the place
+-- A text of this length is at the place.
 abbrev HasText : List Dump → ℕ → TapeCopy → Type 0
 HasText dumps len c = (text : List ℕ) × (length text ≡ len) × IsContent dumps c text
 

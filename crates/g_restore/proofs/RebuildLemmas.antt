@@ -75,7 +75,7 @@ is_restored reels held dumps d on is = record {
   made_is = made_is held dumps d is;
 }
 
--- THE RULES of what is made
+-- The rules of what is built.
 rec_first : (told : Bool) (r : FileRec) (b : Bool) → (let f : File = if b then record { rec = r; online = true; bytes = told_bytes told [] } else record { rec = r; online = false; bytes = None } in f.rec ≡ r)
 rec_first told r true = refl
 rec_first told r false = refl

@@ -68,7 +68,7 @@ pub all_reels : (i : ℕ) (found : List Found) (old new : Rack) → length old.r
     → (dumps : List Dump) × AreOnReels old.reels dumps × (map known found ≡ map known_of dumps)
 all_reels i found old new le so = (so.dumps, subst (λ (rs : List Reel). AreOnReels rs so.dumps) (take_all i old.reels le) so.on, so.known_are)
 
--- THE DUMPS OF REELS that tell what they hold are all completed ones
+-- The dumps of reels that expose their blocks are all completed dumps.
 pub all_of_reels : AreAllDumps
 all_of_reels [] dumps shelf told shelved on = on
 all_of_reels (r ∷ rs) dumps shelf told shelved (here, rest, are, on_r, more) =
