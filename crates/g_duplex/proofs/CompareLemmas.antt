@@ -27,16 +27,16 @@ rose_reading s k p p' tape.NoTape into free is = absurd (let never : None ≡ So
 rose_reading s k p p' tape.NotMounted into free is = absurd (let never : None ≡ Some tape.NotMounted = sym free ∙ is.0 in cc)
 rose_reading s k p p' tape.End into free is = absurd (let never : None ≡ Some tape.End = sym free ∙ is.0 in cc)
 
--- a count that rose behind other reads rose
+-- A count that rose after other reads rose.
 pub rose_then : (x y z : ℕ) → x ≤ y → Rose y z → Rose x z
 rose_then x y z less rose = record { more = omega (arith, less, rose.more) }
 
--- the told blocks of a reel that is there
+-- The exposed blocks of an existing reel.
 pub told_of_reel : (o : Option Reel) (bs : Blocks) → blocks_in o ≡ Some bs → (r : Reel) × (o ≡ Some r) × (r.blocks ≡ Some bs)
 told_of_reel None bs is = absurd (cc)
 told_of_reel (Some r) bs is = (r, refl, is)
 
--- a good read gives the told block
+-- A successful read returns the exposed block.
 pub read_block : (s k : ℕ) (p p' : Rack) (u : Unit {0}) (into : List ℕ) → Reading s k p (Ok u) into p' → ForSome (blocks_of s p) (λ bs. slice_get bs k ≡ Some into)
 read_block s k p p' u into is bs told =
     let (r, there, blocks) = told_of_reel (reel s p.reels) bs told in
@@ -61,7 +61,7 @@ both_there (Some a) (Some b) is = let up = by (a.mounted && b.mounted) is in (a,
     by true e = refl
     by false e = absurd (cc)
 
--- a block below the length may be read, also behind reads
+-- A block below the length may be read, also after reads.
 pub may_read : (s k n : ℕ) (old new : Rack) (a : Reel) → OnlyReads old new → reel s old.reels ≡ Some a → a.mounted ≡ true → ForSome (reel s old.reels) (λ r. n ≡ r.len) → k < n
     → refuses_read k (reel s new.reels) ≡ None
 may_read s k n old new a only there up long less =
@@ -108,7 +108,7 @@ one_differs s i p q p' q' p'' q'' so_far same = (
   ),
 )
 
--- told blocks are as many as the length says
+-- There are as many exposed blocks as the length says.
 pub told_long : (s : ℕ) (p : Rack) (xs : Blocks) (r : Reel) → AreReels p.reels → reel s p.reels ≡ Some r → blocks_of s p ≡ Some xs → length xs ≡ r.len
 told_long s p xs r are there told =
     let told' : r.blocks ≡ Some xs = sym (ap blocks_in there) ∙ told in

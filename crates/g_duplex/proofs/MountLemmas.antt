@@ -1,4 +1,4 @@
--- What is told of paired reels, and their mounting.
+-- What is known of paired reels without mounting them, and their mounting.
 use Rattle.std.proofs.Common.{◌≡◌, ℕ, List, [], ◌∷◌, Bool, true, false, ◌&&◌, ◌==◌, Option, Some, None, Result, Ok, Err, if◌then◌else◌, map, refl, sym, subst, ap, ◌∙◌, inl, inr, eq-eqb, ◌⊎◌}
 use Rattle.std.proofs.lemmas.Bool.{ne_eqb}
 use Rattle.std.proofs.lemmas.Bool.Decides.{eqb_tells}
@@ -35,7 +35,7 @@ some_one : (o : Option Reel) → (o ≡ None) ⊎ ((x : Reel) × (o ≡ Some x))
 some_one None = inl refl
 some_one (Some x) = inr (x, refl)
 
--- WHAT IS TOLD
+-- The numbers that are known without mounting a reel.
 module _ (s : ℕ) (ts : List Standing) (xs ys : List Reel) (paired : ArePaired ts xs ys) where
   pub none_standing_seen : standing s xs ts ≡ None → reel s (pair_reels ts xs ys) ≡ None
   none_standing_seen is =

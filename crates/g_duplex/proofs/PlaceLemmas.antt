@@ -38,7 +38,8 @@ first_within s ts xs ys i paired first =
     let long = long_standings ts xs ys paired in
     omega (arith, within, long)
 
--- what holds of racks and standings at the place of a reel: it does where the reel is the first, and goes on behind a reel of another serial
+-- A property of racks and standings at the place of a reel: it holds if the reel is the first, and carries over past a reel of another
+-- serial.
 at_place : (s : ℕ) (P : List Reel → List Standing → ℕ → Type 0)
     → ((r : Reel) (rs : List Reel) (t : Standing) (ts : List Standing) → (s == r.serial) ≡ true → P (r ∷ rs) (t ∷ ts) 0)
     → ((r : Reel) (rs : List Reel) (t : Standing) (ts : List Standing) (i : ℕ) → (s == r.serial) ≡ false → P rs ts i → P (r ∷ rs) (t ∷ ts) (suc i))
@@ -117,7 +118,7 @@ lost_few (x ∷ xs) (Level ∷ ts) = omega (arith, lost_few xs ts)
 lost_few (x ∷ xs) (Apart k ∷ ts) = omega (arith, lost_few xs ts)
 lost_few (x ∷ xs) (Lost twin ∷ ts) = omega (arith, lost_few xs ts)
 
--- the lost twins by the labels alone
+-- The lost twins depend only on the labels.
 pub lost_same : (xs ys : List Reel) (ts : List Standing) → map (λ (r : Reel). r.serial) ys ≡ map (λ (r : Reel). r.serial) xs → lost_of ys ts ≡ lost_of xs ts
 lost_same [] [] ts same = refl
 lost_same [] (y ∷ ys) ts same = let wrong : (y.serial ∷ map (λ (r : Reel). r.serial) ys) ≡ [] = same in absurd (cc)

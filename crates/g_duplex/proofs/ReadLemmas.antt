@@ -61,7 +61,7 @@ helper_up k Level a b may is = second_of a.mounted b.mounted is
 helper_up k (Apart j) a b may is = second_of a.mounted b.mounted is
 helper_up k (Lost twin) a b may is = let never : false ≡ true = may in absurd (cc)
 
--- the other twin has the block too, where it may be asked
+-- The other twin has the block too, if it may be read.
 helper_long : (k : ℕ) (t : Standing) (a b : Reel) → may_help k t ≡ true → DoAgree t a b → nat_lt k (of_leader t a b).len ≡ true → nat_lt k (of_other t a b).len ≡ true
 helper_long k Level a b may agree below = ap (nat_lt k) (sym agree.0) ∙ below
 helper_long k (Apart j) a b may agree below = let less : k < j = ltb-true k j may in lt-ltb k b.len (omega (arith, less, agree.1))
@@ -120,7 +120,7 @@ to_second P (Lost Second) f g f' g' one two = two
 nothing_else : (old new : Rack) → new ≡ old → OnlyReads old new
 nothing_else old new same = subst (OnlyReads old) (sym same) (nothing_read old)
 
--- what was asked only reads
+-- The rack that is used is only read.
 helps_only : (may : Bool) (s k : ℕ) (old new : Rack) (result : Answer) (into : List ℕ) → Helps may s k old result into new → OnlyReads old new
 helps_only true s k old new result into is = reading_only s k old new result into is
 helps_only false s k old new result into is = nothing_else old new is.1

@@ -1,4 +1,4 @@
--- A PAIR THAT IS MADE DURABLE is seen as it was, and its reels stay twins.
+-- A pair that is made durable appears unchanged, and its reels remain twins.
 -- serves: calls::DuplexTapes::secure
 use Rattle.std.proofs.Common.{◌≡◌, ◌⊎◌, ℕ, List, Bool, true, false, not, ◌&&◌, ◌||◌, Option, Some, None, is_some, Result, Ok, Err, inl, inr, if◌then◌else◌, refl, sym, ap, subst, arith, ◌∙◌, length}
 use Rattle.std.specs.Option.{ForSome}
@@ -38,7 +38,7 @@ pub secured_only : (s : ℕ) (t after : Standing) (lead other lead' other' : Rac
     → OnlyReads lead lead' × OnlyReads other other'
 secured_only s t after lead other lead' other' result (answer, securing, on) = (securing_only s lead lead' answer securing, on_only s t after lead' other other' answer result on)
 
--- HOW IT ENDS: well, or with a failed read; the twins stand as they did, or the second one is given up
+-- The outcomes: success, or a failed read; the standing is unchanged, or the second twin is given up.
 record Settled (t : Standing) (spare : Bool) (result : Answer) (after : Standing) : Type 0 where
   answer : (result ≡ Ok tt) ⊎ (result ≡ Err ReadFailed)
   stands : (after ≡ t) ⊎ ((after ≡ Lost Second) × (is_lost t ≡ false) × (spare ≡ true))
@@ -73,7 +73,7 @@ on_settled s t after lead lead' other other' (Ok u) result r there securing on =
 on_settled s t after lead lead' other other' (Err fault) result r there securing (is, stays, same) =
     record { answer = inr (is ∙ ap (λ (f : TapeFault). let e : Answer = Err f in e) (only_failed s lead lead' fault r there securing)); stands = inl stays }
 
--- one that went well left the leading rack as it was
+-- A successful call left the leading rack unchanged.
 give_up_same : (s : ℕ) (t after : Standing) (lead lead' other other' : Rack) (answer result : Answer) → Securing s lead answer lead' → SecuresOn s t lead' other answer result after other'
     → after ≡ Lost Second → is_lost t ≡ false → lead' ≡ lead
 give_up_same s t after lead lead' other other' (Ok u) result (there, same) on lost fine = same
@@ -101,7 +101,7 @@ give_up_at s one two a b first second is =
     sym (ap (λ (m : Bool). not m || b.mounted) (ap is_mounted first))
     ∙ sym (ap (λ (n : Bool). not (is_mounted (reel s one.reels)) || n) (ap is_mounted second)) ∙ is
 
--- THE PAIR, as it stands then
+-- The pair after the call.
 module _ (s : ℕ) (p : Pair) (t after : Standing) (first' second' : Rack) (result : Answer)
     (paired : ArePaired p.standings p.first.reels p.second.reels) (stand : standing_in s p ≡ Some t)
     (secured : HasSecured t s (leading t p) (behind t p) result after (of_leader t first' second') (of_other t first' second')) where
@@ -122,7 +122,7 @@ module _ (s : ℕ) (p : Pair) (t after : Standing) (first' second' : Rack) (resu
       let (lead, other) = secured_only s t after (leading t p) (behind t p) (of_leader t first' second') (of_other t first' second') result secured in
       to_second OnlyReads t p.first p.second first' second' lead other
 
-  -- the reels of this serial are seen as they were
+  -- The reels of this serial appear unchanged.
   alike : after ≡ Lost Second → is_lost t ≡ false → may_give_up s (of_leader t first' second') (behind t p) ≡ true → may_give_up s p.first p.second ≡ true
   alike lost fine spare =
       let (answer, securing, on) = secured in

@@ -1,4 +1,4 @@
--- What a contract sees of paired racks.
+-- Paired racks, as contracts see them.
 use Rattle.std.specs.Prelude.{ℕ, List, Option}
 use Rattle.g_tape.specs.Rack.{Rack}
 use Rattle.g_tape.specs.declared.tapes.Tapes.{Ghosts}
