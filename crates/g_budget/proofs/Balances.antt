@@ -1,4 +1,4 @@
--- The law of balances: each posting keeps an account balanced.
+-- The law of balances: each posting preserves the balance of an account.
 use Rattle.std.proofs.Common.{◌≡◌, ℕ, ◌+◌, ◌<◌, List, [], ◌∷◌, length, sum, remove, get_or, refl, subst, sym, arith}
 use Rattle.std.proofs.lemmas.List.Sums.{sum_by-cons, sum_by-remove}
 use Rattle.g_budget.specs.Account.{Balance, IsReserved, Jobs, Posting, Reserve, Settle, begun, ended, HasEnded, HasPosted, IsBalanced, AddsUp}

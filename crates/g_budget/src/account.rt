@@ -1,20 +1,20 @@
-//! Accounts: what is left of a budget, beside what unfinished jobs hold of it.
+//! Accounts: what is left of a budget, and what unfinished jobs have reserved of it.
 ghost use Rattle.g_budget.specs.Account.{Balance, IsReserved, IsSettled, AddsUp};
 ghost use Rattle.std.specs.Prelude.{◌≡◌, ◌+◌, ◌<◌, ◌≤◌, ◌↔◌, ◌^◌, ℕ, OnOk, OnErr, IsErrOf};
 
 use std::marker::{Model, PhantomData};
 use thiserror::Error;
 
-/// The refusal of a reservation, which says what kind of budget an account is of.
+/// The refusal of a reservation; its type says what kind of budget the account has.
 pub trait Refusal: Drop {
     ghost says: { ℕ → ℕ → Self };
 
-    /// The refusal of `ask` where only `left` is there.
+    /// The refusal of `ask` if only `left` is available.
     fn of(ask: u64, left: u64) -> Self
         ensures { result ≡ says ask left };
 }
 
-/// More TIME was asked for than the account has left. Both are units of TIME.
+/// A job needs more TIME than the account has left. Both are units of TIME.
 #[derive(Clone, Copy, Debug, PartialEq, Eq, Error)]
 #[error("{ask} units of TIME are needed and {left} are left")]
 pub struct NoTime {
@@ -22,7 +22,7 @@ pub struct NoTime {
     pub left: u64,
 }
 
-/// More MONEY was asked for than the account has left.
+/// A job needs more MONEY than the account has left.
 #[derive(Clone, Copy, Debug, PartialEq, Eq, Error)]
 #[error("{ask} units of MONEY are needed and {left} are left")]
 pub struct NoMoney {
@@ -63,7 +63,7 @@ impl<R: Refusal> Model for Account<R> {
 }
 
 impl<R: Refusal> Account<R> {
-    /// An account from which no job holds anything yet.
+    /// An account without reservations.
     pub fn new(opening: u64) -> Account<R>
         ensures { result ≡ record { left = opening; held = 0 } }
     {
@@ -74,14 +74,14 @@ impl<R: Refusal> Account<R> {
         }
     }
 
-    /// What is neither charged nor held.
+    /// What is neither charged nor reserved.
     pub fn left(&self) -> u64
         ensures { result ≡ self.now.left }
     {
         self.left
     }
 
-    /// Holds `ask` for a job that begins. A refusal leaves the account as it was.
+    /// Reserves `ask` for a job that begins. A refusal leaves the account unchanged.
     pub fn reserve(&mut self, ask: u64) -> Result<(), R>
         ensures ok { OnOk result (IsReserved self.old ask self.new) }
         ensures short { IsErrOf result (R.says ask self.old.left) ↔ (self.old.left < ask) }
@@ -96,7 +96,7 @@ impl<R: Refusal> Account<R> {
         Ok(())
     }
 
-    /// Ends a job that had `reserved`: `used` of it is charged, and the rest goes back.
+    /// Ends a job that had `reserved`: `used` of it is charged, and the rest is available again.
     pub fn settle(&mut self, reserved: u64, used: u64)
         requires within { used ≤ reserved }
         requires held { reserved ≤ self.old.held }

@@ -1,5 +1,4 @@
-//! Budgets: what a job's turn costs by the tariff that was handed in, and the accounts of TIME and of
-//! MONEY that pay for it.
+//! Budgets: what a job's turn costs by the given tariff, and the accounts of TIME and of MONEY that pay for it.
 #![tactic(auto)]
 
 mod account;

@@ -1,4 +1,4 @@
-//! A turn's usage, its charge, and the tariff that gives the one for the other: the caller's closure.
+//! A turn's usage, its charge, and the tariff that computes the charge: a closure of the caller.
 ghost use Rattle.g_budget.specs.Tariff.{IsTariff, IsUsage, IsCharge};
 ghost use Rattle.std.specs.Fn.{FnReturnsAt};
 ghost use Rattle.std.specs.Prelude.{◌≡◌};
@@ -13,7 +13,7 @@ pub const MAX_BLOCKS: u32 = 4_096;
 
 const _: () = prove!(MAX_ORDERS == 64 && MAX_BLOCKS == 4_096);
 
-/// What one turn of a job used: orders run, and blocks of 512 bytes fetched, put or appended.
+/// What one turn of a job used: orders run, and blocks of 512 bytes fetched, written or appended.
 #[derive(Clone, Copy, PartialEq, Eq)]
 pub struct Usage {
     pub orders: u32,
@@ -40,7 +40,7 @@ impl<F> Model for Tariff<F> {
 }
 
 impl<F: Fn(&Usage) -> Charge> Tariff<F> {
-    /// A tariff that answers as the rule does, which may be asked of every usage in range.
+    /// A tariff that answers as the rule does, which must accept every usage in range.
     pub fn new(rule: F) -> Tariff<F>
         requires { IsTariff F.Fn rule }
         ensures { result ≡ rule }
@@ -48,7 +48,7 @@ impl<F: Fn(&Usage) -> Charge> Tariff<F> {
         Tariff { rule }
     }
 
-    /// What a turn of this usage costs, by the kept rule.
+    /// What a turn of this usage costs by the rule.
     pub fn charge(&self, usage: &Usage) -> Charge
         requires tariff { IsTariff F.Fn self.now }
         requires in_range { IsUsage usage.now }

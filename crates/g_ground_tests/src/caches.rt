@@ -1,4 +1,4 @@
-//! What a cached disc answers over a disc in memory whose calls are set to fail.
+//! The results of a cached disc on a disc in memory whose calls are set to fail.
 ghost use Rattle.std.specs.Prelude.{◌≡◌, IfOk};
 
 use crate::discs::{read_back, write_filled};
@@ -29,7 +29,7 @@ fn ample(rt: HostRuntime) {
         write_filled(&rt, &mut disc, u32::from(x), x).expect(&rt, "a write");
         assert!(rt; read_back(&rt, &mut disc, u32::from(x)) == Ok((x, x)));
     }
-    // More blocks than are kept.
+    // More blocks than the cache holds.
     for x in 0..70u8 {
         assert!(rt; read_back(&rt, &mut disc, u32::from(x)) == Ok((x, x)));
     }
@@ -44,7 +44,7 @@ fn a_second_read_asks_no_disc(rt: HostRuntime) {
     let mut disc = cached(rt.alloc(), below).expect(&rt, "memory");
     assert!(rt; read_back(&rt, &mut disc, 1) == Ok((0, 0)));
     assert!(rt; read_back(&rt, &mut disc, 1) == Ok((0, 0)));
-    // Another block is asked of the disc, at its second read.
+    // The read of another block goes to the disc, at its second read.
     assert!(rt; read_back(&rt, &mut disc, 0).is_err());
     assert!(rt; read_back(&rt, &mut disc, 0) == Ok((0, 0)));
 }

@@ -1,4 +1,4 @@
-//! Texts stored on a disc in memory and read back, and what a failing read or write in the middle leaves.
+//! Texts stored on a disc in memory and read back, and the state after a read or write that fails in the middle.
 use g_blocks::Pool;
 use g_copy::{CopyFault, drop_copy, read_copy, store_copy};
 use g_disc::{Disc, Leave, MemoryDisc};

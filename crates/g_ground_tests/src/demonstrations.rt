@@ -49,7 +49,7 @@ fn ample(rt: HostRuntime) {
     assert!(rt; text.as_slice() == b"DEMO 0 1\nLINES 32\nBYTES 1235\nFOLD 3128029425\n".as_slice());
 }
 
-/// Words that ask for nothing.
+/// Words that request nothing.
 static NONE: [&[&str]; 12] = [
     &[],
     &[""],

@@ -1,4 +1,4 @@
-//! What real files hold behind each adapter, which no clause can say: against bytes by hand, read by `std::fs`.
+//! The contents of real files for each adapter, which no clause can state: compared with bytes written out manually, read by `std::fs`.
 mod disc;
 mod rack;
 mod streams;
@@ -9,12 +9,12 @@ use g_tape::Tapes;
 use std::fs::{self, File};
 use std::io;
 
-/// Makes a file of so many zeros.
+/// Creates a file of this many zeros.
 fn make(rt: &HostRuntime, name: &str, bytes: u64) -> io::Result<()> {
     File::create(rt, name)?.set_len(bytes)
 }
 
-/// How long a file is.
+/// The length of a file.
 fn len_of(rt: &HostRuntime, name: &str) -> io::Result<u64> {
     Ok(fs::metadata(rt, name)?.len())
 }

@@ -1,4 +1,4 @@
-//! What a disc keeps, and just when and how it fails, through the bound that all layers use.
+//! What a disc stores, and exactly when and how it fails, through the trait that all layers use.
 use g_base::{Block, ReadFailed, WriteFailed};
 use g_disc::{Disc, Leave, MemoryDisc};
 use std::process::Abort;

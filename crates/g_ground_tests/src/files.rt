@@ -1,11 +1,11 @@
-//! A disc on a file in memory, whose calls are short, and one of which fails.
+//! A disc on a file in memory whose calls are short, and one of which fails.
 use g_base::WriteFailed;
 use g_disc::Disc;
 use g_files::{FileDisc, MemoryFile, Origin};
 use std::io;
 
-/// A disc of 2,178 blocks of zeros. Each call of its file moves at most `most` bytes; the k-th fails, after it wrote `torn` bytes if it
-/// is a write.
+/// A disc of 2,178 blocks of zeros. Each call of its file moves at most `most` bytes; the k-th call fails, after writing `torn` bytes if it is a
+/// write.
 fn disc_of(rt: &HostRuntime, most: usize, k: u32, torn: usize) -> io::Result<FileDisc<MemoryFile>> {
     let mut file = MemoryFile::zeros(rt.alloc(), 1_115_136)?;
     if most > 0 {
@@ -36,7 +36,7 @@ fn a_failed_flush_keeps_its_blocks(rt: HostRuntime) {
     assert!(rt; block == [2; 512]);
 }
 
-/// A run whose last flush fails hears of it.
+/// A run whose last flush fails gets the error.
 #[test]
 fn a_finish_that_fails_says_so(rt: HostRuntime) {
     let mut disc = disc_of(&rt, 0, 3, 0).expect(&rt, "a disc");

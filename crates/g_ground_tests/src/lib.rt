@@ -1,5 +1,4 @@
-//! Tests of the crates at the ground and of programs: rows that were worked out by hand, and each call that takes memory
-//! once.
+//! Tests of the lowest crates and of programs: rows that were worked out manually, and one call of each function that allocates memory.
 #![tactic(auto)]
 
 #[cfg(test)]

@@ -1,5 +1,4 @@
-//! What a rack keeps, when it refuses, and just when and how it fails, through the bound that all
-//! layers use.
+//! What a rack stores, when it refuses, and exactly when and how it fails, through the trait that all layers use.
 use g_base::{Block, NoMemory};
 use g_tape::{MemoryTapes, TapeFault, TapeLeave, Tapes};
 use std::alloc::Global;

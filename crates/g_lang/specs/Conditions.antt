@@ -1,4 +1,4 @@
--- Conditions, as they are written.
+-- Conditions and their texts.
 use Rattle.std.specs.List.{list_all}
 use Rattle.std.specs.Prelude.{Bool, List, [], codes, false, if◌then◌else◌, nat_le, not, true, ℕ, ◌&&◌, ◌++◌, ◌==◌, ◌∷◌, ◌≡◌}
 use Rattle.g_lang.specs.Words.{is_printed}
@@ -7,11 +7,11 @@ use Rattle.g_lang.specs.declared.line.Test.{Test}
 use Rattle.g_lang.specs.declared.line.Test.TheVariants.{Absent, CommandError, Deleted, Equals, Failed, Halted, Present}
 use Rattle.g_name.specs.Order.{same_text}
 
--- printed bytes without brackets
+-- The text has only printed bytes, and no brackets.
 abbrev pub is_plain_text : List ℕ → Bool
 is_plain_text text = list_all (λ c. is_printed c && not (c == 40) && not (c == 41)) text
 
--- a parameter's letter, A to X
+-- The byte is a parameter's letter, A to X.
 abbrev pub is_param_letter : ℕ → Bool
 is_param_letter c = nat_le 65 c && nat_le c 88
 
@@ -42,7 +42,7 @@ IsCond cond = IsTest cond.test
 abbrev pub cond_text : Cond → List ℕ
 cond_text cond = (if cond.negated then codes "NOT " else []) ++ test_text cond.test
 
--- the same condition
+-- The two conditions are the same.
 abbrev pub same_test : Test → Test → Bool
 same_test CommandError CommandError = true
 same_test Failed Failed = true

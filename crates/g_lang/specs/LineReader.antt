@@ -1,5 +1,5 @@
--- How lines are read: a reader that takes one byte after another, and what a line of the grammar says.
--- Nothing here has to be believed: the law `lines_are_read_by_the_grammar` says what it answers.
+-- How lines are read: a reader that takes one byte after another, and what a line of the grammar says. None of this has to be believed: the law
+-- `lines_are_read_by_the_grammar` relates it to the grammar.
 use Rattle.std.specs.Prelude.{Bool, Err, List, None, Ok, Option, Some, [], codes, false, if◌then◌else◌, length, map, nat_lt, not, pred, suc, true, zero, ℕ, ◌&&◌, ◌++◌, ◌+◌, ◌==◌, ◌||◌, ◌∷◌}
 use Rattle.g_lang.specs.Conditions.{is_param_letter}
 use Rattle.g_lang.specs.Lines.{LineSaid, Reading, Said, SaidGoto, SaidIf, SaidVerb, SaidWhenever}
@@ -11,7 +11,7 @@ use Rattle.g_lines.specs.Lines.{onto_first}
 use Rattle.g_name.specs.Grammar.{is_digit, is_letter, is_name_char}
 use Rattle.g_name.specs.Order.{same_text}
 
--- what comes behind a fixed text of a condition: a test; the comma; a text in brackets; a letter, with a text behind it or not
+-- What follows a fixed text of a condition: a test; the comma; a text in brackets; a letter, with a text to compare or without.
 pub data Next : Type 0 where
   ATest : Next
   AComma : Next
@@ -40,12 +40,12 @@ behind_fixed AComma = BeforeComma
 behind_fixed AText = InText
 behind_fixed (ALetter equals) = Letter equals
 
--- in a fixed text, of which this is left; the state `Fixed` has its next byte first
+-- The state within a fixed text of which `rest` is left; the state `Fixed` has its next byte first.
 abbrev pub fixed : List ℕ → Next → State
 fixed [] next = behind_fixed next
 fixed (c ∷ rest) next = Fixed c rest next
 
--- the fixed text that begins with a byte; NOT stands once
+-- The state after the first byte of a condition's fixed text; NOT is allowed once.
 abbrev pub test_from : Bool → ℕ → Option State
 test_from negated c =
     if (c == 78) && not negated then Some (fixed (codes "OT ") ATest)
@@ -58,7 +58,7 @@ test_from negated c =
     else if c == 83 then Some (fixed (codes "TRING(%") (ALetter true))
     else None
 
--- the word ends with a space
+-- The state after a word that ends with a space.
 abbrev pub state_behind_word : List ℕ → Bool → Option State
 state_behind_word word inner =
     if same_text word (codes "IF") || same_text word (codes "WHENEVER") then Some (ATestFrom false)
@@ -97,7 +97,7 @@ step c Back = if c == 32 then Some Back else None
 step c VerbGap = if c == 32 then Some VerbGap else in_params 0 c
 step c (Params depth) = in_params depth c
 
--- a line may end here
+-- A line may end in this state.
 abbrev pub may_end : State → Bool
 may_end Front = true
 may_end (InLabel n) = true
@@ -116,12 +116,12 @@ may_end Back = true
 may_end VerbGap = true
 may_end (Params depth) = depth == 0
 
--- the place where a text goes wrong, counted from here, if it does
+-- The place where a text read from this state goes wrong, counted from `at`; none if it doesn't.
 abbrev pub wrong_from : State → ℕ → List ℕ → Option ℕ
 wrong_from s at [] = if may_end s then None else Some at
 wrong_from s at (c ∷ cs) = elim (step c s) [ None ↦ Some at | Some t ↦ wrong_from t (at + 1) cs ]
 
--- what stands behind a front
+-- The rest of a text after a given front, if the text begins with it.
 abbrev pub behind : List ℕ → List ℕ → Option (List ℕ)
 behind [] text = Some text
 behind (f ∷ front) [] = None
@@ -130,13 +130,13 @@ behind (f ∷ front) (c ∷ cs) = if f == c then behind front cs else None
 abbrev pub depth_behind : ℕ → ℕ → ℕ
 depth_behind c depth = if c == 40 then depth + 1 else if c == 41 then pred depth else depth
 
--- between the commas outside of brackets
+-- The parts of a text between the commas outside of brackets.
 abbrev pub parts_of : ℕ → List ℕ → List (List ℕ)
 parts_of depth [] = [] ∷ []
 parts_of depth (c ∷ cs) =
     if c == 44 && depth == 0 then [] ∷ parts_of 0 cs else onto_first c (parts_of (depth_behind c depth) cs)
 
--- before and behind the first comma outside of brackets
+-- The text before the first comma outside of brackets, and the text after it.
 abbrev pub before_comma : ℕ → List ℕ → List ℕ
 before_comma depth [] = []
 before_comma depth (c ∷ cs) = if c == 44 && depth == 0 then [] else c ∷ before_comma (depth_behind c depth) cs
@@ -154,7 +154,7 @@ abbrev pub letter_of : List ℕ → ℕ
 letter_of [] = 65
 letter_of (c ∷ cs) = c
 
--- behind a letter and `)=(`
+-- The text after a letter and `)=(`.
 abbrev pub behind_equals : List ℕ → List ℕ
 behind_equals (letter ∷ a ∷ b ∷ c ∷ rest) = rest
 behind_equals rest = []
@@ -197,7 +197,7 @@ behind_word (c ∷ cs) = if c == 32 then without_front (c ∷ cs) else behind_wo
 abbrev pub verb_read : List ℕ → Said
 verb_read text = SaidVerb (word_of text) (params_read (behind_word text)) (behind_word text)
 
--- a command has no more conditions than bytes
+-- What the text of a command says; n bounds the number of its conditions, of which it has no more than bytes.
 abbrev pub command_read : ℕ → List ℕ → Said
 command_read zero text = verb_read text
 command_read (suc n) text = elim (behind (codes "IF ") text) [
@@ -212,7 +212,7 @@ abbrev pub option_read : List ℕ → Option Said
 option_read [] = None
 option_read (c ∷ cs) = Some (command_read (suc (length cs)) (c ∷ cs))
 
--- what a line of the grammar says, once the spaces at its ends are gone
+-- What a line of the grammar says, once the spaces at its ends are removed.
 abbrev pub read_trimmed : List ℕ → LineSaid
 read_trimmed text =
     if is_label (word_of text) then record { label = Some (word_of text); command = option_read (behind_word text) }
@@ -221,6 +221,6 @@ read_trimmed text =
 abbrev pub line_read : List ℕ → LineSaid
 line_read text = read_trimmed (trimmed text)
 
--- THE READING of a line
+-- THE READING of a line: what it says, or the place where it goes wrong.
 unfoldable pub reading : List ℕ → Reading
 reading text = elim (wrong_from Front 0 text) [ None ↦ Ok (line_read text) | Some place ↦ Err place ]

@@ -1,4 +1,4 @@
--- Lines as they are written, and what they say.
+-- Written lines, their texts, and what they say.
 use Rattle.std.specs.Prelude.{All, Bool, Err, IfSome, List, None, Ok, Option, Result, Some, [], codes, false, is_some, map, not, option_map, true, unwrap_or, ℕ, ◌&&◌, ◌++◌, ◌||◌, ◌∷◌, ◌≡◌, ◌≤◌}
 use Rattle.g_lang.specs.Conditions.{IsCond, cond_text}
 use Rattle.g_lang.specs.Words.{is_label, is_part, is_trimmed, joined, spaces, trimmed}
@@ -7,8 +7,8 @@ use Rattle.g_name.specs.BadPlace.{IsBadPlace}
 use Rattle.g_name.specs.Grammar.{is_word}
 use Rattle.g_name.specs.Order.{same_text}
 
--- A command as it is written: the label of GOTO; a condition and a command; a verb, the spaces behind it, and
--- its parameters with the spaces around them.
+-- A written command: GOTO with its label; IF or WHENEVER with a condition and a command; or a verb, the number of spaces after it, and its parameters
+-- with the spaces around them.
 pub data Written : Type 0 where
   WrittenGoto : List ℕ → Written
   WrittenIf : Cond → Written → Written
@@ -25,16 +25,16 @@ command_text (WrittenIf cond inner) = codes "IF " ++ (cond_text cond ++ (44 ∷ 
 command_text (WrittenWhenever cond inner) = codes "WHENEVER " ++ (cond_text cond ++ (44 ∷ command_text inner))
 command_text (WrittenVerb name gap parts) = name ++ params_text gap parts
 
--- IF, WHENEVER and GOTO are no verbs
+-- The name is a verb: a word other than IF, WHENEVER and GOTO.
 abbrev pub is_verb : List ℕ → Bool
 is_verb name = is_word name && not (same_text name (codes "IF") || same_text name (codes "WHENEVER") || same_text name (codes "GOTO"))
 
--- a verb has no parameters, or spaces and some
+-- A verb has no parameters, or at least one space and then some.
 abbrev pub AreParts : ℕ → List (List ℕ) → Type 0
 AreParts gap [] = Unit {0}
 AreParts gap (part ∷ parts) = (1 ≤ gap) × All (λ p. is_part 0 p ≡ true) (part ∷ parts) × (is_trimmed (joined (part ∷ parts)) ≡ true)
 
--- INPUT stands behind no condition
+-- The command is an INPUT, which no condition may precede.
 abbrev pub is_input : Written → Bool
 is_input (WrittenGoto label) = false
 is_input (WrittenIf cond inner) = false
@@ -47,7 +47,7 @@ IsWritten (WrittenIf cond inner) = IsCond cond × IsWritten inner × (is_input i
 IsWritten (WrittenWhenever cond inner) = IsCond cond × IsWritten inner × (is_input inner ≡ false)
 IsWritten (WrittenVerb name gap parts) = (is_verb name ≡ true) × AreParts gap parts
 
--- what a command says
+-- What a command says.
 pub data Said : Type 0 where
   SaidGoto : List ℕ → Said
   SaidIf : Cond → Said → Said
@@ -60,18 +60,18 @@ said_by (WrittenIf cond inner) = SaidIf cond (said_by inner)
 said_by (WrittenWhenever cond inner) = SaidWhenever cond (command_text inner)
 said_by (WrittenVerb name gap parts) = SaidVerb name (map trimmed parts) (joined parts)
 
--- the text of some command
+-- The bytes are the text of some command.
 abbrev pub IsCommandText : List ℕ → Type 0
 IsCommandText text = (w : Written) × IsWritten w × (text ≡ command_text w)
 
--- the command that waits, here or behind conditions, is the text of a command
+-- The command stored for a WHENEVER, here or after conditions, is the text of a command.
 abbrev pub KeepsCommand : Said → Type 0
 KeepsCommand (SaidGoto label) = Unit {0}
 KeepsCommand (SaidIf cond inner) = KeepsCommand inner
 KeepsCommand (SaidWhenever cond command) = IsCommandText command
 KeepsCommand (SaidVerb name params rest) = Unit {0}
 
--- a line as it is written: a label and a command, each of which may be absent, with spaces around them
+-- A written line: a label and a command, each of which may be absent, with spaces around them.
 pub record WrittenLine : Type 0 where
   pub front : ℕ
   pub label : Option (List ℕ)
@@ -91,11 +91,11 @@ pub record IsLine (l : WrittenLine) : Type 0 where
   pub command : IfSome l.command IsWritten
   pub apart : is_some l.label && is_some l.command ≡ true → 1 ≤ l.gap
 
--- THE GRAMMAR: the text of some line
+-- THE GRAMMAR: the bytes are the text of some line.
 abbrev pub IsLineText : List ℕ → Type 0
 IsLineText text = (l : WrittenLine) × IsLine l × (text ≡ line_text l)
 
--- what a line says; a blank one has no command
+-- What a line says; a blank one has no command.
 pub record LineSaid : Type 0 where
   pub label : Option (List ℕ)
   pub command : Option Said
@@ -103,7 +103,7 @@ pub record LineSaid : Type 0 where
 abbrev pub said_in : WrittenLine → LineSaid
 said_in l = record { label = l.label; command = option_map said_by l.command }
 
--- what a text is read as: what it says as a line, or the place where it goes wrong
+-- The reading of a text: what it says as a line, or the place where it goes wrong.
 abbrev pub Reading : Type 0
 Reading = Result LineSaid ℕ
 

@@ -1,4 +1,4 @@
--- Where the text of a verb's parameters is kept.
+-- The bytes of a verb's parameters, stored in either form.
 use Rattle.std.specs.Prelude.{List, ℕ}
 use Rattle.g_lang.specs.declared.rest.Kept.{Kept}
 use Rattle.g_lang.specs.declared.rest.Kept.TheVariants.{Few, Many}

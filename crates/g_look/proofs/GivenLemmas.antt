@@ -1,4 +1,4 @@
--- What is printed as restorable is what the completed dumps give.
+-- The files printed as restorable are those that the completed dumps give.
 use Rattle.std.proofs.Common.{◌≡◌, Bool, true, false, List, ◌++◌, Option, Result, Ok, Err, IfOk, sym, ◌∙◌, ap, subst, ℕ}
 use Rattle.g_entry.specs.declared.file_rec.FileRec.{FileRec}
 use Rattle.g_entry.specs.declared.user_rec.UserRec.{UserRec}

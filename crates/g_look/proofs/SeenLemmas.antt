@@ -1,4 +1,4 @@
--- What is seen of a rack whose dumps were read.
+-- The dumps read from a rack are those of its reels.
 use Rattle.std.proofs.Common.{◌≡◌, ◌<◌, List, length, get_or, map, sym, ◌∙◌, ap, arith, subst, All}
 use Rattle.std.specs.Prelude.{AllPairs}
 use Rattle.std.specs.List.Sorted.{IsStrictlyIncreasing}

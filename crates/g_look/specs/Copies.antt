@@ -1,4 +1,4 @@
--- THE BYTES OF A FILE by its record, wherever the rack tells what it holds.
+-- THE BYTES OF A FILE by its record, if the rack exposes its blocks.
 use Rattle.std.specs.Prelude.{◌≡◌, ℕ, ◌<◌, List, length, Option, Some, None}
 use Rattle.std.specs.Option.{ForSome}
 use Rattle.g_copy.specs.Copy.{bytes_at}
@@ -10,7 +10,7 @@ use Rattle.g_incr.specs.Layout.{Dump}
 use Rattle.g_store_meaning.specs.Meaning.{IsContent}
 use Rattle.g_look.specs.Looks.{OfDumps}
 
--- what was read at a copy, or that it is nowhere
+-- The text was read at a copy; or the copy is nowhere.
 pub record IsHeldAt (dumps : List Dump) (copy : TapeCopy) (len : ℕ) (text : List ℕ) : Type 0 where
   pub long : length text ≡ len
   pub content : 0 < len → IsContent dumps copy text
@@ -18,7 +18,7 @@ pub record IsHeldAt (dumps : List Dump) (copy : TapeCopy) (len : ℕ) (text : Li
 abbrev pub IsHeldNowhere : List Dump → TapeCopy → ℕ → Type 0
 IsHeldNowhere dumps copy len = (text : List ℕ) → length text ≡ len → IsContent dumps copy text → ⊥
 
--- the bytes of a record's copy, and of a file with its copy on the disc
+-- The bytes of a record's copy, and of a file with its copy on the disc.
 pub record IsHeldBy (dumps : List Dump) (r : FileRec) (text : List ℕ) : Type 0 where
   pub copy : TapeCopy
   pub copy_is : r.tape ≡ Some copy

@@ -9,17 +9,17 @@ use Rattle.g_name.specs.declared.full.Full.{Full}
 use Rattle.g_monitor.specs.Parts.{full_text, modes_text}
 use Rattle.g_look.specs.Text.{copy_text, holder_text, told}
 
--- a user, and what the user may do
+-- A user, and what the user may do.
 abbrev pub trap_text : List UserRec → ℕ × ℕ → List ℕ
 trap_text users pair = holder_text users pair.0 ++ codes " " ++ modes_text pair.1
 
--- full name, length, stamp, and traps: the owner, then the others in order of number
+-- Full name, length, stamp, and traps: those of the owner, then of the others in order of number.
 abbrev pub file_front : Full → List UserRec → FileRec → List ℕ
 file_front full users r =
     full_text full ++ told (codes " LENGTH ") r.len ++ told (codes " STAMP ") r.stamp ++ codes " TRAPS"
     ++ trap_text users (r.owner, r.traps.owner) ++ flat_map (trap_text users) r.traps.others
 
--- where it lies
+-- The place of a file.
 abbrev pub place_text : ℕ → List ℕ
 place_text k = told (codes " ") k
 
@@ -31,11 +31,11 @@ abbrev pub taped_text : Option TapeCopy → List ℕ
 taped_text None = []
 taped_text (Some c) = copy_text c
 
--- an empty file counts as on the disc
+-- An empty file counts as on the disc.
 abbrev pub empty_text : ℕ → List ℕ
 empty_text len = if len == 0 then codes " DISC" else []
 
--- A FILE OF A DISC, and a file that a restore gives
+-- A FILE OF A DISC, and a file that a restore gives.
 abbrev pub disc_file_line : Full → List UserRec → Option DiscCopy → FileRec → List ℕ
 disc_file_line full users copy r = file_front full users r ++ blocks_text copy ++ taped_text r.tape
 

@@ -1,4 +1,4 @@
--- A DISC OVER A RACK of which no rule is broken.
+-- A DISC NEXT TO A RACK without a broken rule.
 use Rattle.std.specs.Prelude.{◌≡◌, ℕ, ◌≤◌, List, Option, Some, None}
 use Rattle.g_entry.specs.declared.file_rec.FileRec.{FileRec}
 use Rattle.g_tape.specs.Reel.{Reel}

@@ -9,13 +9,13 @@ use Rattle.g_restore.specs.Places.{AnyHas}
 use Rattle.g_look.specs.declared.broken.Broken.{Broken}
 use Rattle.g_look.specs.declared.broken.Broken.TheVariants.{Lengths, NoCopy}
 
--- the copy of one of the files isn't content of dumps
+-- The copy of one of the files isn't content of dumps.
 abbrev pub IsCopyGone : List Found → List UserRec → List FileRec → Broken → Type 0
 IsCopyGone found users files (NoCopy full copy) =
     (r : FileRec) × Contains files r × (full_of users r ≡ full) × (r.tape ≡ Some copy) × (AnyHas found copy (blocks_for r.len) → ⊥)
 IsCopyGone found users files broken = ⊥
 
--- a dumped record of the same stamp has another length
+-- A dumped record of the same stamp has another length.
 pub record HasOtherLength (dumped : List FileRec) (r : FileRec) (len : ℕ) : Type 0 where
   pub of : FileRec
   pub there : Contains dumped of

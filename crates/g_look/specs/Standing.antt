@@ -1,4 +1,4 @@
--- WHAT WAS SEEN of a disc: its current slot, and the directory there with its format.
+-- WHAT WAS READ of a disc: its current slot, and the directory there with its format.
 use Rattle.std.specs.Prelude.{ℕ, List, Option, Some, None, IfSome}
 use Rattle.std.specs.Option.{ForSome}
 use Rattle.g_entry.specs.declared.format.Format.{Format}
@@ -16,7 +16,7 @@ abbrev pub found_in : Option (Format × Dirs) → Option (Format × Directory)
 found_in None = None
 found_in (Some f) = Some (f.0, directory_in f.1)
 
--- a directory that can be used, whether or not the disc tells what it holds
+-- The directory is valid, whether or not the disc exposes its blocks.
 pub record IsSound (size : ℕ) (dirs : Dirs) : Type 0 where
   pub copies : AreCopies dirs.files.items dirs.online.items
   pub records : AreRecords Two (directory_in dirs)

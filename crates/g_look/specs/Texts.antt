@@ -1,4 +1,4 @@
--- THE TEXTS OF A VERSION, at the disc and at up to two places on tape.
+-- THE TEXTS OF A VERSION, on the disc and at up to two places on tape.
 use Rattle.std.specs.Prelude.{◌≡◌, ◌≢◌, ◌⊎◌, ℕ, ◌≤◌, List, length, take, drop, Contains, Option, Some, None, IfSome}
 use Rattle.std.specs.Option.{ForSome, option_map}
 use Rattle.g_base.specs.Block.{blocks_for}
@@ -16,25 +16,25 @@ use Rattle.g_look.specs.declared.broken.Broken.TheVariants.{Bytes}
 use Rattle.g_look.specs.declared.broken.Lie.{Lie}
 use Rattle.g_look.specs.declared.broken.Lie.TheVariants.{Disc, Tape}
 
--- the text stands at the place, on the reel of that serial, where there is one that tells and has so many blocks as a reel may have
+-- The `len` bytes from the place on, on the reel of that serial, if there is one, it exposes its blocks, and the place isn't past the longest reel.
 abbrev pub IsTapeText : List Reel → TapeCopy → ℕ → List ℕ → Type 0
 IsTapeText reels copy len text = (r : Reel) → Contains reels r → r.serial ≡ copy.serial → ForSome r.blocks (λ blocks. copy.first ≤ 65536
     → text ≡ take len (joined (take (blocks_for len) (drop copy.first blocks))))
 
--- what lies on the disc of a file of this number, where the disc tells
+-- The bytes of this copy on the disc, if the disc exposes its blocks.
 abbrev pub IsDiscText : Option (List (List ℕ)) → Option DiscCopy → Option (List ℕ) → Type 0
 IsDiscText held copy text = ForSome held (λ blocks. text ≡ option_map (λ c. bytes_at c.blocks c.len blocks) copy)
 
--- the place of a dumped record of this stamp
+-- The place of a dumped record of this stamp, or none if these records have none.
 abbrev pub IsDumpedPlace : List FileRec → ℕ → Option TapeCopy → Type 0
 IsDumpedPlace dumped stamp None = (of : FileRec) → Contains dumped of → of.stamp ≡ stamp → of.tape ≡ None
 IsDumpedPlace dumped stamp (Some copy) = (of : FileRec) × Contains dumped of × (of.stamp ≡ stamp) × (of.tape ≡ Some copy)
 
--- the second place is the dumped record's, where that is another one than the first
+-- The second place is the dumped record's, unless that is the first one as well.
 abbrev pub IsSecond : Option TapeCopy → Option TapeCopy → Option TapeCopy → Type 0
 IsSecond tape place second = (second ≡ place) ⊎ ((second ≡ None) × (place ≡ tape))
 
--- ALL TEXTS AGREE
+-- ALL TEXTS AGREE.
 pub record AgreeAt (reels : List Reel) (len : ℕ) (there : Option (List ℕ)) (first second : Option TapeCopy) : Type 0 where
   pub x : List ℕ
   pub y : List ℕ
@@ -44,12 +44,12 @@ pub record AgreeAt (reels : List Reel) (len : ℕ) (there : Option (List ℕ)) (
   pub disc_second : IfSome there (λ b. IfSome second (λ c. b ≡ y))
   pub both : IfSome first (λ c. IfSome second (λ e. x ≡ y))
 
--- what was read at a place of them
+-- The text that was read at one of the places.
 abbrev pub WasReadAt : List Reel → ℕ → Option (List ℕ) → Option TapeCopy → Option TapeCopy → Lie → List ℕ → Type 0
 WasReadAt reels len there first second Disc text = there ≡ Some text
 WasReadAt reels len there first second (Tape copy) text = ((first ≡ Some copy) ⊎ (second ≡ Some copy)) × IsTapeText reels copy len text
 
--- OR TWO DON'T
+-- OR TWO DON'T.
 pub record DifferAt (reels : List Reel) (len : ℕ) (there : Option (List ℕ)) (first second : Option TapeCopy) (one other : Lie) : Type 0 where
   pub x : List ℕ
   pub y : List ℕ
@@ -57,7 +57,7 @@ pub record DifferAt (reels : List Reel) (len : ℕ) (there : Option (List ℕ)) 
   pub other_is : WasReadAt reels len there first second other y
   pub differ : x ≢ y
 
--- the same of texts at hand
+-- The same for texts in memory.
 pub record AllAgree (there : Option (List ℕ)) (first : Option TapeCopy) (x : List ℕ) (second : Option TapeCopy) (y : List ℕ) : Type 0 where
   pub disc_first : IfSome there (λ b. IfSome first (λ c. b ≡ x))
   pub disc_second : IfSome there (λ b. IfSome second (λ c. b ≡ y))
@@ -74,7 +74,7 @@ pub record TwoDiffer (there : Option (List ℕ)) (first : Option TapeCopy) (x : 
   pub other_is : LiesHere there first x second y other t
   pub differ : s ≢ t
 
--- what was compared of a file
+-- The texts of a file that were compared.
 pub record AreCompared (held : Option (List (List ℕ))) (online : List (ℕ × DiscCopy)) (dumped : List FileRec) (r : FileRec) (there : Option (List ℕ)) (second : Option TapeCopy) : Type 0 where
   pub there_is : IsDiscText held (copy_at online r.number) there
   pub long : IfSome there (λ bytes. length bytes ≡ r.len)

@@ -1,20 +1,20 @@
--- Parameters put into a line.
+-- Parameters substituted into a line.
 use Rattle.std.specs.Prelude.{Bool, List, [], codes, drop, if◌then◌else◌, length, nat_le, slice_index_or, ℕ, ◌&&◌, ◌++◌, ◌-◌, ◌==◌, ◌||◌, ◌∷◌}
 use Rattle.g_lang.specs.Conditions.{is_param_letter}
 use Rattle.g_name.specs.Order.{same_text}
 
--- the parameter of a letter, the empty text where it is absent
+-- The parameter of a letter; the empty text if it is absent.
 abbrev pub param_of : List (List ℕ) → ℕ → List ℕ
 param_of params letter = slice_index_or params (letter - 65) []
 
 abbrev pub ends_with : List ℕ → List ℕ → Bool
 ends_with text back = nat_le (length back) (length text) && same_text (drop (length text - length back) text) back
 
--- behind one of these a parameter's name stays, since the condition asks for it by name
+-- The line so far ends as a condition that names a parameter; then the name isn't replaced.
 abbrev pub is_asked : List ℕ → Bool
 is_asked done = ends_with done (codes "PRESENT(") || ends_with done (codes "ABSENT(") || ends_with done (codes "STRING(")
 
--- what `%` and the byte behind it become, with the line's own bytes before them
+-- What `%` and the next byte become, given the line's bytes before them.
 abbrev pub filled : List (List ℕ) → List ℕ → ℕ → List ℕ
 filled params done c =
     if c == 37 then 37 ∷ []
@@ -24,7 +24,7 @@ filled params done c =
 abbrev pub is_filled : ℕ → ℕ → Bool
 is_filled c d = c == 37 && (d == 37 || is_param_letter d)
 
--- THE LINE AFTER SUBSTITUTION: `%%`, `%` with a letter, and single bytes, from the left; what was put in isn't looked at again
+-- THE LINE AFTER SUBSTITUTION, from left to right: `%%`, `%` with a letter, and single bytes. Substituted text isn't expanded again.
 abbrev pub expand : List (List ℕ) → List ℕ → List ℕ → List ℕ
 expand params done [] = []
 expand params done (c ∷ []) = c ∷ []
@@ -36,7 +36,7 @@ expand params done (c ∷ d ∷ rest) =
 abbrev pub substituted : List (List ℕ) → List ℕ → List ℕ
 substituted params line = expand params [] line
 
--- what stands at the front of the rest of a line, put in, and how many bytes of the line it is
+-- The first piece of the rest of a line after substitution, and its length in the line.
 abbrev pub first_filled : List (List ℕ) → List ℕ → List ℕ → List ℕ
 first_filled params done [] = []
 first_filled params done (c ∷ []) = c ∷ []

@@ -1,4 +1,4 @@
--- The levels of a job, and the lines that it takes of them.
+-- The levels of a job, and the lines that it takes from them.
 use Rattle.std.specs.Prelude.{All, Bool, List, None, Option, Some, [], codes, drop, false, find, if◌then◌else◌, length, nat_le, nat_lt, not, option_map, replicate, slice_index_or, slice_set, take, true, ℕ, ◌&&◌, ◌==◌, ◌++◌, ◌+◌, ◌-◌, ◌||◌, ◌∷◌, ◌≡◌, ◌≤◌}
 use Rattle.g_lang.specs.Conditions.{same_cond}
 use Rattle.g_lang.specs.Lines.{IsCommandText}
@@ -11,26 +11,26 @@ use Rattle.g_macro.specs.declared.entry.Entry.{Entry}
 use Rattle.g_macro.specs.declared.outcome.Outcome.{Outcome}
 use Rattle.g_name.specs.Order.{same_text}
 
--- a level: all its lines, its 24 parameters, how many lines were taken, its WHENEVERs in their order
+-- A level: all its lines, its 24 parameters, how many lines were taken, and its WHENEVERs in order.
 pub record Level : Type 0 where
   pub lines : List (List ℕ)
   pub params : List (List ℕ)
   pub taken : ℕ
   pub entries : List Entry
 
--- THE LEVELS: the current one first; whether the last of them, the document, is held open for lines to come
+-- THE LEVELS, the current one first, and whether the last of them, the document, is held open for more lines.
 pub record Stack : Type 0 where
   pub levels : List Level
   pub held : Bool
 
--- 24 parameters, of which those that aren't there are empty
+-- 24 parameters; those that weren't given are empty.
 abbrev pub padded : List (List ℕ) → List (List ℕ)
 padded params = params ++ replicate (24 - length params) []
 
 abbrev pub level_of : List (List ℕ) → List (List ℕ) → Level
 level_of lines params = record { lines = lines; params = padded params; taken = 0; entries = [] }
 
--- the levels of a job that begins
+-- The levels of a job at its beginning.
 abbrev pub begun : List (List ℕ) → Stack
 begun lines = record { levels = level_of lines [] ∷ []; held = false }
 
@@ -44,12 +44,12 @@ abbrev pub is_last : List Level → Bool
 is_last [] = true
 is_last (level ∷ levels) = false
 
--- without the levels in front that have no line left; a document that is held stays
+-- The levels without the leading ones that have no line left; a document that is held open remains.
 abbrev pub live : Bool → List Level → List Level
 live held [] = []
 live held (level ∷ below) = if has_line level || (held && is_last below) then level ∷ below else live held below
 
--- what is taken: nothing, a line, or the first 240 bytes of one that is longer
+-- The taken line: none, a line, or the first 240 bytes of a longer one.
 pub data Taken : Type 0 where
   Nothing : Taken
   Line : List ℕ → Taken
@@ -72,7 +72,7 @@ take_line held (level ∷ below) =
 abbrev pub next_line : Stack → Taken × Stack
 next_line s = take_line s.held (live s.held s.levels)
 
--- with another current level; where there is none nothing changes
+-- The levels with another current level; without any level nothing changes.
 abbrev pub changed : (Level → Level) → List Level → List Level
 changed change [] = []
 changed change (level ∷ below) = change level ∷ below
@@ -87,7 +87,7 @@ first_level (level ∷ below) = level
 abbrev pub current : Stack → Level
 current s = first_level s.levels
 
--- the lines of a document up to `////`, or to the end, and how many lines that passes
+-- The lines of a document up to `////`, or to the end, and the number of lines that this passes.
 abbrev pub is_closing : List ℕ → Bool
 is_closing line = same_text line (codes "////")
 
@@ -102,7 +102,7 @@ passed (line ∷ lines) = if is_closing line then 1 else 1 + passed lines
 abbrev pub lines_left : Level → List (List ℕ)
 lines_left level = drop level.taken level.lines
 
--- THE DOCUMENT of an INPUT, each line with its byte 10
+-- THE DOCUMENT of an INPUT, each line with its byte 10.
 abbrev pub document_of : Stack → List ℕ
 document_of s = text_of (before_closing (lines_left (current s)))
 
@@ -112,14 +112,14 @@ past_document level = record level { taken = level.taken + passed (lines_left le
 abbrev pub document_passed : Stack → Stack
 document_passed s = with_current past_document s
 
--- a macro's level is the current one; there are 8 at most
+-- A macro's level becomes the current one; there are at most 8 levels.
 abbrev pub is_deepest : Stack → Bool
 is_deepest s = nat_le 8 (length s.levels)
 
 abbrev pub called : List (List ℕ) → List (List ℕ) → Stack → Stack
 called lines params s = record s { levels = level_of lines params ∷ s.levels }
 
--- the first line of the level that has this label
+-- The first line of the level that has this label.
 abbrev pub line_of_label : List ℕ → List (List ℕ) → Option ℕ
 line_of_label label [] = None
 line_of_label label (line ∷ lines) = if has_label label line then Some 0 else option_map (λ n. 1 + n) (line_of_label label lines)
@@ -130,7 +130,7 @@ at_line place level = record level { taken = place }
 abbrev pub gone_to : ℕ → Stack → Stack
 gone_to place s = with_current (at_line place) s
 
--- the command in the place of that of an equal condition, or behind all
+-- The command replaces that of an equal condition, or is appended.
 abbrev pub has_cond : Cond → List Entry → Bool
 has_cond cond [] = false
 has_cond cond (entry ∷ entries) = same_cond entry.cond cond || has_cond cond entries
@@ -158,27 +158,28 @@ with_param letter value s = with_current (param_set letter value) s
 abbrev pub holds : Stack → Cond → Outcome → Bool
 holds s cond outcome = cond_holds (current s).params outcome cond
 
--- a command waits in the level
+-- A command waits in the level.
 abbrev pub has_entry : Level → Bool
 has_entry level = not (length level.entries == 0)
 
--- the first entry that holds, in its level
+-- The first entry of a level whose condition holds.
 abbrev pub entry_that_holds : Level → Outcome → Option Entry
 entry_that_holds level outcome = find (λ entry. cond_holds level.params outcome entry.cond) level.entries
 
--- THE WHENEVER THAT FIRES: the entries of the current level in order, then those of the one below, and so on; the levels above its own go
+-- THE WHENEVER THAT FIRES: the entries of the current level are tried in order, then those of the one below, and so on; the levels above the one that
+-- fires are dropped.
 abbrev pub fired : Outcome → List Level → Option (List ℕ × List Level)
 fired outcome [] = None
 fired outcome (level ∷ below) = elim (entry_that_holds level outcome) [ Some entry ↦ Some (entry.command, level ∷ below) | None ↦ fired outcome below ]
 
--- the rules of the levels
+-- The rules of a level: 24 parameters, no more lines taken than it has, at most 16 entries, and each stored command is the text of a command.
 pub record IsLevel (level : Level) : Type 0 where
   pub params : length level.params ≡ 24
   pub taken : level.taken ≤ length level.lines
   pub entries : length level.entries ≤ 16
   pub commands : All (λ entry. IsCommandText entry.command) level.entries
 
--- the place of the entry with a condition
+-- The place of the entry with this condition.
 abbrev pub place_of_cond : Cond → List Entry → Option ℕ
 place_of_cond cond [] = None
 place_of_cond cond (entry ∷ entries) =

@@ -1,4 +1,4 @@
--- What conditions ask.
+-- The tests of conditions.
 use Rattle.std.specs.Prelude.{Bool, List, false, if◌then◌else◌, not, true, ℕ}
 use Rattle.g_lang.specs.declared.line.Cond.{Cond}
 use Rattle.g_lang.specs.declared.line.Test.{Test}
@@ -31,6 +31,6 @@ test_holds params outcome (Present letter) = not (is_empty (param_of params lett
 test_holds params outcome (Absent letter) = is_empty (param_of params letter)
 test_holds params outcome (Equals letter text) = same_text (param_of params letter) text
 
--- whether a condition holds, by the parameters of a level and the outcome of the last command
+-- The condition holds, by the parameters of a level and the outcome of the last command.
 abbrev pub cond_holds : List (List ℕ) → Outcome → Cond → Bool
 cond_holds params outcome cond = if cond.negated then not (test_holds params outcome cond.test) else test_holds params outcome cond.test

@@ -1,4 +1,4 @@
--- How the calls of the levels answer.
+-- The results of the calls on the levels.
 use Rattle.std.specs.Prelude.{Err, List, None, Ok, Option, Result, Some, false, true, ℕ, ⊤, ◌≡◌, ◌≢◌}
 use Rattle.g_lang.specs.declared.line.Cond.{Cond}
 use Rattle.g_macro.specs.Holding.{with_typed}

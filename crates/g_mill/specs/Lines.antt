@@ -1,7 +1,7 @@
--- The lines of a text: each ends with a byte 10, which the last may lack.
+-- The lines of a text: each ends with a byte 10, which the last one may be missing.
 use Rattle.std.specs.Prelude.{ℕ, ◌==◌, List, [], ◌∷◌, if◌then◌else◌}
 
--- with a byte in front of the first line
+-- The lines with a byte inserted before the first of them.
 abbrev pub before_lines : ℕ → List (List ℕ) → List (List ℕ)
 before_lines b [] = (b ∷ []) ∷ []
 before_lines b (line ∷ lines) = (b ∷ line) ∷ lines

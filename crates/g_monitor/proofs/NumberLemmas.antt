@@ -28,7 +28,7 @@ word_short (first ∷ others) is =
 pub lang_short : (lang : List ℕ) → is_lang lang ≡ true → length lang ≤ 4
 lang_short lang is = leb-true (length lang) 4 (and_parts (nat_le (length lang) 4) (list_all is_name_char lang) is).0
 
--- the text is the number, a space and what stands behind
+-- the text is the number, a space and a rest
 abbrev Numbered : ℕ → List ℕ → Type 0
 Numbered number text = (rest : List ℕ) × (text ≡ decimal number ++ 32 ∷ rest)
 

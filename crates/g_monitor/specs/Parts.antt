@@ -17,22 +17,22 @@ mode_word Erase = codes "ERASE"
 abbrev pub full_text : Full → List ℕ
 full_text full = name_text (full_name full)
 
--- the mode's letter, or a dot where it is closed
+-- The mode's letter, or a dot if the mode is closed.
 abbrev pub shown_mode : ℕ → Mode → ℕ → ℕ
 shown_mode modes mode letter = if allows modes mode then letter else 46
 
--- `RWAXE`, with a dot for each mode that is closed
+-- `RWAXE`, with a dot for each mode that is closed.
 unfoldable pub modes_text : ℕ → List ℕ
 modes_text modes =
     shown_mode modes Read 82 ∷ shown_mode modes Write 87 ∷ shown_mode modes Append 65 ∷ shown_mode modes Execute 88 ∷ shown_mode modes Erase 69 ∷ []
 
--- some words and a number, or two with a space between them
+-- Words and a number, or two numbers with a space between them.
 abbrev pub with_number : List ℕ → ℕ → List ℕ
 with_number words n = words ++ decimal n
 
 abbrev pub with_numbers : List ℕ → ℕ → ℕ → List ℕ
 with_numbers words m n = ((words ++ decimal m) ++ codes " ") ++ decimal n
 
--- some words, a full name, a space and a number
+-- Words, a full name, a space and a number.
 abbrev pub with_copy : List ℕ → Full → ℕ → List ℕ
 with_copy words full n = ((words ++ full_text full) ++ codes " ") ++ decimal n

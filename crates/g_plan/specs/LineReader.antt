@@ -1,5 +1,4 @@
--- How a line is read.
--- Nothing here has to be believed: the law `lines_are_read_by_their_forms` says what it answers.
+-- How a line is read. None of this has to be believed: the law `lines_are_read_by_their_forms` relates it to the forms.
 use Rattle.std.specs.Prelude.{◌-◌, ◌^◌, ℕ, List, [], ◌∷◌, Bool, true, false, not, ◌&&◌, ◌==◌, Option, Some, None, codes, drop, length, nat_le, if◌then◌else◌}
 use Rattle.std.specs.Option.{option_and_then, option_map}
 use Rattle.std.specs.List.{list_all}
@@ -15,7 +14,7 @@ use Rattle.g_plan.specs.declared.form.Value.{Value}
 use Rattle.g_plan.specs.declared.form.Value.TheVariants.{Number, Named}
 use Rattle.g_plan.specs.declared.mnemonic.Mnemonic.{Mnemonic}
 
--- the only word
+-- The only word of a list, if it has exactly one.
 abbrev pub only : List (List ℕ) → Option (List ℕ)
 only [] = None
 only (w ∷ []) = Some w
@@ -24,7 +23,7 @@ only (w ∷ v ∷ ws) = None
 abbrev pub from_least : ℕ → ℕ → Option ℕ
 from_least least n = if nat_le least n then Some n else None
 
--- a label, or else a number
+-- A label, otherwise a number.
 abbrev pub number_value : ℕ → List ℕ → Option Value
 number_value most text = option_map Number (number_read most text)
 
@@ -35,7 +34,7 @@ named_or None number = number
 abbrev pub value_read : ℕ → List ℕ → Option Value
 value_read most text = named_or (label_read text) (number_value most text)
 
--- a word, which may be negative
+-- The word of a WORD line, which may be negative.
 abbrev pub negative : ℕ → Value
 negative n = Number (2 ^ 24 - n)
 
@@ -46,7 +45,7 @@ abbrev pub word_read : List ℕ → Option Value
 word_read [] = None
 word_read (c ∷ cs) = if c == 45 then negative_read cs else value_read (2 ^ 24 - 1) (c ∷ cs)
 
--- the modifier behind an address
+-- The modifier after an address.
 abbrev pub in_brackets : ℕ → ℕ → ℕ → Option ℕ
 in_brackets c d e = if (c == 40) && (nat_le 49 d && (nat_le d 51 && (e == 41))) then Some (d - 48) else None
 
@@ -62,7 +61,7 @@ accumulator_read [] = None
 accumulator_read (c ∷ []) = if nat_le 48 c && nat_le c 55 then Some (c - 48) else None
 accumulator_read (c ∷ d ∷ cs) = None
 
--- the word of an address, with its modifier
+-- The word of an address, with its modifier.
 abbrev pub with_modifier : Mnemonic → ℕ → Option Value → ℕ → Option Form
 with_modifier name x v m = option_map (Order name x m) v
 
@@ -71,7 +70,7 @@ address_read name x word =
     option_and_then (with_modifier name x (value_read (2 ^ 24) (before 40 word)))
     (modifier_read (row_of name).modified (drop (length (before 40 word)) word))
 
--- an order behind its name, and behind its accumulator
+-- An order after its name, and after its accumulator.
 abbrev pub alone_read : Mnemonic → ℕ → List (List ℕ) → Option Form
 alone_read name x [] = Some (Order name x 0 (Number 0))
 alone_read name x (w ∷ ws) = None
@@ -101,7 +100,7 @@ abbrev pub order_line_read : List (List ℕ) → Option Mnemonic → Option Form
 order_line_read ws None = None
 order_line_read ws (Some name) = order_read name ws
 
--- what stands behind a label, by its words
+-- The rest of a line after its label, by its words.
 abbrev pub chars_read : List ℕ → Option Form
 chars_read text = if nat_le 7 (length text) && nat_le (length text) 46 then Some (Chars (drop 6 text)) else None
 
@@ -129,7 +128,7 @@ abbrev pub words_read : Bool → List (List ℕ) → List ℕ → Option Form
 words_read labelled [] rest = Some Nothing
 words_read labelled (name ∷ ws) rest = named_read labelled name ws rest
 
--- THE READING of a line
+-- THE READING of a line.
 unfoldable pub form_read : List ℕ → Option Form
 form_read line =
     if not (list_all is_printed line) then None

@@ -1,4 +1,4 @@
--- How the second pass over a source answers.
+-- The results of the second pass over a source.
 use Rattle.std.specs.Prelude.{◌≡◌, ◌++◌, ◌∷◌, ◌&&◌, ℕ, List, [], Bool, true, Option, Some, None, Result, Ok, Err, IfOk, unwrap_or}
 use Rattle.std.specs.List.{enumerate_from}
 use Rattle.std.specs.Option.{option_map}
@@ -17,7 +17,7 @@ IsFilled all (Ok image) = (bad_behind all (size_or_none all) [] all ≡ None) ×
 IsFilled all (Err (BadPlan line)) = bad_behind all (size_or_none all) [] all ≡ Some line
 IsFilled all (Err NoMemory) = Unit {0}
 
--- the lines are those of a text, and so is the answer
+-- If the lines are those of a text, the result is that text's.
 abbrev pub IsFinished : List Line → Result (List ℕ) PlanFault → Type 0
 IsFinished all result = (text : List ℕ) → all ≡ source (lines_of text) → Assembles text result × IfOk result (λ file. IsLoadedAs text file)
 

@@ -1,4 +1,4 @@
--- What the second pass over a source knows.
+-- The state of the second pass over a source.
 use Rattle.std.specs.Prelude.{◌≡◌, ◌<◌, ◌≤◌, ◌^◌, ◌++◌, ℕ, List, [], Bool, true, false, Option, Some, None, get_or, length, unwrap_or}
 use Rattle.std.specs.Option.{option_map}
 use Rattle.std.specs.List.{AllByRecursion, find, slice_get}
@@ -12,7 +12,7 @@ use Rattle.g_plan.specs.declared.image.Image.{Image}
 use Rattle.g_plan.specs.declared.mnemonic.Row.{Row}
 use Rattle.g_plan.specs.declared.source.Line.{Line}
 
--- what a form that was read has in range: the size, the number of a word, the accumulator, the modifier
+-- The parts of a form that was read are in range: the size, the number of a word, the accumulator, the modifier.
 abbrev pub IsWordValue : Value → Type 0
 IsWordValue (Number n) = n < 2 ^ 24
 IsWordValue (Named label) = Unit {0}
@@ -47,11 +47,11 @@ MayFit (Some form) = Fits form
 abbrev pub AllFit : List Line → Type 0
 AllFit lines = (k : ℕ) (line : Line) → slice_get lines k ≡ Some line → MayFit line.form
 
--- each cell's word is one
+-- The number in each cell is a word.
 abbrev pub AreSmall : List (ℕ × ℕ) → Type 0
 AreSmall filled = AllByRecursion (λ (cell : ℕ × ℕ). cell.1 < 2 ^ 24) filled
 
--- AN IMAGE STANDS FOR CELLS, which are below the size: at each place it has the word of the first cell there
+-- AN IMAGE REPRESENTS CELLS, all below the size: at each place it has the word of the first cell there.
 pub record IsImageOf (size : ℕ) (filled : List (ℕ × ℕ)) (image : Image) : Type 0 where
   pub size_is : length image.words.items ≡ size
   pub words_are : (place : ℕ) → place < size → get_or image.words.items place None ≡ option_map (λ cell. cell.1) (find (is_at place) filled)
@@ -59,7 +59,7 @@ pub record IsImageOf (size : ℕ) (filled : List (ℕ × ℕ)) (image : Image) :
   pub within : end_of filled ≤ size
   pub small : AreSmall filled
 
--- AN IMAGE IS FILLED WITH CELLS where there are cells and all of them are free
+-- AN IMAGE IS FILLED WITH CELLS if and only if there are cells and all of them are free.
 abbrev pub IsPut : Option (List (ℕ × ℕ)) → Image → Image → Bool → Type 0
 IsPut cells old new result =
     (size : ℕ) (filled : List (ℕ × ℕ)) → IsImageOf size filled old

@@ -1,4 +1,4 @@
--- The least of the standings that the pass has seen.
+-- The least of the standings that the pass has visited.
 use Rattle.std.proofs.Common.{◌≡◌, ℕ, ◌+◌, ◌<◌, ◌≤◌, ◌⊎◌, List, Option, Some, None, length, MatchOption, IfSome, slice_get, inl, inr, sym, subst, ap, arith}
 use Rattle.std.proofs.lemmas.Option.{slice_get_within}
 use Rattle.std.specs.Fn.{Shared, FnReturnsAt}
@@ -25,11 +25,11 @@ module _ {U : Type 0} (calls : Shared U (Bor Standing × Unit {0}) ℕ) (rule : 
     pub weighed : FnReturnsAt calls rule standing best.weight
     pub least : (k : ℕ) (other : Standing) → k < n → slice_get list k ≡ Some other → (weight : ℕ) × FnReturnsAt calls rule other weight × IsNoLater best.weight best.number weight other.number
 
-  -- nothing was seen, or the best of what was
+  -- no standing was visited, or `best` is the least of those visited
   abbrev pub IsBestOf : ℕ → Option Candidate → Type 0
   IsBestOf n best = MatchOption best (n ≡ 0) (λ b. IsLeast n b)
 
-  -- of a list that was seen whole, the least is the chosen one
+  -- after the whole list, the least standing is the chosen one
   pub IsChosen-from_least : (n : ℕ) (best : Candidate) → IsLeast n best → length list ≤ n → IsChosen calls rule list best.place
   IsChosen-from_least n best is whole = record {
     standing = is.standing;
@@ -43,14 +43,14 @@ module _ {U : Type 0} (calls : Shared U (Bor Standing × Unit {0}) ℕ) (rule : 
         (weight, weighs, subst (λ m. IsNoLater best.weight m weight other.number) (sym is.number) later);
   }
 
-  -- none of the first n goes before what is no later than their best
+  -- none of the first n precedes a candidate that is no later than their best
   least-below : (n : ℕ) (best : Option Candidate) (kept : Candidate) → IsBestOf n best → IfSome best (λ b. IsNoLater kept.weight kept.number b.weight b.number) → (k : ℕ) (other : Standing) → k < n → slice_get list k ≡ Some other → (weight : ℕ) × FnReturnsAt calls rule other weight × IsNoLater kept.weight kept.number weight other.number
   least-below n None kept is before k other below at = absurd (omega arith)
   least-below n (Some b) kept is before k other below at =
       let (weight, weighs, later) = is.least k other below at in
       (weight, weighs, IsNoLater-trans _ _ _ _ _ _ before later)
 
-  -- one more standing was seen, and what was kept is no later than it and the best so far
+  -- one more standing was visited, and the kept candidate is no later than it and the best so far
   least-more : (n : ℕ) (best : Option Candidate) (seen : Standing) (weight : ℕ) (kept : Candidate) → IsBestOf n best → slice_get list n ≡ Some seen → FnReturnsAt calls rule seen weight → IsNoLater kept.weight kept.number weight seen.number → IfSome best (λ b. IsNoLater kept.weight kept.number b.weight b.number) → (k : ℕ) (other : Standing) → k < n + 1 → slice_get list k ≡ Some other → (w : ℕ) × FnReturnsAt calls rule other w × IsNoLater kept.weight kept.number w other.number
   least-more n best seen weight kept is at weighs before before_best k other below at' =
       elim (below_or_last k n below) [

@@ -1,16 +1,16 @@
--- What holds of a weigh rule: it may be asked of every standing in range, and answers by the standing alone.
+-- The requirements on a weigh rule: it accepts every standing in range, and its weight depends only on the standing.
 use Rattle.std.specs.Prelude.{◌≡◌, ℕ, ◌^◌, ◌≤◌}
 use Rattle.std.specs.Fn.{Shared}
 use denote.Ref.{Bor}
 use Rattle.g_sched.specs.declared.rule.Standing.{Standing}
 
--- a standing that a job can have
+-- A standing in range: an allowance of 1 to 1,000,000 units, of which at most all are used.
 pub record IsInRange (standing : Standing) : Type 0 where
   pub something : 1 ≤ standing.allowance
   pub allowance : standing.allowance ≤ 1_000_000
   pub used : standing.used ≤ standing.allowance
 
--- a rule that may be called on every standing in range, answers a weight in range there, and the same one for equal standings
+-- A rule that accepts every standing in range, with a weight of at most 2^40, and the same weight for equal standings.
 pub record IsWeighRule {U : Type 0} (calls : Shared U (Bor Standing × Unit {0}) ℕ) (rule : U) : Type 0 where
   pub callable : (standing : Bor Standing) → IsInRange standing.now → calls.pre rule (standing, tt)
   pub bounded : (standing : Bor Standing) (weight : ℕ) → IsInRange standing.now → calls.post rule (standing, tt) weight → weight ≤ 2 ^ 40

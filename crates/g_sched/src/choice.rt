@@ -1,11 +1,11 @@
-//! The choice itself: one pass over the standings, that keeps the first of the least.
+//! The choice: one pass over the standings, which keeps the first of the least.
 ghost use Rattle.g_sched.specs.Choice.{IsChosen, IsNoLater};
 ghost use Rattle.g_sched.specs.Rule.{IsWeighRule, IsInRange};
 ghost use Rattle.std.specs.Prelude.{◌≡◌, ◌⊎◌, ◌<◌, ◌≤◌, ◌↔◌, All, [], IfSome, IsNone, IsTrue, Some, false};
 
 use crate::rule::{Standing, WeighRule};
 
-/// The place of a standing among those that can be chosen, with what it is chosen by: its weight, and the number of its job.
+/// The place of a standing that can be chosen, with its weight and the number of its job, by which it is chosen.
 #[derive(Clone, Copy, PartialEq, Eq)]
 pub struct Candidate {
     pub place: usize,
@@ -14,7 +14,7 @@ pub struct Candidate {
 }
 
 impl Candidate {
-    /// Whether this one may go before the other: by weight, then by number.
+    /// Whether this candidate may precede the other: by weight, then by number.
     fn is_no_later(&self, other: &Candidate) -> bool
         ensures yes { IsTrue result
             → IsNoLater self.now.weight self.now.number other.now.weight other.now.number }
@@ -29,7 +29,7 @@ impl Candidate {
     }
 }
 
-/// The place of the standing of least weight, and among those of least weight of the least number.
+/// The place of the standing of least weight, and among equal weights of least number.
 pub fn choose<U: Fn(&Standing) -> u64>(rule: &WeighRule<U>, list: &[Standing]) -> Option<usize>
     requires rule { IsWeighRule U.Fn rule.now }
     requires in_range { All IsInRange list.now }
@@ -48,8 +48,8 @@ pub fn choose<U: Fn(&Standing) -> u64>(rule: &WeighRule<U>, list: &[Standing]) -
     best.map(|candidate| candidate.place)
 }
 
-/// Which of two goes first: the best of those seen before stays where the next one doesn't go before it. So one pass finds the
-/// first of a list that is never made, as `choose` does of one that is there.
+/// Which of two candidates goes first: the best so far, unless the next one precedes it. Used in one pass, it finds the first of a list that is never
+/// built, as `choose` does for a list in memory.
 pub fn earlier(best: Option<Candidate>, candidate: Candidate) -> Candidate
     ensures one { (result ≡ candidate) ⊎ (best ≡ Some result) }
     ensures before { IsNoLater result.weight result.number candidate.weight candidate.number }

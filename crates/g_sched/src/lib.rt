@@ -1,5 +1,4 @@
-//! The scheduler's choice: of the jobs that can step, the one of least weight by the rule that was
-//! handed in, then of least number.
+//! The scheduler's choice: of the jobs that can step, the one of least weight by the given rule, then of least number.
 #![tactic(auto)]
 
 mod choice;

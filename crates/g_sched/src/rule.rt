@@ -1,4 +1,4 @@
-//! Where a job stands, and the rule that weighs it: a closure of the caller's.
+//! The standing of a job, and the rule that weighs it: a closure of the caller.
 ghost use Rattle.g_sched.specs.Rule.{IsWeighRule, IsInRange};
 ghost use Rattle.std.specs.Fn.{FnReturnsAt};
 ghost use Rattle.std.specs.Prelude.{◌≡◌, ◌≤◌, ◌^◌};
@@ -13,8 +13,7 @@ pub const MAX_WEIGHT: u64 = 1_099_511_627_776;
 
 const _: () = prove!(MAX_ALLOWANCE == 1_000_000 && MAX_WEIGHT == 1_099_511_627_776);
 
-/// Where a job stands: its number, the units of TIME charged so far, its allowance of them, and how
-/// many of its turns were charged.
+/// The standing of a job: its number, the units of TIME charged so far, its allowance in units, and the number of its charged turns.
 #[derive(Clone, Copy, PartialEq, Eq)]
 pub struct Standing {
     pub number: u64,
@@ -36,7 +35,7 @@ impl<U> Model for WeighRule<U> {
 }
 
 impl<U: Fn(&Standing) -> u64> WeighRule<U> {
-    /// A rule that weighs as the closure does, which may be asked of every standing in range.
+    /// A rule that weighs as the closure does, which must accept every standing in range.
     pub fn new(rule: U) -> WeighRule<U>
         requires { IsWeighRule U.Fn rule }
         ensures { result ≡ rule }
@@ -44,7 +43,7 @@ impl<U: Fn(&Standing) -> u64> WeighRule<U> {
         WeighRule { rule }
     }
 
-    /// What a standing weighs, by the kept rule.
+    /// The weight of a standing by the rule.
     pub fn weight(&self, standing: &Standing) -> u64
         requires rule { IsWeighRule U.Fn self.now }
         requires in_range { IsInRange standing.now }

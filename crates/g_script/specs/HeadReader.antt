@@ -1,5 +1,5 @@
--- How the first line of an item is read: its turn, and what is asked for.
--- Nothing here has to be believed: that a line is read as the item whose first line it is, and no other line, is proved.
+-- How the first line of an item is read: its turn and its operator line. None of this has to be believed: it is proved that a line is read as the
+-- item whose first line it is, and that no other line is read.
 use Rattle.std.specs.Option.{option_and_then, option_map}
 use Rattle.std.specs.Prelude.{Bool, List, None, Option, Some, [], codes, false, if◌then◌else◌, true, ℕ, ◌==◌, ◌∷◌}
 use Rattle.g_lang.specs.LineReader.{behind}
@@ -12,7 +12,7 @@ use Rattle.g_script.specs.declared.operator.Operator.{Operator}
 use Rattle.g_script.specs.declared.operator.Operator.TheVariants as line
 use Rattle.g_verbs.specs.VerbReader.{file_read, local_read, user_read}
 
--- what comes before and behind the first byte of this value
+-- The parts before and after the first byte of this value.
 abbrev pub onto_before : ℕ → List ℕ × List ℕ → List ℕ × List ℕ
 onto_before c parts = (c ∷ parts.0, parts.1)
 
@@ -20,18 +20,18 @@ abbrev pub split_at : ℕ → List ℕ → Option (List ℕ × List ℕ)
 split_at byte [] = None
 split_at byte (c ∷ cs) = if c == byte then Some ([], cs) else option_map (onto_before c) (split_at byte cs)
 
--- a number from 1 to the most
+-- A number from 1 to `most`.
 abbrev pub positive : ℕ → Option ℕ
 positive n = if n == 0 then None else Some n
 
 abbrev pub from_one_read : ℕ → List ℕ → Option ℕ
 from_one_read most digits = option_and_then positive (number_read most digits)
 
--- such a number behind a word
+-- Such a number after a word.
 abbrev pub number_behind : ℕ → List ℕ → List ℕ → Option ℕ
 number_behind most word text = option_and_then (from_one_read most) (behind word text)
 
--- an operator that is a word alone
+-- An operator line that is only a word.
 abbrev pub word_or : Operator → Bool → Option Operator → Option Operator
 word_or operator true others = Some operator
 word_or operator false others = others
@@ -41,7 +41,7 @@ word_read text =
     word_or line.Format (same_text text (codes "FORMAT"))
     (word_or line.Start (same_text text (codes "START")) (word_or line.Restore (same_text text (codes "RESTORE")) (word_or line.Shut (same_text text (codes "SHUT")) None)))
 
--- an operator that is a word and a number
+-- An operator line that is a word and a number.
 abbrev pub number_or : (ℕ → Operator) → Option ℕ → Option Operator → Option Operator
 number_or operator (Some n) others = Some (operator n)
 number_or operator None others = others
@@ -69,7 +69,7 @@ numbered_read text = number_or line.Mount (number_behind 999999 (codes "MOUNT ")
 abbrev pub migration_read : List ℕ → Option Operator
 migration_read text = option_map line.Migrate (option_and_then file_read (behind (codes "MIGRATE ") text))
 
--- a job's name, its user, and the allowances
+-- A job's name, its user, and the allowances.
 abbrev pub named : List ℕ × List ℕ → Option (List ℕ × List ℕ)
 named parts = option_map (λ name. (name, parts.1)) (local_read parts.0)
 
@@ -121,7 +121,7 @@ job_behind text = job_named (name_read text)
 abbrev pub job_read : List ℕ → Option What
 job_read text = option_and_then job_behind (behind (codes "JOB ") text)
 
--- a terminal, and what stands behind its comma
+-- A terminal, and the text after its comma.
 abbrev pub at_terminal : List ℕ × List ℕ → Option (ℕ × List ℕ)
 at_terminal parts = option_map (λ t. (t, parts.1)) (from_one_read 8 parts.0)
 
@@ -152,7 +152,7 @@ login_behind text = login_at (terminal_read text)
 abbrev pub login_read : List ℕ → Option Operator
 login_read text = option_and_then login_behind (behind (codes "LOGIN ") text)
 
--- what is asked for
+-- The operator line after the turn.
 abbrev pub bare_or : Option Operator → Option What → Option What
 bare_or (Some operator) others = Some (what.Bare operator)
 bare_or None others = others

@@ -1,4 +1,4 @@
--- A macro: the file of that name in the job's own directory, else in that of MACROS.
+-- A macro: the file of that name in the job's own directory, otherwise in that of MACROS.
 use Rattle.std.specs.Prelude.{Err, List, None, Ok, Option, Some, codes, if◌then◌else◌, length, ℕ}
 use Rattle.g_turn.specs.Outcomes.{done, in_error, refused, with_bytes, with_levels}
 use Rattle.g_turn.specs.State.{Work}
@@ -12,18 +12,18 @@ use Rattle.g_plain.specs.declared.calls.StoreReply.TheVariants.{Bytes}
 use Rattle.g_plain.specs.declared.faults.StoreFault.TheVariants as fault
 use Rattle.g_trap.specs.declared.mode_set.Mode.TheVariants as mode
 
--- its newest generation, in the language of four spaces
+-- The path of a macro: its newest generation, in the language of four spaces.
 abbrev pub macro_path : Option (List ℕ) → List ℕ → Path
 macro_path user name = record { user = user; local = name; generation = None; lang = None; in_range = tt }
 
 module _ (room : ℕ) where
-  -- its lines are a level, with its parameters; that there are 8 levels already is told behind the look-up alone
+  -- The macro's lines become a level, with its parameters. That there are 8 levels already is reported only after the file was found.
   abbrev pub macro_called : List (List ℕ) → List ℕ → Work → Work
   macro_called params bytes w =
       if is_deepest w.desk.levels then in_error room errors.TooDeep w
       else done (with_levels (called (lines_of bytes) params w.desk.levels) w)
 
-  -- any refusal but that there is no such file is the answer; where there is none in either directory, the verb is unknown
+  -- The answer of the second search. Any refusal except NoFile is the result; if neither directory has the file, the verb is unknown.
   abbrev pub second_looked : List (List ℕ) → Work → Answer → Asks Work
   second_looked params w (Ok (Bytes full bytes)) = Gives (macro_called params bytes (with_bytes (length bytes) w))
   second_looked params w (Ok reply) = Gives w

@@ -1,4 +1,4 @@
--- Paths and units whose ranges are kept: a number that is out of its range becomes the nearest one that isn't.
+-- Paths and units with their ranges enforced: a number out of range becomes the nearest one in range.
 use Rattle.std.proofs.Common.{None, Option, Some, [], lit<, lit≤, max, min, ℕ, ◌<◌, ◌≤◌}
 use Rattle.std.proofs.Math.Nat.{le-max_left, lt_of_le_of_lt, max-le, min-le_right}
 use Rattle.std.specs.Prelude.{IfSome}

@@ -1,5 +1,5 @@
--- How verbs are read: the form of each parameter, then the values.
--- Nothing here has to be believed: the law `verbs_are_read_by_their_forms` says what it answers.
+-- How verbs are read: first the form of each parameter, then the values. None of this has to be believed: the law `verbs_are_read_by_their_forms`
+-- relates it to the forms.
 use Rattle.std.specs.List.{find, slice_get, slice_index_or}
 use Rattle.std.specs.Option.{option_and_then, option_map}
 use Rattle.std.specs.Prelude.{Bool, Err, List, None, Ok, Option, Result, Some, [], bit_or, codes, drop, false, if◌then◌else◌, is_some, nat_le, pred, suc, true, unwrap_or, ℕ, ◌&&◌, ◌-◌, ◌==◌, ◌∷◌}
@@ -32,7 +32,7 @@ use Rattle.g_verbs.specs.declared.form.Form.TheVariants as form
 use Rattle.g_verbs.specs.declared.verb.Verb.{Verb}
 use Rattle.g_verbs.specs.declared.verb.Verb.TheVariants as verb
 
--- a file, from what a reader of paths has read
+-- A file, from the state of a path reader at the end of the text.
 abbrev pub whole_path : PathReader → Option Path
 whole_path r = if is_whole r then Some (path_with (name_read r)) else None
 
@@ -61,7 +61,7 @@ abbrev pub budget_read : List ℕ → Option (BudgetKind × ℕ)
 budget_read text =
     budget_or kind.Space (amount_read kind.Space text) (budget_or kind.Time (amount_read kind.Time text) (budget_or kind.Money (amount_read kind.Money text) None))
 
--- a unit of a kind, from its digit
+-- A unit of a kind, from its digit.
 abbrev pub digit_unit : Kind → List ℕ → Option unit.Unit
 digit_unit kind [] = None
 digit_unit kind (digit ∷ []) = if nat_le 48 digit && nat_le digit 55 then Some (unit_with kind (digit - 48)) else None
@@ -87,7 +87,7 @@ letter_read [] = None
 letter_read (letter ∷ []) = if is_param_letter letter then Some letter else None
 letter_read (letter ∷ more ∷ rest) = None
 
--- a text of this form
+-- The text has this form.
 abbrev pub is_of : Form → List ℕ → Bool
 is_of form.File text = is_some (file_read text)
 is_of form.User text = is_some (user_read text)
@@ -100,12 +100,12 @@ is_of form.Letter text = is_some (letter_read text)
 is_of form.Digit text = is_some (number_read 9 text)
 is_of form.Text text = true
 
--- a text may stand where this form is asked for, or none
+-- The text may be the parameter at a place with this form; without a form none is allowed.
 abbrev pub fits : Option Form → List ℕ → Bool
 fits None text = false
 fits (Some form) text = is_of form text
 
--- the first parameter that is wrong: the form at each place, how many of them must be there, whether others may follow
+-- The first wrong parameter, given the form at each place, the number of required ones, and whether others may follow.
 abbrev pub wrong_in : List (List ℕ) → List Form → ℕ → Bool → Option ℕ
 wrong_in [] forms least any_more = if least == 0 then None else Some 1
 wrong_in (text ∷ texts) forms least any_more =
@@ -114,7 +114,7 @@ wrong_in (text ∷ texts) forms least any_more =
 abbrev pub first_wrong : Forms → List (List ℕ) → Option ℕ
 first_wrong f params = wrong_in params f.all f.least f.any_more
 
--- the values of parameters that are of their forms
+-- The values of parameters that have their forms.
 abbrev pub param : List (List ℕ) → ℕ → List ℕ
 param params place = slice_index_or params place []
 
@@ -156,7 +156,7 @@ user_at params place = option_map user_of (slice_get params place)
 abbrev pub money_at : List (List ℕ) → ℕ → Option ℕ
 money_at params place = option_map (amount_of kind.Money) (slice_get params place)
 
--- what a verb asks for, whose parameters are of their forms
+-- The action of a verb whose parameters have their forms.
 abbrev pub action_of : Verb → List (List ℕ) → List ℕ → Action
 action_of verb.Input params rest = action.Input (file_of (param params 0))
 action_of verb.Copy params rest = action.Copy (file_of (param params 0)) (file_of (param params 1))
@@ -194,6 +194,6 @@ asked_or_wrong verb name params rest (Some index) = Err index
 abbrev pub read_as : Option Verb → List ℕ → List (List ℕ) → List ℕ → Result Action ℕ
 read_as verb name params rest = asked_or_wrong verb name params rest (first_wrong (forms_with verb) params)
 
--- THE READING of a verb
+-- THE READING of a verb: its action, or its first bad parameter.
 unfoldable pub action_read : List ℕ → List (List ℕ) → List ℕ → Result Action ℕ
 action_read name params rest = read_as (verb_of name) name params rest

@@ -6,7 +6,7 @@ use g_disc::Disc;
 use std::fs;
 use std::io::{self, ErrorKind};
 
-/// Whether an image holds these blocks, and zeros else.
+/// Whether an image holds these blocks, and zeros otherwise.
 fn holds(rt: &HostRuntime, name: &str, blocks: &[(usize, Block)]) -> io::Result<bool> {
     let mut image = vec![in rt.alloc(); 0; 2_097_152]?;
     for (k, block) in blocks {
@@ -40,13 +40,13 @@ fn blocks_lie_where_they_belong(rt: HostRuntime) {
     fs::remove_file(&rt, name).expect(&rt, "a file");
 }
 
-/// Whatever was read and written before, a block is read as it was written last, and at the end the image holds it.
+/// For any reads and writes before, a block is read as it was last written, and at the end the image holds it.
 #[test]
 fn blocks_are_read_as_they_were_written_last(rt: HostRuntime) {
     let name = "g_devices_last.disc";
     let mut disc = open_image(&rt, name).expect(&rt, "an image");
     let mut last = [0; 200];
-    // Runs of up to 128 blocks, in turn written and read, from places that jump about.
+    // Runs of up to 128 blocks, alternately written and read, at scattered places.
     for round in 0..120u8 {
         let number = (u32::from(round) * 25_717 + 377) % 65_521;
         let from = number % 200;
@@ -77,8 +77,8 @@ fn blocks_are_read_as_they_were_written_last(rt: HostRuntime) {
     fs::remove_file(&rt, name).expect(&rt, "a file");
 }
 
-/// What a run left that was cut off while it made the image is in no way of the next, and is no image; anything else
-/// of that name stays.
+/// The leftover of a run that was interrupted while creating the image doesn't hinder the next run, and is no image; anything else of that name is
+/// left unchanged.
 #[test]
 fn an_image_is_one_runs_alone(rt: HostRuntime) {
     let (name, unready) = ("g_devices_taken.disc", "g_devices_taken.disc.new");
@@ -101,7 +101,7 @@ fn an_image_is_one_runs_alone(rt: HostRuntime) {
     fs::remove_file(&rt, name).expect(&rt, "a file");
 }
 
-/// How many bytes a file has, and whether it is an image.
+/// The length of a file in bytes, and whether it is an image.
 static SIZES: [(u64, bool); 7] = [
     (0, false),
     (2_177 * 512, false),

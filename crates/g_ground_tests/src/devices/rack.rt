@@ -6,7 +6,7 @@ use g_tape::{TapeFault, Tapes};
 use std::fs;
 use std::io::{self, ErrorKind};
 
-/// The file of a dump's mark, as far as its first bytes, with 7 behind them.
+/// The first bytes of a dump's mark, filled up with 7.
 fn mark() -> Block {
     let mut block = [7; 512];
     block[..4].copy_from_slice(b"G3MK");
@@ -27,7 +27,7 @@ fn reels_end_where_they_were_written(rt: HostRuntime) {
         assert!(rt; tapes.write(2, k, &[k as u8; 512]) == Ok(()));
         assert!(rt; len_of(&rt, reel).expect(&rt, "a file") == 512 * (u64::from(k) + 1));
     }
-    // A write cuts what stands behind it, and one that fails leaves half of its block.
+    // A write truncates the reel after it, and one that fails leaves half of its block.
     assert!(rt; tapes.write(2, 2, &mark()) == Ok(()));
     assert!(rt; len_of(&rt, reel).expect(&rt, "a file") == 1_536);
     tapes.arm(1);
@@ -39,7 +39,7 @@ fn reels_end_where_they_were_written(rt: HostRuntime) {
     assert!(rt; tapes.read(2, 2, &mut [9; 512]) == Err(TapeFault::End));
     tapes.unmount(2).expect(&rt, "a reel");
     drop(tapes);
-    // Another run finds what this one left.
+    // Another run finds the reels of this one.
     let mut tapes = open_rack(&rt, folder).expect(&rt, "a rack");
     assert!(rt; tapes.length(1) == Ok(0) && tapes.length(2) == Ok(2) && !tapes.mounted(2));
     tapes.mount(2).expect(&rt, "a reel");
@@ -49,7 +49,7 @@ fn reels_end_where_they_were_written(rt: HostRuntime) {
     fs::remove_dir_all(&rt, folder).expect(&rt, "a folder");
 }
 
-/// Whatever was read and written before, a block of a reel is read as it was written last.
+/// For any reads and writes before, a block of a reel is read as it was last written.
 #[test]
 fn reels_are_read_as_they_were_written_last(rt: HostRuntime) {
     let folder = "g_devices_last.tapes";
@@ -63,7 +63,7 @@ fn reels_are_read_as_they_were_written_last(rt: HostRuntime) {
                 .expect(&rt, "a write");
         }
     }
-    // Both reels are read in order, by turns, and are cut in the middle of what was read ahead.
+    // Both reels are read in order, alternately, and are truncated in the middle of what was read ahead.
     for end in [90, 40, 15] {
         for serial in 1..=2 {
             for k in 0..end {
@@ -83,7 +83,7 @@ fn reels_are_read_as_they_were_written_last(rt: HostRuntime) {
     fs::remove_dir_all(&rt, folder).expect(&rt, "a folder");
 }
 
-/// A reel that is secured holds what it held, mounted or not, in the run that wrote it and in the next one.
+/// A reel that is secured has the same contents, mounted or not, in the run that wrote it and in the next one.
 #[test]
 fn secured_reels_hold_what_they_held(rt: HostRuntime) {
     let (folder, reel) = ("g_devices_secured.tapes", "g_devices_secured.tapes/2.tape");
@@ -111,7 +111,7 @@ fn secured_reels_hold_what_they_held(rt: HostRuntime) {
 #[test]
 fn a_rack_is_one_runs_alone(rt: HostRuntime) {
     let (folder, unready) = ("g_devices_taken.tapes", "g_devices_taken.tapes.new");
-    // What no run left while it made the folder stays, and what one left that was cut off is used.
+    // A leftover `.new` folder that isn't a run's is unchanged; that of an interrupted run is used.
     fs::create_dir(&rt, unready).expect(&rt, "a folder");
     make(&rt, "g_devices_taken.tapes.new/2.tape", 512).expect(&rt, "a file");
     let Err(other) = open_rack(&rt, folder) else {
@@ -127,7 +127,7 @@ fn a_rack_is_one_runs_alone(rt: HostRuntime) {
     assert!(rt; taken.kind() == ErrorKind::WouldBlock);
     drop(tapes);
     assert!(rt; open_rack(&rt, folder).is_ok());
-    // One file is no two reels.
+    // One file can't be two reels.
     fs::hard_link(
         &rt,
         "g_devices_taken.tapes/2.tape",
@@ -146,7 +146,7 @@ const FOLDER: &str = "g_devices_names.tapes";
 /// Names that no reel has.
 static NO_REELS: [&str; 7] = ["0", "01", "+3", "x", "1000000", "", "4.tape.bak"];
 
-/// How many bytes a file has, and whether it is a reel.
+/// The length of a file in bytes, and whether it is a reel.
 static SIZES: [(u64, bool); 4] = [
     (511, false),
     (8_192 * 512, true),
@@ -154,7 +154,7 @@ static SIZES: [(u64, bool); 4] = [
     (8_193 * 512, false),
 ];
 
-/// Makes a file of the folder, of so many zeros.
+/// Creates a file in the folder, of this many zeros.
 fn make_reel(rt: &HostRuntime, name: &str, bytes: u64) -> io::Result<()> {
     let path = format!(in rt.alloc(); "{FOLDER}/{name}.tape")?;
     make(rt, path.as_str(), bytes)

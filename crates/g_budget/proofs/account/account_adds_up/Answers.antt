@@ -1,4 +1,4 @@
--- A new account is balanced, and each posting keeps it so.
+-- A new account is balanced, and each posting preserves that.
 use Rattle.g_budget.proofs.Balances.{AddsUp-posted}
 use Rattle.g_budget.proofs.account.account_adds_up.Goals as goal
 

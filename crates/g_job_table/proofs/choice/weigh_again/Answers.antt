@@ -1,4 +1,4 @@
--- By whether there is a job of the number.
+-- By whether a job has the number.
 use Rattle.std.proofs.Common.{List, ap, subst, sym, ◌∙◌, ℕ}
 use Rattle.std.specs.Fn.{FnReturnsAt}
 use Rattle.std.proofs.lemmas.Option.{get_or_from_slice_get}

@@ -1,4 +1,4 @@
--- The next job hasn't the number.
+-- The next job doesn't have the number.
 use Rattle.std.proofs.Common.{ap, ne_eqb, ◌==◌, ◌∙◌}
 use Rattle.g_sched.specs.declared.rule.Standing.{Standing}
 use Rattle.g_job.specs.State.{JobState}

@@ -1,4 +1,4 @@
--- The earlier of the best and the next stays the best; of the whole list the best is the chosen one.
+-- The earlier of the best and the next candidate is the best of both; the best of the whole list is the chosen one.
 use Rattle.std.proofs.Common.{arith}
 use Rattle.std.proofs.lemmas.Option.{slice_get-get_or}
 use Rattle.std.proofs.lemmas.Grind.{common_steps}
