@@ -109,8 +109,8 @@ fn one(rt: &HostRuntime, system: &mut System, line: &str) -> Result<(), Wrong> {
     as_wanted(rt, line, wanted, &outcome)
 }
 
-/// Whether a line's event had exactly the expected outcome, or one that begins with it if two points follow; otherwise the
-/// line is printed.
+/// Whether a line's event had exactly the expected outcome, or one that begins with it if `..` follows; otherwise the line
+/// is printed.
 fn as_wanted(rt: &HostRuntime, line: &str, wanted: &str, outcome: &Outcome) -> Result<(), Wrong> {
     let told = told(rt.alloc(), outcome)?;
     let is_so = match wanted.strip_suffix("..") {
