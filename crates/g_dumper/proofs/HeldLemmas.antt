@@ -1,4 +1,4 @@
--- The files that a dump holds: those of some users, one user behind the other.
+-- The files that a dump holds: those of some users, one user after another.
 use Rattle.std.proofs.Common.{◌≡◌, ◌≢◌, ℕ, zero, suc, ◌+◌, ◌<◌, ◌≤◌, Bool, true, false, List, [], ◌∷◌, ◌++◌, get_or, length, refl, sym, ◌∙◌, ap, arith, subst, inl, inr, true≢false}
 use Rattle.std.specs.Prelude.{◌⊎◌, ◌==◌, ◌||◌, All, AllPairs, Contains, map}
 use Rattle.std.specs.List.Sorted.{IsStrictlyIncreasing}

@@ -1,4 +1,4 @@
--- The next block of an open dump: the pins of the versions that wait, and where their bytes stand in it.
+-- The next block of an open dump: the pins of the versions that wait, and where their bytes lie in it.
 use Rattle.std.proofs.Common.{◌≡◌, ℕ, zero, suc, ◌+◌, ◌<◌, List, [], ◌∷◌, ◌++◌, length, take, slice_get, Option, Some, refl, sym, ◌∙◌, ap, arith, subst}
 use Rattle.std.specs.Prelude.{map}
 use Rattle.std.specs.Option.{ForSome}
@@ -38,7 +38,7 @@ content_long serial at (r ∷ rs) pins content (pin, rest, same, stamp, len, cop
     ap (λ (bs : List (List ℕ)). length bs) both.both ∙ length-append both.one both.rest ∙ ap (λ (n : ℕ). n + length both.rest) (blocks both.one both.is)
     ∙ ap (λ (n : ℕ). blocks_for r.len + n) long ∙ sym (sum_by-cons (λ (s : FileRec). blocks_for s.len) r rs)
 
--- and a block of a version stands behind the versions before it
+-- a block of a version lies after the preceding versions
 pub content_block : (serial at : ℕ) (ws : List FileRec) (pins : List Pin) (content : List (List ℕ)) (i part k : ℕ) (pin : Pin) (block : List ℕ) → ArePinned serial at ws pins
     → content_in pins ≡ Some content → slice_get pins i ≡ Some pin → ForSome pin.blocks (λ blocks. slice_get blocks part ≡ Some block) → k ≡ blocks_of (take i ws) + part
     → slice_get content k ≡ Some block

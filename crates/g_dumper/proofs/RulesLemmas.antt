@@ -20,7 +20,7 @@ use Rattle.g_store_meaning.specs.StoreInvariant.{ArePinned, DumpFacts, IsOpen}
 use Rattle.g_laws_store.proofs.PinLemmas.{IsOtherPin, copy_apart, pairs}
 use Rattle.g_dumper.proofs.OpenLemmas.{lies_low}
 
--- THE NOTED PLACES may stand in records
+-- records may have the noted places
 abbrev MayStand : Pin → Type 0
 MayStand p = IsCopy p.copy
 

@@ -77,7 +77,7 @@ module _ (v : View) (s : StoreFacts) (plan : Plan) (pins : List Pin) (content : 
         both_ways (state.is_in (held_in v s.online).kept full.user) (ap (λ (n : Full). state.is_in (held_in v s.online).kept n.user) (sym named_r) ∙ never_kept r in_r waits_it) is_kept));
   }
 
--- THE COPIES at the opening, by the state alone
+-- the copies at the opening, from the state only
 with_tape : Option TapeCopy → state.Place → state.Place
 with_tape o p = record p { copy = o }
 

@@ -44,7 +44,7 @@ use Rattle.g_laws_store.proofs.SetLemmas.{rename_parts, trap_parts}
 use Rattle.g_laws_store.proofs.StillLemmas.{still}
 use Rattle.g_laws_store.proofs.PartLemmas.{GoesBy, granted_tree, kept_without, state_is, touched_with}
 
--- A CALL THAT ONLY TELLS
+-- a call that changes nothing
 tells : (v : View) (reels : List Reel) (o : OnlineFacts) (dump : Option DumpFacts) (who : List ℕ) (call : StoreCall) (until : ℕ)
     → (writes call || brings_now (state_up v reels o dump) (held_in v o) who call) ≡ false
     → state_up v reels o dump ≡ after_call (state_up v reels o dump) (held_in v o) who call until

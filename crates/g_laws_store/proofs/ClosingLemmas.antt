@@ -43,7 +43,7 @@ contains_filter {A} p (y ∷ ys) x (suc i, within, is) holds = by_test (cases_Bo
     by_test (inl is_in) rest = subst (λ (zs : List A). Contains zs x) (sym (cond-true (p y) (y ∷ filter p ys) (filter p ys) is_in)) (Contains-append_right (y ∷ []) (filter p ys) x rest)
     by_test (inr isnt) rest = subst (λ (zs : List A). Contains zs x) (sym (cond-false (p y) (y ∷ filter p ys) (filter p ys) isnt)) rest
 
--- COPIES of records, whatever their numbers
+-- copies of records, for any numbers
 
 abbrev pub CopyIs : (ℕ → List ℕ) → List Dump → FileRec → Type 0
 CopyIs text dumps r = IfSome r.tape (λ c. IsContent dumps c (text r.stamp))

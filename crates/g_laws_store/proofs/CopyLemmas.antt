@@ -77,7 +77,7 @@ pub same_flat : {A : Type 0} (f g : A → List (ℕ × TapeCopy)) → ((x : A) �
 same_flat f g same [] = refl
 same_flat f g same (x ∷ xs) = ap (λ (cs : List (ℕ × TapeCopy)). cs ++ flat_map f xs) (same x) ∙ ap (λ (cs : List (ℕ × TapeCopy)). g x ++ cs) (same_flat f g same xs)
 
--- THE COPY that is noted for a version that waits, among so many blocks
+-- the copy that is noted for a version that waits, within this many blocks
 pub record HasCopy (serial from : ℕ) (ws : List FileRec) (pins : List Pin) (r : FileRec) (old : Option TapeCopy) : Type 0 where
   pub first : ℕ
   pub is : copy_of (pairs pins) r.stamp old ≡ Some (record { serial = serial; first = first })

@@ -11,7 +11,7 @@ use Rattle.g_tree.proofs.RuleLemmas.{one_of_key}
 use Rattle.g_disc_contents.specs.Contents.{File, brought, has, taken_off, with_file}
 use Rattle.g_laws_store.specs.Places.{AreDistinct, IsOfStamp}
 
--- RECORDS of what is taken off, and brought back
+-- records of files that are taken off and brought back
 pub offline_rec : (b : Bool) (f : File) → (if b then record f { online = false; bytes = None } else f).rec ≡ f.rec
 offline_rec true f = refl
 offline_rec false f = refl

@@ -63,7 +63,7 @@ module _ (v : View) (reels : List Reel) (o new : OnlineFacts) (dump : Option Dum
   abbrev w : View
   w = record v { text = text }
 
-  -- what each part is behind the call
+  -- each part after the call
   pub record GoesBy : Type 0 where
     pub does : (writes call || brings_now s k who call) ≡ true
     pub tree : tree_by text e.users (recs_in e) e.head.next_stamp ≡ plain_tree k.tree who call

@@ -1,4 +1,4 @@
--- Places by stamp, behind each change of contents.
+-- Places by stamp, after each change of contents.
 use Rattle.std.proofs.Common.{◌≡◌, ◌≢◌, ℕ, ◌<◌, Bool, true, false, cond, List, [], ◌∷◌, get_or, Option, Some, None, is_some, unwrap_or, refl, sym, ◌∙◌, ap, arith, subst, inl, inr}
 use Rattle.std.specs.Prelude.{◌⊎◌, ◌==◌, ◌&&◌, T, All, Contains, filter, map, nat_lt, not, if◌then◌else◌}
 use Rattle.std.specs.Option.{option_map}

@@ -50,7 +50,7 @@ apart_in {A} R turn xs apart x y (i, in_x, is_x) (j, in_y, is_y) other = by_orde
     by_order (inr (inl less)) = subst (λ (z : A). R z y) is_x (subst (λ (z : A). R (get_or xs i x) z) at_y (apart i j x less in_y))
     by_order (inr (inr less)) = turn y x (subst (λ (z : A). R z x) at_y (subst (λ (z : A). R (get_or xs j x) z) is_x (apart j i x less in_x)))
 
--- DIRECTORIES one behind the other
+-- directories one after another
 abbrev pub gathered_by : List UserRec → List FileRec → List FileRec
 gathered_by users files = flat_map (λ (u : UserRec). files_of u.number files) users
 

@@ -35,7 +35,7 @@ not_err reply f e = absurd (let no : ⊥ = cc in no)
 one_fault : (f g : StoreFault) → (let one : Result StoreReply StoreFault = Err f in one ≡ Err g) → f ≡ g
 one_fault f g e = cc
 
--- a refusal is before room is looked for, or behind
+-- a refusal occurs before room is computed, or after it
 refused : {P : Type 0} (Q : StoreFault → Type 0) (f : Option StoreFault) (fault : StoreFault) → MatchOption f P (λ g. (let one : Result StoreReply StoreFault = Err fault in one ≡ Err g) × Q g)
     → ((f ≡ None) × P) ⊎ ((f ≡ Some fault) × Q fault)
 refused Q None fault step = inl (refl, step)

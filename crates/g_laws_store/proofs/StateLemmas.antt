@@ -80,7 +80,7 @@ devices_have size held reels contents are belongs =
     seen (Some c) (blocks, is, holds) =
         (blocks, is, holds, is_view held reels belongs.text belongs.shelf belongs.shelved belongs.rack None c (belongs.disc blocks c is holds))
 
--- PINS that are told give the content of the dump
+-- pins that are exposed give the content of the dump
 are_told : (a b : Option (List (List ℕ))) → is_some a ≡ true → is_some b ≡ true → is_some (both_told a b) ≡ true
 are_told (Some a) (Some b) is_a is_b = refl
 are_told (Some a) None is_a is_b = is_b

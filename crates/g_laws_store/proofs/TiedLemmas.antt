@@ -36,7 +36,7 @@ devices_belong text shelf reels o tied live shelved rack belongs = record {
   disc = λ blocks c held holds. subst (DiscBelongs text shelf reels) (holds_one blocks o.contents c (holds_now o tied live blocks held) holds) belongs;
 }
 
--- WHAT A STORE THAT IS UP KEEPS goes by contents, pins and the users who are marked alone
+-- the invariant of a store that is up depends only on contents, pins and the marked users
 ready_again : (text : ℕ → List ℕ) (shelf : ℕ → List Dump) (reels : List Reel) (o new : OnlineFacts) (d : Dump)
     → (let p : OnlineFacts = record o { contents = new.contents; pins = new.pins; changed = new.changed; touched = new.touched } in IsReady text shelf reels p d) → IsReady text shelf reels new d
 ready_again text shelf reels o new d is = record { rules = is.rules; rack = is.rack; disc = is.disc; opening = record { each = is.opening.each } }

@@ -1,4 +1,4 @@
--- A store that is up, and tells what it holds, stands for one state, an open dump with it.
+-- A store that is up and exposes its contents represents at most one state, including an open dump.
 use Rattle.std.proofs.Common.{◌≡◌, ℕ, zero, suc, ◌+◌, ◌≤◌, true, false, List, [], ◌∷◌, ◌++◌, get_or, Option, Some, None, refl, sym, ◌∙◌, ap, arith, subst, inl, inr}
 use Rattle.std.specs.Prelude.{◌⊎◌, Bool, ◌==◌, All, Contains, IfSome, map, is_some, if◌then◌else◌}
 use Rattle.std.specs.Option.{ForSome, option_map}
@@ -77,7 +77,7 @@ module _ (shelf : ℕ → List Dump) (reels : List Reel) (told : ReelsTold reels
       (λ reel are.
       subst (λ (n : ℕ). ends d ≤ end_of (shelf n)) (sym is ∙ same) (ends_within on.reel.serial reel 0 0 (shelf on.reel.serial) are.are d on.on))
 
-  -- with a dump behind those of its reel all are right still
+  -- after a dump is appended to those of its reel, all are still right
   pub right_with : (d : Dump) → IsDump d → d.place ≡ end_of (shelf d.serial) → AreRight (all_dumps (with_dump d shelf) reels)
   unfolding Apart
   right_with d is place = record {
@@ -192,7 +192,7 @@ some_of : {A : Type 0} (o : Option A) → is_some o ≡ true → (x : A) × (o �
 some_of None is = absurd (false≢true is)
 some_of (Some x) is = (x, refl)
 
--- what a store that is up and tells has on its disc
+-- what a store that is up and exposes its contents has on its disc
 holds_contents : (o : OnlineFacts) (blocks : List (List ℕ)) → IsTied o → o.live ≡ true → o.disc.held ≡ Some blocks → Holds blocks o.contents
 holds_contents o blocks tied live is = record {
   directory = o.layout.directory;

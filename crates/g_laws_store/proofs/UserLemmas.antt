@@ -71,7 +71,7 @@ has_new n numbers =
     ∙ ap (λ (b : Bool). list_any (λ k. k == n) (filter (λ k. nat_lt k n) numbers) || (b || list_any (λ k. k == n) (filter (λ k. nat_lt n k) numbers))) (eq-eqb n n refl)
     ∙ or_true (list_any (λ k. k == n) (filter (λ k. nat_lt k n) numbers))
 
--- WHAT A FILTER LEAVES of what passes a test
+-- what a filter leaves of the items that pass a test
 any_agree : {A : Type 0} (t p q : A → Bool) (xs : List A) → All (λ x. t x ≡ true → p x ≡ q x) xs → list_any t (filter p xs) ≡ list_any t (filter q xs)
 any_agree t p q [] all = refl
 any_agree t p q (x ∷ xs) all = by_test (cases_Bool (t x)) (any_agree t p q xs (All-tail (λ y. t y ≡ true → p y ≡ q y) x xs all))

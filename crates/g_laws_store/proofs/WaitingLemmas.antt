@@ -36,7 +36,7 @@ use Rattle.g_laws_store.specs.Rooms.{HasLength}
 use Rattle.g_laws_store.proofs.PlaceLemmas.{place_found}
 use Rattle.g_laws_store.proofs.RoomLemmas.{files_apart}
 
--- what is mapped is there, and comes from somewhere
+-- mapped items are there, and come from somewhere
 pub mapped_there : {A B : Type 0} (f : A → B) (xs : List A) (x : A) → Contains xs x → Contains (map f xs) (f x)
 mapped_there f [] x (i, within, is) = let no : ⊥ = omega (arith, within) in absurd no
 mapped_there f (y ∷ ys) x (zero, within, is) = (0, omega arith, ap f is)

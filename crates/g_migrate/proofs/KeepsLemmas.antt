@@ -32,7 +32,7 @@ keeps_same o live = record {
   belongs = λ s at unspent store was. subst Belongs (same_store s o at unspent live) was;
 }
 
--- FILES ARE TAKEN OFF: what stands then
+-- files are taken off: what holds then
 pinned_then : (numbers : List ℕ) (o : OnlineFacts) → is_some o.pins ≡ true
     → changed (is_some o.disc.held) (is_some o.pins) (Unload numbers) o.contents ≡ with_files (taken_off numbers o.contents.files) o.contents
 unfolding changed
@@ -61,7 +61,7 @@ dump_kept : (dump : Option DumpFacts) (o new : OnlineFacts) (rack : Rack) (numbe
 dump_kept None o new rack numbers pins contents is = tt
 dump_kept (Some d) o new rack numbers pins contents is = open_kept d o new rack numbers pins contents is
 
--- nobody is unmarked
+-- no mark is removed
 grows_to : (old new : List ℕ) → new ≡ old → (n : ℕ) → holds old n ≡ true → holds new n ≡ true
 grows_to old new same n is = ap (λ (l : List ℕ). holds l n) same ∙ is
 
@@ -121,7 +121,7 @@ module _ (s : StoreFacts) (new : OnlineFacts) (numbers : List ℕ) (stopped : Ha
   pub store_stopped : IsStore (with_online new s)
   store_stopped = spent_store s new stopped.live tied
 
-  -- whichever of the two the disc holds, it belongs
+  -- whichever contents the disc holds, the old or the new, it belongs to the rack
   one_belongs : (text : ℕ → List ℕ) (shelf : ℕ → List Dump) (blocks : List (List ℕ)) (c : Contents) → IsUp text shelf s → AfterStop (Unload numbers) s.online blocks → Holds blocks c
       → DiscBelongs text shelf (told_reels s.rack) c
   one_belongs text shelf blocks c up after holds_c = by_case after.one

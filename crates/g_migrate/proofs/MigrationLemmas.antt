@@ -146,7 +146,7 @@ granted_by true (Some c) result none only = (
 pub granted_file : (f : File) (result : Result (Unit {0}) StoreFault) → None ≡ refusal_of f → OnErr result ((result ≡ Err Stopped) ⊎ (result ≡ Err NoMemory)) → AreRefused f result
 granted_file f result none only = let both = granted_by f.online f.rec.tape result none only in record { offline = both.0; not_dumped = both.1 }
 
--- THE REFUSAL that is looked for
+-- the refusal that was searched for
 pub off_refusal : (f : File) (is : Bool) → is ≡ f.online → is ≡ false → Some Offline ≡ refusal_of f
 off_refusal f is same off = ap (λ (b : Bool). refusal_by b f.rec.tape) (sym off ∙ same)
 

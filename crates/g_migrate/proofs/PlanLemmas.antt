@@ -109,7 +109,7 @@ numbers_apart files all = λ i j d before inside same.
     let less = pairs_of (λ (r s : FileRec). r.number < s.number) (λ (f : File). f.rec) files all i j d before inside in
     (let no : ⊥ = omega (arith, less, same) in no)
 
--- what no two files share, no two candidates share, in whatever order
+-- what no two files share, no two candidates share, in any order
 sorted_apart : (key : Candidate → ℕ) (files : List File) (sorted : List Candidate) → AllPairs (λ (f g : File). key (candidate_of f) ≢ key (candidate_of g)) files
     → IsPermutation (candidates_in files) sorted → AllPairs (λ (m n : ℕ). m ≢ n) (map key sorted)
 sorted_apart key files sorted apart moved =
@@ -237,7 +237,7 @@ module _ (o : OnlineFacts) (need : ℕ) (sorted : List Candidate) (taken : List 
   below_until : IsFront until sorted first.count
   below_until = until_front sorted first.count rises first.within
 
-  -- the room by a stamp, and by how many come first
+  -- the room by a stamp, and by how many precede it
   by_front : (t n : ℕ) → IsFront t sorted n → room_until o t ≡ room_of o + blocks_in (take n sorted)
   by_front t n is = ap (λ (m : ℕ). room_of o + m) (sym (taken_blocks t files) ∙ sym (sum_by-IsPermutation (below t) (candidates_in files) sorted moved) ∙ is.blocks)
 

@@ -1,4 +1,4 @@
--- The copies of a dump of all versions are noted, and nobody counts as changed.
+-- The copies of a dump of all versions are noted, and no user counts as changed.
 use Rattle.std.proofs.Common.{◌≡◌, ◌≢◌, ◌⊎◌, ℕ, ◌<◌, ◌==◌, true, false, List, [], ◌∷◌, length, get_or, map, Option, Some, None, Result, Ok, Err, All, refl, sym, ◌∙◌, ap, subst, arith, inl, inr}
 use Rattle.std.specs.Prelude.{is_some, OnOk}
 use Rattle.std.proofs.lemmas.Bool.{cases_Bool, cond-false, cond-true, eq-eqb}
@@ -58,7 +58,7 @@ empty_apart copies users files rules =
     let each = each_file (λ (r : FileRec). r.len ≡ 0 → r.tape ≡ None) copies files rules.among_files.empty in
     λ k d within. λ empty. none_for copies (get_or files k d).rec.stamp (get_or files k d).rec.tape (each k d within empty)
 
--- NOBODY is changed, where every version has a copy
+-- no user is changed, if every version has a copy
 nobody_waits : (copies : Tapes) (held : Option (List (List ℕ))) (files : List FileRec) (online : List (ℕ × DiscCopy))
     → All (λ (f : File). 0 < f.rec.len → is_some (copied_rec copies f.rec).tape ≡ true) (map (file_of held) (entries_of files online))
     → All (λ (e : FileEntry). WaitsFor [] e.0) (entries_of (map (copied_rec copies) files) online)

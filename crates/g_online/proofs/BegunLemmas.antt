@@ -237,7 +237,7 @@ module _ (old new : DiscState) (side : Side) (head : Head) (users : List UserRec
         gate = found.gate;
       })
 
--- MADE ANEW: empty files are on the disc, and all others aren't
+-- a created filestore: empty files are on the disc, and all others aren't
 abbrev no_block : DiscCopy
 no_block = record { blocks = []; len = 0 }
 

@@ -90,7 +90,7 @@ module _ (before after : DiscState) (m : Memory) (places : List ℕ) (kept : IsK
       used_away before.size (used_places m.pins (directory_in m).files) places m.pool was.pool.fresh.taken free k
       (Contains-append_left (all_places (directory_in m).files) (orphans m.pins (directory_in m).files) k there)
 
-  -- THE CONTENTS are as they were
+  -- the contents are unchanged
   pub beside_contents : contents_of after.held (directory_in m) ≡ contents_of before.held (directory_in m)
   beside_contents = same_contents before.held after.held (directory_in m)
       (Changes-weaken changes (λ b a told only. all_same places (all_places (directory_in m).files) b a only files_away))

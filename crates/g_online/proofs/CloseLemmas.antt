@@ -36,7 +36,7 @@ use Rattle.g_online.proofs.UnloadLemmas.{remembers_pages}
 abbrev Tapes : Type 0
 Tapes = List (ℕ × TapeCopy)
 
--- WHAT IS NOTED is noted for pinned versions alone
+-- copies are noted for pinned versions only
 no_copy : (pins : List Pinned) (stamp : ℕ) (old : Option TapeCopy) → copy_of (noted_in pins) stamp old ≡ None → (old ≡ None) × (has_stamp pins stamp ≡ false)
 no_copy [] stamp old none = (none, refl)
 no_copy (p ∷ pins) stamp old none = by_first (cases_Bool (p.stamp == stamp)) (no_copy pins stamp old)
@@ -72,7 +72,7 @@ empty_apart size next files touched (Some pins) are = λ k d within.
     not_empty pins (get_or files k d)
     (All-weaker (IsPinned size next files) (λ (p : Pinned). (0 < p.len) × IsFileOf p (get_or files k d)) (λ p is. (is.filled, is.current k d within)) pins are.each)
 
--- WHO WAITS behind it was touched
+-- the owner of a version that waits after the closing was touched
 waits_closed : (pins : List Pinned) (touched : List ℕ) (files : List FileRec) (online : List (ℕ × DiscCopy)) → All (WaitsPinned pins touched) (entries_of files online)
     → All (λ (e : FileEntry). WaitsFor touched e.0) (entries_of (map (copied_rec (noted_in pins)) files) online)
 waits_closed pins touched [] online all = λ k d within. (let no : ⊥ = omega (arith, within) in absurd no)
@@ -162,7 +162,7 @@ module _ (last : ℕ) (before : DiscState) (m : Memory) (may : IsToClose last be
         (λ b was. remembers_pages first pages marks.pages b (remembers b was))
         (λ s was. covers_noted (noted_in pins) s m.head (record m.head { last_dump = last; intent = None }) m.users m.files m.online m.pages first pages covers marks was)
 
-    -- who counts as changed behind it
+    -- the users who count as changed after the closing
     close_noted : (users : List UserRec) (noted_files : List FileRec) (all touched : List ℕ) → users ≡ m.users → noted_files ≡ map (copied_rec (noted_in pins)) m.files → all ≡ m.touched → touched ≡ []
         → AreNoted (length users) (entries_of noted_files m.online) all touched
     close_noted users noted_files all touched users_are noted_are all_is none =

@@ -31,7 +31,7 @@ use Rattle.g_online.proofs.VersionLemmas.{put_one}
 abbrev pub Tapes : Type 0
 Tapes = List (ℕ × TapeCopy)
 
--- a place that is noted is found whatever there was
+-- a noted place is found, for any place that was there
 pub noted_some : (copies : Tapes) (stamp : ℕ) (old : Option TapeCopy) (copy : TapeCopy) → Some copy ≡ copy_of copies stamp None → Some copy ≡ copy_of copies stamp old
 noted_some [] stamp old copy is = (let no : ⊥ = cc in absurd no)
 noted_some (c ∷ cs) stamp old copy is = by_first (cases_Bool (c.0 == stamp)) (noted_some cs stamp old copy)

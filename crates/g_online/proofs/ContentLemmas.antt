@@ -161,7 +161,7 @@ module _ (held : Told) where
       → files_of held (tree_with_file rec files) online ≡ set_rec rec (files_of held files online)
   record_set rec files online rising there = ap (λ (l : List FileRec). files_of held l online) (put-set rec files rising there) ∙ set_each rec files online
 
-  -- what the bytes are where the disc tells
+  -- the bytes, if the disc exposes them
   pub bytes_are : (copy : DiscCopy) (bytes : List ℕ) → ForSome held (λ blocks. bytes_at copy.blocks copy.len blocks ≡ bytes) → option_map (bytes_at copy.blocks copy.len) held ≡ told_bytes (is_some held) bytes
   bytes_are copy bytes each = by_held held each
     where

@@ -1,4 +1,4 @@
--- Records that stand elsewhere on tape, and are else the same, keep the rules of a directory.
+-- Records with other copies on tape, and otherwise the same, satisfy the rules of a directory.
 use Rattle.std.proofs.Common.{◌≡◌, ◌≢◌, ◌⊎◌, ℕ, ◌^◌, ◌<◌, ◌≤◌, ◌==◌, Bool, true, false, List, [], ◌∷◌, length, get_or, map, Option, Some, None, All, refl, ◌∙◌, subst, arith, inl, inr, if◌then◌else◌}
 use Rattle.std.specs.Prelude.{IfSome, is_some}
 use Rattle.std.proofs.lemmas.Bool.{cond-false, ne_eqb}
@@ -15,7 +15,7 @@ use Rattle.g_disc_contents.specs.Contents.{Contents, File, copied_rec, copy_of, 
 use Rattle.g_online.specs.AllowedChanges.{KeepsRules, Lies}
 use Rattle.g_online.proofs.CloseNoteLemmas.{Tapes, pairs_map}
 
--- WHATEVER PLACE each record gets
+-- for any place on tape that each record gets
 module _ (place : FileRec → Option TapeCopy) where
   abbrev replaced : FileRec → FileRec
   replaced r = record r { tape = place r }
@@ -80,7 +80,7 @@ recs_copied copies (f ∷ files) = λ i. copied_rec copies f.rec ∷ recs_copied
 abbrev pub KeepsEmpty : Tapes → FileRec → Type 0
 KeepsEmpty copies r = r.len ≡ 0 → copy_of copies r.stamp r.tape ≡ r.tape
 
--- COPIES that may stand in records
+-- copies that records may have
 module _ (copies : Tapes) (stand : All (λ c. IsCopy c.1) copies) where
   pub records_copied : (users : List UserRec) (files : List FileRec) → All (KeepsEmpty copies) files → IsRecords users files → IsRecords users (map (copied_rec copies) files)
   records_copied users files kept was =

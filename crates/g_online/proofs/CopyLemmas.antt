@@ -49,7 +49,7 @@ copy_at-failing p (c ∷ online) n no_n =
       | inr is ↦ ap (λ (l : Copies). copy_at l n) (passing_out p c online is) ∙ copy_at-failing p online n no_n
     ]
 
--- one list behind another
+-- one list followed by another
 pub copy_at-front : (xs ys : Copies) (n : ℕ) (copy : DiscCopy) → copy_at xs n ≡ Some copy → copy_at (xs ++ ys) n ≡ Some copy
 copy_at-front [] ys n copy is = absurd (let no : ⊥ = cc in no)
 copy_at-front (c ∷ xs) ys n copy is =

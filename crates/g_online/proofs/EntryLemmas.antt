@@ -19,7 +19,7 @@ module _ {X : Type 0} (make : FileEntry → X) (number : X → ℕ) (number_is :
   abbrev pub made : List FileRec → Copies → List X
   made files online = map (one online) files
 
-  -- they are told apart by their numbers
+  -- their numbers distinguish them
   made-passing : (p : ℕ → Bool) (files : List FileRec) (online : Copies) → made (filter (λ r. p r.number) files) online ≡ filter (λ x. p (number x)) (made files online)
   made-passing p [] online = refl
   made-passing p (r ∷ files) online =

@@ -45,7 +45,7 @@ use Rattle.g_online.proofs.UseLemmas.{IsUsed, SameUse, may_give, used_given, use
 pub entries_without : (n : ℕ) (files : List FileRec) (online : List (ℕ × DiscCopy)) → entries_of (without_file n files) (without_copy n online) ≡ without_entry n (entries_of files online)
 entries_without n files online = made-erased {X = FileEntry} (λ e. e) (λ e. e.0.number) (λ e. refl) n files online
 
--- the others are found as they were
+-- the others are found unchanged
 other_found : (n i : ℕ) (b : Bool) (f : FileEntry) (fs : List FileEntry) → i ≢ n → (f.0.number == n) ≡ b → entry_at (without_entry n fs) i ≡ entry_at fs i → entry_at (if not b then f ∷ without_entry n fs else without_entry n fs) i ≡ entry_at (f ∷ fs) i
 other_found n i true f fs other is rest =
     rest ∙ sym (cond-false (f.0.number == i) (Some f) (entry_at fs i) (ne_eqb f.0.number i (λ same. other (sym same ∙ eqb-true f.0.number n is))))

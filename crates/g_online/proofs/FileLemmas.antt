@@ -52,7 +52,7 @@ number_there held (r ∷ files) online f (suc k, inside, is) =
     let within = there.1 in
     (suc there.0, omega (arith, within), there.2)
 
--- the record that is changed is that of this version alone
+-- the changed record is that of this version, and no other
 versions : (held : Option (List (List ℕ))) (files : List FileRec) (online : List (ℕ × DiscCopy)) (rec : FileRec) (f : File) → AllPairs (λ r s. r.number < s.number) files
     → Contains (contents_files held files online) f → IsSameVersion rec f → All (λ (r : FileRec). r.number ≡ rec.number → IsVersion rec r) files
 versions held [] online rec f rising (k, inside, is) same = let no : ⊥ = omega (arith, inside) in absurd no

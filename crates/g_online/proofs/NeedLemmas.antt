@@ -72,12 +72,12 @@ only_here e n k j l need room only =
 pub ready_few : (bytes n : ℕ) → n ≡ blocks_for bytes → bytes ≤ 65536 → n ≤ 128
 ready_few bytes n need short = omega (arith, need, short)
 
--- REFUSED, for want of blocks or of memory
+-- a refusal, because blocks or memory are missing
 refused_not : (e : OnlineFault) (n k : ℕ) → (e ≡ NoMemory) ⊎ (e ≡ DiscFull n k) → e ≢ Stopped
 refused_not e n k (inl is) wrong = cc
 refused_not e n k (inr is) wrong = cc
 
--- A FILESTORE THAT IS STOPPED, whatever is in memory besides
+-- a stopped filestore, for any contents of memory
 kept_stopped : (disc : DiscState) (m n : Memory) → IsKept disc m → n.live ≡ false → IsKept disc n
 kept_stopped disc m n kept dead = record { size = kept.size; most = kept.most; whole = kept.whole; agreed = λ live. (let wrong = sym live ∙ dead in let no : ⊥ = cc in absurd no) }
 
@@ -98,7 +98,7 @@ moved m users files online = record m { users = users; files = files; online = o
 moved_same : (m : Memory) (users : List UserRec) (files : List FileRec) (online : Copies) → users ≡ m.users → files ≡ m.files → online ≡ m.online → moved m users files online ≡ m
 moved_same m users files online users_are files_are online_is = λ i. moved m (users_are i) (files_are i) (online_is i)
 
--- what was told of the list of copies before it was moved
+-- what was known of the list of copies before it was moved
 pub taken_moved : (bytes : ℕ) (listed : List ℕ) (online now : Copies) (old new : List Bool) (copy : DiscCopy) → now ≡ online → TakesBeside (places_off listed online) bytes old new copy → TakesBeside (places_off listed now) bytes old new copy
 taken_moved bytes listed online now old new copy same = subst (λ (on : Copies). TakesBeside (places_off listed on) bytes old new copy) (sym same)
 
@@ -111,7 +111,7 @@ pub only_moved : (e : OnlineFault) (listed : List ℕ) (online now : Copies) (fr
     → (e ≡ NoMemory) ⊎ (e ≡ DiscFull need (free + length (places_off listed now)))
 only_moved e listed online now free need same = subst (λ (on : Copies). (e ≡ NoMemory) ⊎ (e ≡ DiscFull need (free + length (places_off listed on)))) (sym same)
 
--- WHAT IS ASKED FOR, with the bytes and the list of files as the code has them
+-- what the change requires, with the bytes and the list of files as the code has them
 pub record IsAsked (bytes : ℕ) (listed : List ℕ) (inner outer : Change) (o : OnlineFacts) (before : DiscState) (m : Memory) : Type 0 where
   pub needing : IsNeeding listed inner outer
   pub needs : NeedsFor bytes inner
@@ -128,7 +128,7 @@ module _ (bytes : ℕ) (listed : List ℕ) (inner outer : Change) (o : OnlineFac
   asked_need : need_of outer ≡ blocks_for bytes
   asked_need = asked.needing.two.need ∙ asked.needs.need
 
-  -- what is asked of the lists and blocks
+  -- what the change requires of lists and blocks
   pub asked_blocks : AllPairs (λ j k. j ≢ k) (places_off listed m.online) × All (IsTaken m.pool) (places_off listed m.online)
   asked_blocks = off_blocks listed before m (may_take_off listed inner outer asked.needing before m o asked.view asked.kept asked.allowed)
 

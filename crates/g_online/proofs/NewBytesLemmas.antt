@@ -1,4 +1,4 @@
--- New bytes are those of a new version, or of a file that has them on tape alone: what is known of either.
+-- New bytes are those of a new version, or of a file whose bytes are only on tape: what is known of either.
 use Rattle.std.proofs.Common.{◌≡◌, ◌≢◌, ℕ, ◌+◌, ◌<◌, ◌≤◌, Bool, true, false, List, [], ◌∷◌, length, Option, Some, None, Result, Ok, Err, All, AllPairs, refl, sym, ◌∙◌, ap, subst, arith}
 use Rattle.std.specs.Prelude.{IfSome, OnErr, OnOk, is_some}
 use Rattle.std.specs.Option.{ForSome}
@@ -42,7 +42,7 @@ use Rattle.g_online.proofs.TwoLemmas.{IsNeeding, is_new, put_needing}
 use Rattle.g_online.proofs.UnjamLemmas.{IsUnjammed, memory_with, parts_of}
 use Rattle.g_online.proofs.WrittenLemmas.{IsNewCopy, NeedsFor}
 
--- WHAT IS ASKED FOR, by the bytes and the list as the code has them
+-- what the change requires, by the bytes and the list as the code has them
 pub bytes_needing : (rec : Option FileRec) (number : ℕ) (bytes unjam : List ℕ) → IsNeeding unjam (with_bytes rec number bytes []) (with_bytes rec number bytes unjam)
 bytes_needing None number bytes unjam = bring_needing number bytes unjam
 bytes_needing (Some r) number bytes unjam = put_needing r bytes unjam
@@ -101,7 +101,7 @@ gives_none true copy old new none gives = gives
 gives_none false None old new none gives = same_pool old new gives
 gives_none false (Some copy) old new none gives = (let no : ⊥ = cc in absurd no)
 
--- what is put into memory, in the place of what was there
+-- what replaces the former parts of memory
 pub record IsPutIn (number : ℕ) (copy : DiscCopy) (m : Memory) (rec : Option FileRec) (mid : List Bool) (keeps pinned : Bool) (first : Remembered) (n : Memory) : Type 0 where
   pub taken : HasTaken copy.blocks m.pool mid
   pub keeps_is : keeps ≡ is_pinned_at m.pins (finmap.get (by_number m.files) number)
@@ -180,7 +180,7 @@ module _ (number : ℕ) (bytes unjam : List ℕ) (copy : DiscCopy) (o : OnlineFa
       put.taken keeps_is gives put.pages put.remembers put.first_covers covers (is_new r bytes [] (facts_of origin m) w.un.allowed).owner put.pinned_is put.head put.users put.files online_is put.changed put.touched)
       put.keeps_is put.gives put.covers put.online
 
--- UP TO THE WRITES: what is asked for, the blocks that were taken, and the files that were taken off
+-- until the writes: what the change requires, the blocks that were taken, and the files that were taken off
 pub record IsPrepared (rec : Option FileRec) (number : ℕ) (bytes listed : List ℕ) (o : OnlineFacts) (before after : DiscState) (m : Memory) (pool : List Bool) (copy : DiscCopy) (y : Parts) : Type 0 where
   pub at : IfSome rec (λ r. r.number ≡ number)
   pub asked : IsAsked (length bytes) listed (with_bytes rec number bytes []) (with_bytes rec number bytes listed) o before m

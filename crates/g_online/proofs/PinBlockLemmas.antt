@@ -93,7 +93,7 @@ module _ (disc : DiscState) (m : Memory) (o : OnlineFacts) (is : facts_of disc m
       same_place : (j k : ℕ) → (let one : Option ℕ = Some j in one ≡ Some k) → j ≡ k
       same_place j k e = cc
 
-  -- what stands there
+  -- the content of that block
   pub block_read : IsKept disc m → (place : ℕ) (into : List ℕ) → (let one : Option ℕ = Some place in one ≡ place_in (slice_get listed i) part) → ForSome disc.held (λ blocks. slice_get blocks place ≡ Some into)
       → (ps : List Pin) (pin : Pin) → o.pins ≡ Some ps → slice_get ps i ≡ Some pin → ForSome pin.blocks (λ blocks. slice_get blocks part ≡ Some into)
   block_read kept place into found read ps pin are there =

@@ -316,7 +316,7 @@ module _ (disc : DiscState) (m : Memory) (o : OnlineFacts) (is : facts_of disc m
   laid =
       all_laid disc.size m.head.next_stamp m.online m.files (subst (λ (rs : List FileRec). All (λ (r : FileRec). r.stamp < m.head.next_stamp) rs) recs was.stored.rules.dated) was.stored.rules.lies was.stored.rules.area
 
-  -- the memory behind it
+  -- the memory afterwards
   pub pinned_kept : (serial first : ℕ) (listed : List Pinned) → listed ≡ pins_from serial first m.online (waiting_below 63 m.files) → IsKept disc (record m { pins = Some listed })
   pinned_kept serial first listed pins_are = subst (λ (ps : List Pinned). IsKept disc (record m { pins = Some ps })) (sym pins_are)
       (kept_anew disc m m.pool (Some (pins_from serial first m.online (waiting_below 63 m.files))) m.changed m.touched kept

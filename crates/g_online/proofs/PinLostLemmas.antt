@@ -55,7 +55,7 @@ pool_free size pins files old new was gives =
 pub no_numbers : (users : ℕ) → AreNumbers users []
 no_numbers users = record { rising = λ k next. (let no : ⊥ = omega (arith, next) in absurd no); there = λ k d inside. (let no : ⊥ = omega (arith, inside) in absurd no) }
 
--- the memory behind it
+-- the memory afterwards
 abbrev pub let_go : List Bool → List ℕ → Memory → Memory
 let_go pool touched m = record m { pool = pool; pins = None; touched = touched }
 

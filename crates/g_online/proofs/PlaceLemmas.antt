@@ -1,4 +1,4 @@
--- The blocks of files and of pinned versions, when a file comes or goes.
+-- The blocks of files and of pinned versions, when a file is added or removed.
 use Rattle.std.proofs.Common.{◌≡◌, ◌≢◌, ℕ, zero, suc, ◌+◌, ◌<◌, ◌≤◌, ◌==◌, Bool, true, false, List, [], ◌∷◌, ◌++◌, filter, not, Option, Some, None, All, AllPairs, refl, sym, ◌∙◌, ap, inl, inr, arith, if◌then◌else◌, cond, ◌||◌, get_or}
 use Rattle.std.specs.Prelude.{Contains, nat_lt, sum_by, IfSome}
 use Rattle.std.specs.List.{flat_map}
@@ -121,7 +121,7 @@ current_by_count s (e ∷ files) =
 same_current : (s : ℕ) (old new : List FileEntry) → sum_by (dated s) new ≡ sum_by (dated s) old → is_current new s ≡ is_current old s
 same_current s old new same = current_by_count s new ∙ ap (λ (n : ℕ). nat_lt 0 n) same ∙ sym (current_by_count s old)
 
--- a file of another version comes or goes
+-- a file of another version is added or removed
 current_without : (s : ℕ) (e : FileEntry) (files : List FileEntry) → RisingEntries files → Contains files e → e.0.stamp ≢ s → is_current (without_entry e.0.number files) s ≡ is_current files s
 current_without s e files rising there other =
     same_current s files (without_entry e.0.number files) (omega (arith, sum_split (dated s) e files rising there, dated_no s e other))
@@ -178,7 +178,7 @@ orphans_same (p ∷ pins) old new same =
     by_current true rest = rest
     by_current false rest = ap (λ (l : List ℕ). p.blocks ++ l) rest
 
--- no pinned version comes or goes
+-- no pinned version is added or removed
 pub orphans_kept : (pins : Option (List Pinned)) (old new : List FileEntry) → IfSome pins (All (λ p. is_current new p.stamp ≡ is_current old p.stamp)) → orphans pins new ≡ orphans pins old
 orphans_kept None old new same = refl
 orphans_kept (Some pins) old new same = orphans_same pins old new same
@@ -214,7 +214,7 @@ used_without pins e files rising there away f =
     orphans_kept pins files others (away_from e.0.stamp pins (λ s. is_current others s ≡ is_current files s) (λ s other. current_without s e files rising there other) away) in
     used_more f pins e files others (sym lost) (places_split e files rising there f)
 
--- A FILE WITH A NEW VERSION COMES, in the place of one of its number
+-- a file with a new version is added, in place of one of its number
 pub used_with : (pins : Option (List Pinned)) (e : FileEntry) (files : List FileEntry) → NotPinned e.0.stamp pins
     → SameUse (used_places pins (with_entry e files)) (places_of e ++ used_places pins (without_entry e.0.number files))
 used_with pins e files away f =

@@ -149,7 +149,7 @@ module _ (rec : FileRec) (bytes unjam : List ℕ) (copy : DiscCopy) (o : OnlineF
   beside : IsBeside (PutFile rec bytes []) origin before m
   beside = written_beside (PutFile rec bytes []) unjam rec.len copy o origin before m needs un new counts.size whole only counts
 
-  -- what the disc tells of the copy
+  -- what the disc exposes of the copy
   bytes_told : ForSome before.held (λ blocks. bytes_at copy.blocks copy.len blocks ≡ bytes)
   bytes_told = told_after written (λ b a told holds. subst (λ (k : ℕ). bytes_at copy.blocks k a ≡ bytes) (sym (new.len ∙ un.allowed.fits.2)) holds.bytes_are)
 

@@ -34,7 +34,7 @@ keeps_marked k old new is = record { a = ap (λ (p : Remembered). p.a) is; b = a
 pub keeps_then : (x y z : Remembered) → KeepsPages x y → KeepsPages y z → KeepsPages x z
 keeps_then x y z first second = record { a = second.a ∙ first.a; b = second.b ∙ first.b }
 
--- without pinned versions nobody is touched
+-- without pinned versions no user is touched
 pub touched_stays : (held : Option (List (List ℕ))) (size next : ℕ) (files : List FileEntry) (touched : List ℕ) (pins : Option (List Pinned)) → PinsAre pins size next files touched
     → touched ≡ (if is_some (pins_of held pins) then touched else [])
 touched_stays held size next files touched None are = are

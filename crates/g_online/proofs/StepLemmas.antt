@@ -31,7 +31,8 @@ use Rattle.g_online.proofs.SameLemmas.{same_area, same_contents, same_pins, AreS
 use Rattle.g_online.proofs.TieLemmas.{tied}
 use Rattle.g_online.proofs.WriteLemmas.{same_pages}
 
--- NEW BYTES, as many blocks of them as the change needs, were written beside all that memory names, and there was room for them
+-- new bytes, as many blocks of them as the change needs, were written to blocks that nothing in memory names, and there was
+-- room for them
 pub record IsBeside (change : Change) (origin before : DiscState) (m : Memory) : Type 0 where
   pub contents : contents_of before.held (directory_in m) ≡ contents_of origin.held (directory_in m)
   pub pins : pins_of before.held m.pins ≡ pins_of origin.held m.pins
@@ -51,8 +52,8 @@ beside_none change disc m need = record {
   room = λ less. (let no : ⊥ = omega (arith, less, need) in no);
 }
 
--- THE MEMORY n IS READY to be written for a change of what m says, whose bytes are there: all that a commit asks for, and all
--- that is owed behind it
+-- the memory n is ready to be committed for a change of what m represents, whose bytes are written: everything that a
+-- commit requires, and everything that must be established afterwards
 pub record IsReadyFrom (change : Change) (origin before : DiscState) (m n : Memory) : Type 0 where
   pub was : IsKept before m
   pub lived : m.live ≡ true
@@ -75,7 +76,7 @@ pub record IsReadyFrom (change : Change) (origin before : DiscState) (m n : Memo
 abbrev pub IsReady : Change → DiscState → Memory → Memory → Type 0
 IsReady change before m n = IsReadyFrom change before before m n
 
--- the memory behind the commit
+-- the memory after the commit
 abbrev pub written : Memory → Side → Remembered → Memory
 written n next pages = record n { side = next; pages = pages }
 
@@ -87,7 +88,7 @@ pub pins_told : (held : Option (List (List ℕ))) (pins : Option (List Pinned)) 
 pins_told held None = refl
 pins_told held (Some pins) = refl
 
--- whether the disc tells stays
+-- whether the disc exposes its contents doesn't change
 pub both_told : {R : List (List ℕ) → List (List ℕ) → Type 0} (x y : Option (List (List ℕ))) → Changes R x y → is_some y ≡ is_some x
 both_told None y changes = ap (λ (h : Option (List (List ℕ))). is_some h) (changes.untold refl)
 both_told (Some b) y changes = ap (λ (h : Option (List (List ℕ))). is_some h) (changes.told b refl).1

@@ -24,7 +24,7 @@ not_told a e = cc
 inside : (a b : List (List ℕ)) → (let one : Option (List (List ℕ)) = Some a in one ≡ Some b) → a ≡ b
 inside a b e = cc
 
--- something is there or not, whatever is made of it
+-- mapping preserves whether something is there
 pub some_made : {A B : Type 0} (f : A → B) (o : Option A) → is_some (option_map f o) ≡ is_some o
 some_made f None = refl
 some_made f (Some x) = refl

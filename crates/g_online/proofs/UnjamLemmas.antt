@@ -225,7 +225,7 @@ module _ (numbers : List ℕ) (before : DiscState) (m : Memory) (un : IsUnloadab
         pins = subst (λ (k : ℕ). PinsAre m.pins before.size k left m.touched) (sym (next_kept (is_some m.pins) m.head)) left_pins;
       }
 
--- what the first commit works on, and what memory is behind it
+-- what the first commit works on, and the memory after it
 abbrev pub parts_of : Memory → Parts
 parts_of m = record { side = m.side; pages = m.pages; head = m.head; online = m.online; live = m.live }
 
@@ -249,19 +249,19 @@ module _ (numbers : List ℕ) (before after : DiscState) (m : Memory) (pool : Li
       applied (Unload numbers) before after m (record m { head = y.head; online = y.online; pool = pool; pages = off.mid }) y.side y.pages unjam_ready o is y.live result y.online refl off.ok off.stopped off.counts off.whole off.only off.lives
       off.dies
 
--- BEFORE THE BYTES are written: the files are taken off, where there are any, and the rest of the change may be asked for
+-- before the bytes are written: the files are taken off, if there are any, and the rest of the change is permitted
 pub record IsUnjammed (inner : Change) (unjam : List ℕ) (o : OnlineFacts) (disc : DiscState) (m : Memory) : Type 0 where
   pub kept : IsKept disc m
   pub live : m.live ≡ true
   pub allowed : IsAllowed inner (facts_of disc m)
   pub way : Way unjam o (facts_of disc m)
 
--- what is known of the files that are to be taken off
+-- what is known of the files that will be taken off
 pub may_take_off : (unjam : List ℕ) (inner outer : Change) → IsNeeding unjam inner outer → (before : DiscState) (m : Memory) (o : OnlineFacts) → facts_of before m ≡ o → IsKept before m → IsAllowed outer o → IsUnloadable unjam before m
 may_take_off unjam inner outer needing before m o is kept allowed =
     unloadable unjam before m (kept.agreed (allowed_live outer before m o is allowed)) (needing.fits (facts_of before m) (allowed_here outer before m o is allowed))
 
--- THE ROOM that the change is told
+-- the room that the change reports
 pub room_told : (unjam : List ℕ) (inner outer : Change) → IsNeeding unjam inner outer → (before : DiscState) (m : Memory) (o : OnlineFacts) → facts_of before m ≡ o → IsKept before m → IsAllowed outer o
     → free_count m.pool + length (places_off unjam m.online) ≡ room_for outer o
 room_told unjam inner outer needing before m o is kept allowed =

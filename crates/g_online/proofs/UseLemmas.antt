@@ -1,4 +1,4 @@
--- Lists of blocks that are used: in whatever order, each once; and the pool on which just these are taken.
+-- Lists of blocks in use, each once and in any order; and the pool in which exactly these are taken.
 use Rattle.std.proofs.Common.{◌≡◌, ◌≢◌, ℕ, zero, suc, ◌+◌, ◌-◌, ◌≤◌, ◌==◌, Bool, true, false, List, [], ◌∷◌, ◌++◌, length, Some, All, AllPairs, refl, sym, ◌∙◌, inl, inr, arith, if◌then◌else◌, subst, ⊎_elim, length-append}
 use Rattle.std.specs.Prelude.{Contains, slice_get, sum_by, ◌⊎◌}
 use Rattle.std.proofs.lemmas.Bool.{cases_eq, cond-false, cond-true, eq-eqb, ne_eqb}
@@ -8,11 +8,11 @@ use Rattle.std.proofs.lemmas.Option.{slice_get_within}
 use Rattle.g_blocks.specs.Pool.{ChangesOnly, IsInArea, IsFresh, IsFree, IsTaken, HasTaken, HasGiven}
 use Rattle.g_base.specs.Limits.{first_copy_block}
 
--- THE SAME NUMBERS, each as often, in whatever order
+-- the same numbers, each equally often, in any order
 abbrev pub SameUse : List ℕ → List ℕ → Type 0
 SameUse xs ys = (f : ℕ → ℕ) → sum_by f xs ≡ sum_by f ys
 
--- how often a number stands in a list
+-- how often a number occurs in a list
 abbrev here : ℕ → ℕ → ℕ
 here k j = if j == k then 1 else 0
 

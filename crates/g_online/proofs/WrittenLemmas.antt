@@ -1,4 +1,4 @@
--- New bytes are written beside all that the disc holds.
+-- New bytes are written to blocks that nothing else uses.
 use Rattle.std.proofs.Common.{◌≡◌, ◌≢◌, ℕ, ◌<◌, ◌≤◌, Bool, false, List, [], length, Result, Ok, Err, All, AllPairs, refl, sym, ◌∙◌, ap, subst, arith, inl}
 use Rattle.std.specs.Option.{ForSome}
 use Rattle.g_base.specs.Block.{blocks_for}
@@ -35,7 +35,7 @@ pub record IsNewCopy (bytes : ℕ) (pool : List Bool) (copy : DiscCopy) : Type 0
 abbrev refusal : OnlineFault → Result (Unit {0}) OnlineFault
 refusal e = Err e
 
--- a change that takes no files off, and needs the blocks of so many bytes
+-- a change that takes no files off, and needs the blocks for this many bytes
 pub record NeedsFor (bytes : ℕ) (change : Change) : Type 0 where
   pub need : need_of change ≡ blocks_for bytes
   pub none : unjammed_by change ≡ []

@@ -1,4 +1,4 @@
--- What a fault of the filestore is to a store.
+-- The store's fault for each fault of the filestore.
 use Rattle.g_plain.specs.declared.faults.StoreFault.{StoreFault}
 use Rattle.g_plain.specs.declared.faults.StoreFault.TheVariants as store
 use Rattle.g_online.specs.declared.fault.OnlineFault.{OnlineFault}

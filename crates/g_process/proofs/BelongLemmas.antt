@@ -1,4 +1,4 @@
--- Disc and rack go on belonging together, whatever became of the event.
+-- Disc and rack still belong together, for any outcome of PROCESS.
 use Rattle.std.proofs.Common.{◌≡◌, ℕ, zero, suc, ◌+◌, ◌<◌, ◌≤◌, ◌==◌, Bool, true, false, List, [], ◌∷◌, ◌++◌, get_or, length, map, Option, Some, None, refl, sym, ◌∙◌, ap, arith, subst, inl, inr}
 use Rattle.std.specs.Prelude.{◌⊎◌, ◌||◌, All, Contains, IfSome, filter, is_some, nat_le}
 use Rattle.std.specs.Option.{ForSome}
@@ -71,7 +71,7 @@ shelved_by F old new shelf next is shelved make = record {
         later : (r : Reel) → Contains xs r → Contains (x ∷ xs) r
         later r (j, within, same) = (suc j, omega (arith, within), same)
 
--- THE STORE as it was, over devices that tell and belong together
+-- the store before, on devices that expose their contents and belong together
 module _ (serial : ℕ) (o : OnlineFacts) (old : Rack) (live : o.live ≡ true) (tied : IsTied o) (rules : IsPlan (process_plan serial o)) (on : Reel) (on_is : reel serial old.reels ≡ Some on) (free : IsFree serial old)
     (told : AllTold o.disc.held (told_reels old)) (text : ℕ → List ℕ) (shelf : ℕ → List Dump) (shelved : AreShelved shelf (told_reels old)) (up : IsUp text shelf (up_with o old None)) where
   abbrev c : Contents

@@ -48,7 +48,7 @@ has_intended i o new u none done =
       tied = done.tied;
     }
 
--- it fails where a write failed alone
+-- it fails only if a write failed
 pub stops_alone : (i : Intent) (o new : OnlineFacts) (e : OnlineFault) → (let r : Result (Unit {0}) OnlineFault = Err e in IsApplied (SetIntent (Some i)) o new r) → e ≡ Stopped
 stops_alone i o new e done = by_case done.only
   where
@@ -78,7 +78,7 @@ has_stopped i o new e done =
     by_case blocks (inr (inl (less, off))) = absurd (omega (arith, less))
     by_case blocks (inr (inr made)) = inr (subst (Holds blocks) (intended true (is_some o.pins) (Some i) o.contents) made)
 
--- BEHIND IT the versions can be read as before, and what was made ready is so still
+-- afterwards the versions can be read as before, and what was prepared is still ready
 readable_in : (serial : ℕ) (rack : Rack) (r : FileRec) (o new : OnlineFacts) → new.contents.files ≡ o.contents.files → IsReadable serial o rack r → IsReadable serial new rack r
 readable_in serial rack r o new same is = record {
   file = let (f, there, at) = is.file in (f, subst (λ (fs : List File). Contains fs f) (sym same) there, at);

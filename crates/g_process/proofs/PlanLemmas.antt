@@ -300,7 +300,7 @@ made_ready serial at last o ready live tied named number low is =
           (empty_kept serial at o.contents rules.records) rules;
     }
 
--- ONE MORE COPY behind the others
+-- one more copy after the others
 pub copies_push : (serial at : ℕ) (rs : List FileRec) (r : FileRec) → copies_from serial at (rs ++ r ∷ []) ≡ copies_from serial at rs ++ (r.stamp, record { serial = serial; first = at + blocks_of rs }) ∷ []
 copies_push serial at [] r = ap (λ (n : ℕ). let c : TapeCopy = record { serial = serial; first = n } in (r.stamp, c) ∷ []) (let e : at ≡ at + 0 = omega arith in e)
 copies_push serial at (q ∷ qs) r =

@@ -26,7 +26,7 @@ use Rattle.g_laws_store.specs.ForgottenCopies.{bare_rec}
 use Rattle.g_process.specs.Progress.{AreReadable, FailedAt, Fills, IsReadable, ReadsSource}
 use Rattle.g_process.proofs.WriteLemmas.{element, element_below, placed}
 
--- A DISC THAT WAS READ is as it was, but for the count of failed reads
+-- a disc after reads is unchanged, except for its count of failed reads
 abbrev disc_of : Option (List (List ℕ)) → ℕ → ℕ → ℕ → Option ℕ → Arms → ℕ → DiscState
 disc_of held size faults writes fuse arms reads = record { held = held; size = size; read_faults = reads; write_faults = faults; writes = writes; fuse = fuse; arms = arms }
 
@@ -94,7 +94,7 @@ module _ (o : OnlineFacts) (old : Rack) (r : FileRec) (part : ℕ) (serial : ℕ
     refl,
   )
 
-  -- or on tape alone
+  -- or only on tape
   pub the_copy : (is : Bool) → ((f : File) → Contains o.contents.files f → f.rec.number ≡ r.number → is ≡ f.online) → is ≡ false
       → (c : TapeCopy) × (r.tape ≡ Some c) × (c.serial ≢ serial) × (q : Reel) × (reel c.serial old.reels ≡ Some q) × (q.mounted ≡ true) × (c.first + blocks_for r.len ≤ q.len)
   the_copy is tells off =

@@ -1,4 +1,4 @@
--- WHAT THE DISC NAMES behind each of the two commits.
+-- What the disc names after each of the two commits.
 use Rattle.std.specs.Prelude.{ℕ, ◌+◌, List, Some}
 use Rattle.g_entry.specs.declared.file_rec.TapeCopy.{TapeCopy}
 use Rattle.g_entry.specs.declared.head.Intent.{Intent}
@@ -8,7 +8,7 @@ use Rattle.g_incr.specs.Plan.{first_content}
 use Rattle.g_online.specs.ReadyCopies.{adopted}
 use Rattle.g_process.specs.ProcessPlan.{copies_from, process_plan, versions}
 
--- the new intent; and behind the dump the copies of all versions in it and its number, without an intent
+-- The new intent; and after the dump the copies of all versions in it and its number, without an intent.
 abbrev pub process_intent : ℕ → OnlineFacts → Intent
 process_intent serial o = record { serial = serial; place = 0; number = o.contents.head.last_dump + 1 }
 

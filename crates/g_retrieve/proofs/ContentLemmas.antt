@@ -53,7 +53,7 @@ part_stands reel d first n stands from to =
     ap (drop s) (sym (content_stands reel d stands)) ∙ ap (λ (m : ℕ). drop s (take m whole)) long ∙ drop-take s left whole in
     ap (λ (m : ℕ). take n (drop m reel)) at ∙ ap (take n) (sym (drop-drop s (content_at d) reel)) ∙ sym (take-take n left (drop s whole) (omega (arith, from, to))) ∙ ap (take n) (sym inside)
 
--- whole blocks, one behind the other
+-- whole blocks, one after another
 pub joined_long : (blocks : List (List ℕ)) → All IsBlock blocks → length (joined blocks) ≡ 512 * length blocks
 joined_long [] all = refl
 joined_long (b ∷ bs) all =

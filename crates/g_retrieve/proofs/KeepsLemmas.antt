@@ -101,7 +101,7 @@ module _ (s : StoreFacts) (after : Rack) (only : OnlyReads s.rack after) where
 abbrev with_online : OnlineFacts → StoreFacts → StoreFacts
 with_online o s = record s { online = o; spent = not o.live }
 
--- THE CONTENTS behind the change, and between its commits
+-- the contents after the change, and between its commits
 abbrev off : List ℕ → Contents → Contents
 off take c = with_files (taken_off take c.files) c
 
@@ -155,7 +155,7 @@ dump_kept : (dump : Option DumpFacts) (o new : OnlineFacts) (rack : Rack) (numbe
 dump_kept None o new rack number bytes take pins contents is = tt
 dump_kept (Some d) o new rack number bytes take pins contents is = open_kept d o new rack number bytes take pins contents is
 
--- nobody is unmarked
+-- no mark is removed
 grows_to : (old new : List ℕ) → new ≡ old → (n : ℕ) → holds old n ≡ true → holds new n ≡ true
 grows_to old new same n is = ap (λ (l : List ℕ). holds l n) same ∙ is
 
@@ -226,7 +226,7 @@ module _ (s : StoreFacts) (new : OnlineFacts) (number : ℕ) (bytes take : List 
   store_stopped : IsStore (with_online new s)
   store_stopped = spent_store s new stopped.live tied
 
-  -- whichever of the three the disc holds, it belongs
+  -- whichever of the three contents the disc holds, it belongs to the rack
   one_belongs : (text : ℕ → List ℕ) (shelf : ℕ → List Dump) (blocks : List (List ℕ)) (c : Contents) → IsUp text shelf s
       → All (BringsText text number (told_bytes true bytes)) s.online.contents.files → AfterStop (Bring number bytes take) s.online blocks → Holds blocks c → DiscBelongs text shelf (told_reels s.rack) c
   one_belongs text shelf blocks c up brings after holds_c = by_case after.one
@@ -275,7 +275,7 @@ keeps_same o before after live only = record {
   belongs = λ s over store told was. belongs_read (with_online o s) after (reads_in before after s over.rack_is only) (subst Belongs (same_store s o over.online_is over.unspent live) was);
 }
 
--- the disc tells behind a change where it told before
+-- the disc exposes its contents after a change if it did before
 told_then : (s : StoreFacts) (new : OnlineFacts) → is_some new.disc.held ≡ is_some s.online.disc.held → Told s → Told (with_online new s)
 told_then s new same told = record { disc = same ∙ told.disc; each = told.each }
 

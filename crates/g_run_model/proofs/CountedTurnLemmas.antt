@@ -1,5 +1,5 @@
--- A turn's program that was run over a store is a list of moves of the world, as many of which have an outcome as the devices
--- counted; and so is a front of it, where memory ran out.
+-- A turn's program that was run on a store is a list of moves of the world, with as many failures as the devices counted;
+-- and so is a prefix of it, if memory ran out.
 use Rattle.std.proofs.Common.{◌≡◌, ℕ, false, List, [], ◌∷◌, ◌++◌, map, Option, Some, None, slice_get, Err, refl, sym, ap, subst, inl, inr}
 use Rattle.std.specs.Fn.{Shared}
 use denote.Ref.{Bor}
@@ -73,7 +73,7 @@ module _ {F U S : Type 0} (tariffs : Shared F (Bor Usage × Unit {0}) Charge) (t
         let step : IsCall s job.user call one.0 r.0 one.1 = subst (λ (u : List ℕ). IsCall s u call one.0 r.0 one.1) (sym user) one.2 in
         (Answered one.0 ∷ rest.0, rest.1, rest.2, (with_turn w one.1 number (more r.0), (number, call, more, job, r.0, one.1, refl, here, step, r.3, refl), rest.3), rest.4, one_then one.0 rest.0 old r.1 new one.4 rest.5)
 
--- the world behind a turn
+-- the world after a turn
 abbrev pub turned_world : World → JobState → State → Work → Turn → JobState → World
 turned_world w job t work turn after = record (turn_told after turn (shows job after (with_turn (record w { phase = Stepped }) t job.number (Gives work)))) { turn = None; phase = Turned }
 

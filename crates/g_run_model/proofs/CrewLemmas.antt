@@ -1,4 +1,5 @@
--- Lists of jobs: each has a number of its own, those that come are behind the others, and those that go leave the rest.
+-- Lists of jobs: each has a number of its own, new ones are added after the others, and the others remain when one is
+-- removed.
 use Rattle.std.proofs.Common.{◌≡◌, ◌<◌, ◌≤◌, ◌+◌, ◌==◌, ◌⊎◌, ℕ, zero, suc, Bool, true, false, cond, not, List, [], ◌∷◌, ◌++◌, filter, find, Option, Some, None, slice_get, refl, sym, ◌∙◌, ap, subst, inl, inr, if◌then◌else◌, le_trans, eq-eqb, ne_eqb, eqb-true, arith}
 use Rattle.g_job.specs.State.{JobState}
 use Rattle.g_run_model.specs.World.{with_job, without_job}
@@ -36,7 +37,7 @@ pub rising_lower : (low less : ℕ) (jobs : List JobState) (top : ℕ) → less 
 rising_lower low less [] top le r = le_trans le r
 rising_lower low less (j ∷ jobs) top le r = (le_trans le r.0, r.1)
 
--- a job that comes
+-- a job is added
 pub rising_push : (low : ℕ) (jobs : List JobState) (top : ℕ) (job : JobState) → job.number ≡ top → AreRising low jobs top → AreRising low (jobs ++ job ∷ []) (top + 1)
 rising_push low [] top job is r = (subst (λ (n : ℕ). low ≤ n) (sym is) r, omega (arith, is))
 rising_push low (j ∷ jobs) top job is r = (r.0, rising_push (j.number + 1) jobs top job is r.1)
@@ -61,7 +62,7 @@ rising_filter p low (j ∷ jobs) top r = by (p j) (rising_filter p (j.number + 1
     by true rest = (r.0, rest)
     by false rest = rising_lower (j.number + 1) low (filter p jobs) top (let least : low ≤ j.number = r.0 in omega (arith, least)) rest
 
--- a job is the one of its number where it is the first, or one behind it
+-- a job is the one of its number if it is the first, or a later one
 abbrev IsOne : (JobState → Bool) → ℕ → List JobState → JobState → Type 0
 IsOne p low jobs job = (low ≤ job.number) × (numbered job.number jobs ≡ Some job) × (p job ≡ true)
 
@@ -124,7 +125,7 @@ found_other j number other (k ∷ jobs) = by (k.number == j.number) refl (found_
         ∙ sym (ap (λ (c : Bool). cond c (Some k) (numbered number jobs)) (ap (λ (n : ℕ). n == number) same ∙ other))
     by false e rest = ap (λ (r : Option JobState). cond (k.number == number) (Some k) r) rest
 
--- who is found where the job of a number is taken out: nobody under it, and the same as before under all others
+-- which job is found after the job of a number is removed: none under that number, and the same as before under all others
 pub left_none : (number : ℕ) (jobs : List JobState) → numbered number (without_job number jobs) ≡ None
 left_none number [] = refl
 left_none number (k ∷ jobs) = by (k.number == number) refl (left_none number jobs)

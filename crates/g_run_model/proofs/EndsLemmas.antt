@@ -53,7 +53,7 @@ candid_on s k who call o more answer new step (inl honest) = inl (honest.2 answe
 candid_on s k who call o more answer new step (inr (inl (serial, stops, low))) = absurd stops
 candid_on s k who call o more answer new step (inr (inr stops)) = absurd stops
 
--- so many in all moves
+-- this many in all moves
 abbrev pub all_in : (Move → ℕ) → List Move → ℕ
 all_in g [] = 0
 all_in g (move ∷ moves) = g move + all_in g moves
@@ -62,12 +62,12 @@ all_in g (move ∷ moves) = g move + all_in g moves
 abbrev pub mounts : List Timed → ℕ
 mounts lines = length (filter is_mount lines)
 
--- the lines that are left behind a move, and how many MOUNT lines were done
+-- the lines that remain after a move, and how many MOUNT lines were done
 abbrev pub LinesGo : List Timed → List Timed → ℕ → ℕ → Type 0
 LinesGo old new m m2 = ((new ≡ old) × (m2 ≡ m)) ⊎ ((next : Timed) × (old ≡ next ∷ new) × (m2 ≡ m + mounts (next ∷ [])))
 
 module _ (n : ℕ) (u q : Bool) (a : ℕ) where
-  -- what is known behind a line
+  -- what is known after a line
   abbrev Keeps : ℕ → ℕ → ℕ → List Timed → World → Type 0
   Keeps f m c rest w = IsTakenIn n u q a f m c w × (w.lines ≡ rest)
 
@@ -205,7 +205,7 @@ module _ (n : ℕ) (u q : Bool) (a : ℕ) where
     turned after (turns.Ran units money) w h lines = (h, lines)
     turned after (turns.Ended units money) w h lines = (h, lines)
 
-  -- what is known behind a move
+  -- what is known after a move
   abbrev pub Goes : ℕ → ℕ → ℕ → World → Move → World → Type 0
   Goes f m c w move new =
       (f2 : ℕ) × (m2 : ℕ) × (c2 : ℕ) × (f2 ≡ f + free_in n move) × (c2 ≡ c + charged_in n move) × IsTakenIn n u q a f2 m2 c2 new × LinesGo w.lines new.lines m m2
@@ -331,7 +331,7 @@ done_are lines done left is =
     ap (λ (ls : List Timed). take (length ls - length left) ls) is ∙ ap (λ (k : ℕ). take k (done ++ left)) count ∙ taken_front done left
 
 module _ {F U : Type 0} (tariffs : Shared F (Bor Usage × Unit {0}) Charge) (tariff : F) (rules : Shared U (Bor Standing × Unit {0}) ℕ) (rule : U) where
-  -- nobody is there when a run begins
+  -- there is no job when a run begins
   pub begun : (n : ℕ) (u : Bool) (lines : List Timed) (bad : Option ℕ) (s : State) → IsTakenIn n u false 0 0 0 0 (start lines bad s)
   begun n u lines bad s = record {
     rising = (let low : 0 ≤ 1 = omega arith in low);

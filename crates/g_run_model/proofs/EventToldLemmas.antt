@@ -1,5 +1,5 @@
--- An event whose answer doesn't tell its outcome is the event in which no device failed; and an answer of a device's own comes
--- with its outcome alone.
+-- An event whose answer doesn't show its outcome is the event in which no device failed; and an answer that only a device
+-- causes occurs only with its outcome.
 use Rattle.std.proofs.Common.{◌≡◌, ◌⊎◌, ◌&&◌, ◌||◌, ◌==◌, ◌+◌, ◌-◌, ◌^◌, ℕ, Bool, true, false, cond, not, List, [], ◌∷◌, ◌++◌, Option, Some, None, Result, Ok, Err, MatchOption, option_map, is_some, is_none, nat_lt, unwrap_or, refl, sym, ◌∙◌, ap, subst, inl, inr}
 use Rattle.std.proofs.lemmas.Bool.{false≢true}
 use Rattle.std.specs.List.{list_all}
@@ -22,8 +22,8 @@ use Rattle.g_store_model.specs.Process.{ProcessStep, Processes, process_needs, p
 use Rattle.g_plain.specs.declared.faults.StoreFault.TheVariants as fault
 use Rattle.g_run_model.specs.Events.{IsTold}
 
--- An outcome and an answer that tell each other: an outcome is told by the answer, and an answer of a device's own comes
--- with its outcome alone.
+-- An outcome and an answer that determine each other: the answer shows the outcome, and an answer that only a device causes
+-- occurs only with its outcome.
 pub record OutcomeTold {A : Type 0} (outcome : Outcome) (answer : Result A StoreFault) : Type 0 where
   pub told : IsTold outcome answer
   pub disc_read : answer ≡ Err fault.DiscReadFault → outcome ≡ DiscRead
@@ -37,7 +37,7 @@ IsOwn TapeReadFault = ⊥
 IsOwn Stopped = ⊥
 IsOwn fault = Unit {0}
 
--- an answer that is none of the devices' own is told by the outcome of no failure
+-- an answer that no device causes shows the outcome without failure
 same_fault : {A : Type 0} (f g : StoreFault) → (let one : Result A StoreFault = Err f in one ≡ Err g) → f ≡ g
 same_fault f g e = cc
 
@@ -87,11 +87,11 @@ told_cut o answer so is = subst (λ (x : Outcome). OutcomeTold x answer) (sym so
   cut = λ e. refl;
 })
 
--- the same of an event, whatever it is: with the outcome that it had, or with no failure
+-- the same for any event: with the outcome that it had, or without failure
 abbrev pub ToldBy : {A : Type 0} → (Outcome → Result A StoreFault → State → Type 0) → Outcome → Result A StoreFault → State → Type 0
 ToldBy By o answer new = (told : Outcome) × By told answer new × OutcomeTold told answer × ((told ≡ o) ⊎ (told ≡ Plain))
 
--- HOW REFUSALS GO WITH OUTCOMES: one of the devices' own with its outcome alone, and any other without a failure too
+-- how refusals depend on outcomes: one that a device causes occurs only with its outcome, any other also without a failure
 abbrev pub IsOwnOf : Option StoreFault → Type 0
 IsOwnOf None = Unit {0}
 IsOwnOf (Some f) = IsOwn f
@@ -126,7 +126,8 @@ abbrev AreOwn : Checks → Type 0
 AreOwn [] = Unit {0}
 AreOwn (check ∷ checks) = ((check.0 ≡ false) ⊎ IsOwn check.1) × AreOwn checks
 
--- of checks in front the first that holds is the refusal, whatever comes behind; or what comes behind decides
+-- if one of the first checks holds, the first of them is the refusal, independently of the later ones; otherwise the later
+-- ones decide
 abbrev FrontDecides : Checks → Type 0
 FrontDecides front = ((g : StoreFault) × IsOwn g × ((more : Checks) → first_fault (front ++ more) ≡ Some g)) ⊎ ((more : Checks) → first_fault (front ++ more) ≡ first_fault more)
 
@@ -149,7 +150,7 @@ own_first (check ∷ checks) own = by check.0 refl own.0 (own_first checks own.1
     by true e (inr own) rest = own
     by false e own_or rest = rest
 
--- a check of the devices' own that holds, behind others
+-- a device's check that holds, after others
 module _ (f : Outcome → Option StoreFault) (front : Checks) (own : AreOwn front) (plain : (more : Checks) × (f Plain ≡ first_fault (front ++ more))) where
   held_by : (o : Outcome) (fault : StoreFault) → (f o ≡ Some fault → GoesWith f o) → (rest : Checks) → f o ≡ first_fault (front ++ (true, fault) ∷ rest) → GoesWith f o
   held_by o fault goes rest is = by (front_decides front own)

@@ -64,7 +64,7 @@ module _ {X Y : Type 0} (f : X → Y) where
   mapped-from_entries [] = mapped-empty
   mapped-from_entries (e ∷ es) = mapped-insert (from_entries es) e.0 e.1 ∙ ap (λ (m : FinMap nat_cmp Y). insert m e.0 (f e.1)) (mapped-from_entries es)
 
--- one change behind another, in either order
+-- one change after another, in either order
 pub mapped-mapped : {X Y : Type 0} (f : X → Y) (g : ℕ → X → X) (h : ℕ → Y → Y) → ((k : ℕ) (x : X) → f (g k x) ≡ h k (f x))
     → (m : FinMap nat_cmp X) → mapped (λ k x. f x) (mapped g m) ≡ mapped h (mapped (λ k x. f x) m)
 mapped-mapped {X} {Y} f g h same m = same_maps _ _ (λ q.

@@ -1,5 +1,5 @@
--- Which reels are mounted behind each event: none more than before, but for MOUNT. And a call that waits, waits for a reel
--- that isn't mounted.
+-- Which reels are mounted after each event: no more than before, except after MOUNT. And a call that waits, waits for a
+-- reel that isn't mounted.
 use Rattle.std.proofs.Common.{◌≡◌, ◌==◌, ◌⊎◌, ◌&&◌, ℕ, Bool, true, false, not, List, [], ◌∷◌, Option, Some, None, Result, Ok, Err, option_map, is_some, unwrap_or, refl, sym, ◌∙◌, ap, subst, inl, inr, if◌then◌else◌, ◌||◌}
 use Rattle.std.proofs.lemmas.Bool.{false≢true}
 use Rattle.g_plain.proofs.StepAnswers.{own_fault}

@@ -180,7 +180,7 @@ first_one a n b m (inl less) (inr (same, le)) = absurd (let no : ⊥ = omega (ar
 first_one a n b m (inr (same, le)) (inl more) = absurd (let no : ⊥ = omega (arith, more, same) in no)
 first_one a n b m (inr (same, le)) (inr (same2, le2)) = omega (arith, le, le2)
 
--- WHAT IS STORED behind a move: a tree is dumped wherever a reel has a dump
+-- what is stored after a move: a tree is dumped if a reel has a dump
 stored : (s t new : State) → new ≡ t → KeepsDumps s t → KeepsDumps s new
 stored s t new is keeps = subst (λ (x : State). KeepsDumps s x) (sym is) keeps
 

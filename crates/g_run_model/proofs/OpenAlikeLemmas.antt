@@ -1,4 +1,4 @@
--- The opening of a dump, of two states that differ in first blocks of copies alone: the two dumps differ in no more.
+-- The opening of a dump, in two states that differ only in first blocks of copies: the two dumps differ in nothing else.
 use Rattle.std.proofs.Common.{◌≡◌, ◌+◌, ◌-◌, ◌^◌, ◌≤◌, ◌&&◌, ◌||◌, ◌==◌, ◌++◌, ℕ, Bool, true, false, T, cond, not, List, [], ◌∷◌, length, map, flat_map, filter, Option, Some, None, option_map, is_some, is_none, unwrap_or, Result, nat_lt, if◌then◌else◌, refl, sym, ◌∙◌, ap, subst, eqb-true, arith}
 use Rattle.std.proofs.lemmas.List.{map-append}
 use Rattle.std.proofs.lemmas.Bool.{false≢true, ltb-true, ltb-false, and_from}
@@ -196,7 +196,7 @@ owns_bare k m (e ∷ es) =
 own_copies_bare : (k : Holding) (m : FinMap nat_cmp Place) → bare_copies (own_copies k m) ≡ own_copies (bare_holding k) (bare_places m)
 own_copies_bare k m = mapped-from_entries bare_copy (flat_map (own_copy k m) (entries k.tree.files)) ∙ ap (λ (es : List (ℕ × TapeCopy)). let x : FinMap nat_cmp TapeCopy = from_entries es in x) (owns_bare k m (entries k.tree.files))
 
--- THE STATE BEHIND AN OPENING
+-- the state after an opening
 opened_with : State → Holding → ℕ → FinMap nat_cmp Place → ℕ → FinMap nat_cmp ℕ → FinMap nat_cmp TapeCopy → State
 opened_with s k serial m needs waiting own = record s {
   holding = Some (record k { intent = Some (record { serial = serial; place = end_of s serial; number = k.last + 1 }) });

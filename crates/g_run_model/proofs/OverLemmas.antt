@@ -174,7 +174,7 @@ module _ {F U : Type 0} (tariffs : Shared F (Bor Usage × Unit {0}) Charge) (tar
   at_end w new Ticked ends (idle, inr (stepped, none), is) = not_stepped (sym ends.phase ∙ stepped)
   at_end w new Over ends (between, idle, lines, nothing, going, is) = false_true (sym going ∙ ends.over)
 
-  -- a move goes on, or comes to the end
+  -- a move continues the run, or ends it
   pub step_over : (w new : World) (move : Move) → w.over ≡ false → Step tariffs tariff rules rule w move new → (new.over ≡ false) ⊎ IsAtEnd new
   step_over w new (TakeLine tape o) e (next, rest, lines, between, idle, due, is_tape, gives) = inl (line_over o next.what (record w { lines = rest }) new gives ∙ e)
   step_over w new (Dumped o) e (between, idle, undue, dumping, (r, s, step, is)) = inl (over_is w new _ is (dump_over _ r s w) ∙ e)

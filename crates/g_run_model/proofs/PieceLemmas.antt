@@ -15,7 +15,7 @@ use Rattle.g_run_model.specs.Texts.{file_with, files_with, put_as}
 use Rattle.g_run_model.proofs.CrewLemmas.{AreRising, no_job, numbered, one_job}
 use Rattle.g_run_model.proofs.ShareLemmas.{below_none}
 
--- pieces one behind the other
+-- pieces one after another
 pub text_append : (xs ys : List Piece) → text_of_pieces (xs ++ ys) ≡ text_of_pieces xs ++ text_of_pieces ys
 text_append [] ys = refl
 text_append (x ∷ xs) ys = ap (λ (r : List ℕ). piece_text x ++ r) (text_append xs ys) ∙ sym (append_assoc (piece_text x) (text_of_pieces xs) (text_of_pieces ys))

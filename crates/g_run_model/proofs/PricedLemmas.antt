@@ -92,7 +92,7 @@ fit_gone next t idle = record {
   gives = λ n p is job found. no_job job found;
 }
 
--- a job comes
+-- a job is added
 fit_push : (jobs : List JobState) (next : ℕ) (t : Option (ℕ × Asks Work)) (job : JobState) → t ≡ None → job.number ≡ next → IsFit job → AreFit jobs next t → AreFit (jobs ++ job ∷ []) (next + 1) t
 fit_push jobs next t job idle is fit h = record {
   rising = rising_push 0 jobs next job is h.rising;

@@ -21,7 +21,7 @@ use Rattle.g_run_model.proofs.StepLemmas.{tree_held}
 abbrev pub noted : State → Holding → ℕ → Bool → State
 noted s k serial used = record s { reels = with_reel serial (with_used used) s.reels; holding = Some (with_intent s serial k) }
 
--- and the dump stands whole on it
+-- and the dump is complete on it
 abbrev pub marked_only : State → Holding → ℕ → DumpedTree → State
 marked_only s k serial d = record (marked_by s k serial d) { holding = Some (with_intent s serial k) }
 

@@ -47,7 +47,7 @@ use Rattle.g_run_model.proofs.TakenLemmas.{crew_after}
 abbrev At : Type 0
 At = ℕ → List (List ℕ)
 
--- its document has these lines, or no level is left, and what it goes on with has a level
+-- its document has these lines, or no level is left, and what it continues with has a level
 abbrev HasRead : List (List ℕ) → JobState → Type 0
 HasRead lines j = SameOrNone lines j.desk.levels.levels × (is_some j.pending ≡ true → 0 < length j.desk.levels.levels)
 
@@ -79,7 +79,7 @@ reads_gone so jobs next old turn h = record {
 no_terminal : {P : Type 0} (t : ℕ) (o : Option ℕ) → o ≡ None → o ≡ Some t → P
 no_terminal t o none some = absurd (let e : (let one : Option ℕ = Some t in one ≡ None) = sym some ∙ none in let no : ⊥ = cc in no)
 
--- a job comes: it is at no terminal, or its document is empty
+-- a job is added: it is at no terminal, or its document is empty
 reads_push : (so : At) (jobs : List JobState) (next : ℕ) (turn : Option (ℕ × Asks Work)) (job : JobState) → turn ≡ None → job.number ≡ next
     → ((t : ℕ) → job.terminal ≡ Some t → HasRead [] job) → Reads so jobs next turn → Reads so (jobs ++ job ∷ []) (next + 1) turn
 reads_push so jobs next turn job idle is new h = record {
@@ -148,7 +148,7 @@ end_reads lines j w g None (Some charge) = by (is_time_up j charge) (is_money_up
     by false true = (refl, refl, (g.0.1, no_pending w.desk.levels.levels))
     by false false = (refl, refl, (g.0.1, no_pending w.desk.levels.levels))
 
--- whatever a turn made, its end keeps the job's terminal and number
+-- for any result of a turn, its end preserves the job's terminal and number
 seat_kept : (j : JobState) (w : Work) (stop : Option Stop) (charge : Option Charge) → IfSome (end_by stop j w charge) (λ e. (e.1.terminal ≡ j.terminal) × (e.1.number ≡ j.number))
 seat_kept j w (Some (Waits serial)) None = (refl, refl)
 seat_kept j w (Some (Waits serial)) (Some charge) = tt

@@ -1,4 +1,4 @@
--- A turn over a store whose devices tell and belong together, as moves of a run.
+-- A turn on a store whose devices expose their contents and belong together, as moves of a run.
 use Rattle.std.proofs.Common.{◌≡◌, ℕ, false, List, [], map, Some, None, slice_get, Err, refl}
 use Rattle.std.specs.Fn.{Shared}
 use denote.Ref.{Bor}
@@ -31,7 +31,7 @@ use Rattle.g_run_model.proofs.EventToldLemmas.{told_own, OutcomeTold}
 use Rattle.g_run_model.proofs.StoreLemmas.{answer_event, memory_keeps}
 use Rattle.g_run_model.proofs.TurnLemmas.{MayBegin, in_turn, with_turn}
 
--- the store tells, belongs, and stands for the state
+-- the store exposes its contents, belongs together, and represents the state
 pub record StoreIsNow (s : StoreFacts) (t : State) : Type 0 where
   pub told : Told s
   pub belongs : Belongs s

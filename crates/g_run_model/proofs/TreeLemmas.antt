@@ -55,7 +55,7 @@ event_tree (Some Stopped) reply s after r new (err, inl is) = inl (ap tree_in is
 event_tree (Some Stopped) reply s after r new (err, inr is) = inr (ap tree_in is ∙ tree_down after)
 event_tree (Some fault) reply s after r new (err, is) = inl (ap tree_in is)
 
--- an event whose tree behind it is that of before keeps it
+-- an event that leaves the tree unchanged preserves it
 event_keeps : {A : Type 0} (f : Option StoreFault) (reply : A) (s after : State) (r : Result A StoreFault) (new : State) → tree_in after ≡ tree_in s → Event f reply s after r new → tree_in new ≡ tree_in s
 event_keeps f reply s after r new same event = by (event_tree f reply s after r new event)
   where
@@ -86,7 +86,7 @@ restore_tree : (s : State) (f : Option StoreFault) (o : Outcome) (r : Result ℕ
 restore_tree s None o r new step = restores_tree s s.dumped o r new step
 restore_tree s (Some fault) o r new (err, is) = inl (ap tree_in is)
 
--- where the world's store stands behind what is told
+-- the world's store after what is printed
 pub told_up : {R : Type 0} (said : R → List ℕ) (r : Result R StoreFault) (s : State) (w : World) → (tells (λ x t v. up_with (said x) t v) r s w).store ≡ s
 told_up said (Ok x) s w = refl
 told_up said (Err Stopped) s w = refl
@@ -120,7 +120,7 @@ LineLeaves what w new = (tree_in new.store ≡ tree_in w.store) ⊎ (tree_in new
 stays : (w new v : World) → new ≡ v → v.store ≡ w.store → tree_in new.store ≡ tree_in w.store
 stays w new v is same = ap (λ (x : World). tree_in x.store) is ∙ ap tree_in same
 
--- behind a line that asked the store, and left it at s
+-- after a line that called the store, and left it at s
 goes : (w new v : World) (s : State) → new ≡ v → v.store ≡ s → tree_in new.store ≡ tree_in s
 goes w new v s is same = ap (λ (x : World). tree_in x.store) is ∙ ap tree_in same
 
@@ -198,7 +198,7 @@ line_leaves o (line.Login t user time) w new (plain, is) = inl (stays w new _ is
 line_leaves o (line.Typed t text) w new (plain, is) = inl (stays w new _ is (typed_by t (typed_to text) w w.store.up))
 line_leaves o (line.Logout t) w new (plain, is) = inl (stays w new _ is (typed_by t logged_out w w.store.up))
 
--- one of two trees: the first one, where the second is that too; and still one of them behind what leaves the tree
+-- one of two trees: the first one, if it equals the second; and still one of them after a move that leaves the tree
 pub either_first : (t u v : Option Tree) → (u ≡ t) ⊎ (u ≡ v) → v ≡ t → u ≡ t
 either_first t u v (inl e) same = e
 either_first t u v (inr e) same = e ∙ same

@@ -1,4 +1,5 @@
--- A turn's program that was run over a store is a list of moves of the world, and one that was asked of a plain tree.
+-- A turn's program that was run on a store is a list of moves of the world, and so is one that was answered by a plain
+-- tree.
 use Rattle.std.proofs.Common.{◌≡◌, ◌⊎◌, ℕ, false, List, [], ◌∷◌, ◌++◌, Some, subst}
 use Rattle.std.specs.Fn.{Shared}
 use denote.Ref.{Bor}

@@ -8,12 +8,12 @@ use Rattle.g_plain.specs.PlainTree.{Tree, UserRow}
 use Rattle.g_job.specs.State.{JobState}
 use Rattle.g_store_model.specs.State.{State}
 
--- what was spent of TIME and of MONEY
+-- The amounts of TIME and of MONEY that were spent.
 pub record Spent : Type 0 where
   pub time : ℕ
   pub money : ℕ
 
--- a user's accounts since the system came up: their openings, and what each ended job has used
+-- A user's accounts since the system came up: the opening balances, and what each ended job has used.
 pub record Opened : Type 0 where
   pub user : List ℕ
   pub time : ℕ
@@ -35,7 +35,7 @@ opened_of e = record { user = e.0; time = e.1.time; money = e.1.money; ended = [
 abbrev pub has_account : List Opened → List ℕ → Bool
 has_account accounts user = list_any (λ a. same_text a.user user) accounts
 
--- each user who has no account yet gets one, with the budgets of this moment
+-- Each user who has no account yet gets one, with the current budgets.
 abbrev pub with_new : State → List Opened → List Opened
 with_new s accounts = accounts ++ map opened_of (filter (λ e. not (has_account accounts e.0)) (rows_of s))
 
@@ -45,7 +45,7 @@ account_of accounts user = find (λ a. same_text a.user user) accounts
 abbrev pub jobs_of : List ℕ → List JobState → List JobState
 jobs_of user jobs = filter (λ j. same_text j.user user) jobs
 
--- LEFT: the opening, less what the ended jobs have used, less the allowances of the unfinished ones
+-- The balance: the opening balance, less what the ended jobs have used, less the allowances of the unfinished ones.
 abbrev pub time_left : Opened → List JobState → ℕ
 time_left a jobs = a.time - sum_by (λ s. s.time) a.ended - sum_by (λ j. j.allowance) (jobs_of a.user jobs)
 

@@ -1,4 +1,4 @@
--- Reels without a block: which is the first that has one, and that no dump stands on them.
+-- Reels without a block: which is the first that has one, and that they have no dump.
 use Rattle.std.proofs.Common.{◌≡◌, ℕ, zero, suc, ◌+◌, ◌<◌, ◌≤◌, Bool, true, false, List, [], ◌∷◌, ◌++◌, get_or, length, slice_get, take, Option, Some, None, refl, sym, ◌∙◌, ap, arith, subst}
 use Rattle.std.specs.Prelude.{All, find, is_some, map, nat_lt, option_map, if◌then◌else◌}
 use Rattle.std.specs.Option.{ForSome}
@@ -104,7 +104,7 @@ first_row shelf (r ∷ rs) = pick (used r) (first_row shelf rs)
     pick true rest = refl
     pick false rest = rest
 
--- NO DUMP STANDS on a reel without a block
+-- a reel without a block has no dump
 abbrev pub IsBlank : Reel → Type 0
 IsBlank r = ForSome r.blocks (λ blocks. length blocks ≡ 0)
 

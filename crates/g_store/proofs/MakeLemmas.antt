@@ -104,7 +104,7 @@ module _ (o : OnlineFacts) (begun : IsBegun o) where
     stands_up u view is =
         stands (store_of o rack) u refl (record { view = v; is = view; opens = record { is = λ told pins pinned. tt }; state_is = is })
 
--- WHERE DEVICES STAND for the same
+-- when devices represent the same state
 pub moved : (size now : ℕ) (held then_held : Option (List (List ℕ))) (reels : List Reel) (s : state.State) → now ≡ size → then_held ≡ held → DevicesStandFor size held reels s
     → DevicesStandFor now then_held reels s
 moved size now held then_held reels s sizes helds is =
@@ -188,7 +188,7 @@ module _ (disc now : DiscState) (reels : List Reel) (c : Contents) (changes : Ch
         subst (DiscBelongs text shelf reels) (holds_one there.after c x holds (subst (λ (b : List (List ℕ)). Holds b x) (same_Some blocks there.after (sym held ∙ there.is)) holds_x)) on_disc;
   }
 
-  -- which the step leaves, where it would have come up with these
+  -- which the step leaves, if the store would have come up with these
   pub new_down : (v : View) (was : Option Contents) (k : state.Holding) → (let h = holding_of v.text [] c in h ≡ record k { kept = names_of [] })
       → state_down v reels now.size (Some c) ≡ down (coming_up (state_down v reels disc.size was) k)
   new_down v was k held =

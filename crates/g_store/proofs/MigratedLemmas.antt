@@ -47,7 +47,7 @@ use Rattle.g_store_calls.proofs.BehindLemmas.{files_seen, told_then}
 abbrev pub MigratesBy : Path → state.State → state.Holding → Outcome → Result Full StoreFault → state.State → Type 0
 MigratesBy path s k o a n = MigrateStep s k path.user (input_name k.tree [] path) o a n
 
--- WHAT COMES WITH A REFUSAL that changes nothing
+-- what else holds of a refusal that changes nothing
 exact_some : (refusal : Option StoreFault) (t : StoreFacts) (fault : StoreFault) → refusal ≡ Some fault → (let r : Result Full StoreFault = Err fault in IsExact refusal IsOfMigration t r t)
 exact_some refusal t fault is = record {
   refused = subst (λ (o : Option StoreFault). IfSome o (λ f. (let r : Result Full StoreFault = Err fault in r ≡ Err f) × (t ≡ t))) (sym is) (refl, refl);
@@ -97,7 +97,7 @@ module _ (path : Path) (t : StoreFacts) (unspent : t.spent ≡ false) (keeps : I
   abbrev behind : View → state.State
   behind v = target v (stamp_of (k v).tree (n v))
 
-  -- whose refusal is this, whatever the bytes are
+  -- which is refused for this reason, for any bytes
   abbrev RefusesAll : StoreFault → Type 0
   RefusesAll fault = (text : ℕ → List ℕ) (kept : List UserRec)
       → migrate_refuses (holding_of text kept c) path.user (input_name (tree_in text c) [] path) Plain ≡ Some fault

@@ -105,7 +105,7 @@ module _ (files : List File) (f : File) (distinct : AreDistinct files) (there : 
       ∙ ap (option_map (off_by q)) (sym (get_place files q))
       ∙ sym (looked_up q (cases_eq q f.rec.stamp)))
 
--- BYTES on the disc are told where it tells
+-- bytes on the disc are exposed if the disc exposes its contents
 abbrev pub TellsOnline : File → Type 0
 TellsOnline f = f.online ≡ true → is_some f.bytes ≡ true
 

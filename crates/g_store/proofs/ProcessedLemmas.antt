@@ -50,7 +50,7 @@ no_dump : (x : Option DumpFacts) → is_some x ≡ false → x ≡ None
 no_dump None is = refl
 no_dump (Some d) is = absurd (let no : ⊥ = cc in no)
 
--- where none comes no dump is open
+-- if none applies no dump is open
 pub not_open : (serial : ℕ) (s : StoreFacts) → process_refuses serial s ≡ None → s.dump ≡ None
 not_open serial s is =
     no_dump s.dump (none_open (is_none (reel serial s.rack.reels)) (first_unmounted s.rack.reels) (is_some s.dump) (s.online.contents.head.last_dump == 2 ^ 62 - 1) (open_number s.dump) is)

@@ -78,7 +78,7 @@ IsProcess serial s k o answer new = ProcessStep s k serial o answer new
 abbrev serials : List Reel → List ℕ
 serials reels = map (λ (r : Reel). r.serial) reels
 
--- ALL DUMPS of reels go by the serials alone
+-- all dumps of reels depend only on the serials
 all_by_name : (shelf : ℕ → List Dump) (rs : List Reel) → all_dumps shelf rs ≡ flat_map shelf (serials rs)
 all_by_name shelf [] = refl
 all_by_name shelf (r ∷ rs) = ap (λ (ds : List Dump). shelf r.serial ++ ds) (all_by_name shelf rs)
@@ -171,7 +171,7 @@ module _ (serial : ℕ) (t : StoreFacts) (unspent : t.spent ≡ false) where
       by_fault NoMemory e leads = absurd e
       by_fault other e leads = leads
 
--- THE BLOCK BEHIND a reel's dumps
+-- the block after a reel's dumps
 end_some : (d : Dump) (ds : List Dump) → 0 < state.end_of_dumps (map shelved_of (d ∷ ds))
 end_some d [] = omega arith
 end_some d (e ∷ es) = end_some e es
@@ -212,7 +212,7 @@ dumped_one : (text : ℕ → List ℕ) (xs ys : List Dump) (t : DumpedDirectory 
 unfolding dumped_parts
 dumped_one text xs ys t u last gathered = λ i. dumped_parts text (last i) (gathered i)
 
--- THE REELS before it, which tell what they hold
+-- the reels before PROCESS, which expose their contents
 module _ (o : OnlineFacts) (old : Rack) (reels : AreReels old.reels) (told : AllTold o.disc.held (told_reels old)) (shelf : ℕ → List Dump) (shelved_as : AreShelved shelf (told_reels old)) where
   record TellsAt (r : Reel) : Type 0 where
     blocks : List (List ℕ)
@@ -264,7 +264,7 @@ pub there_is : (serial : ℕ) (t : StoreFacts) → process_refuses serial t ≡ 
 there_is serial t granted =
     has_reel (reel serial t.rack.reels) (fault_from RackNotMounted (first_unmounted t.rack.reels)) (is_some t.dump) (open_number t.dump) (t.online.contents.head.last_dump == 2 ^ 62 - 1) granted
 
--- THE STORE, up, over devices that tell and belong together, where nothing refuses it without a read
+-- the store, up, on devices that expose their contents and belong together, if no refusal that needs no read applies
 module _ (serial : ℕ) (o : OnlineFacts) (old : Rack) (reels : AreReels old.reels) (keeps : IsStore (up_with o old None)) (told : Told (up_with o old None)) (was : Belongs (up_with o old None))
     (text : ℕ → List ℕ) (shelf : ℕ → List Dump) (shelved_as : AreShelved shelf (told_reels old)) (up : IsUp text shelf (up_with o old None)) (granted : process_refuses serial (up_with o old None) ≡ None) where
   abbrev before : StoreFacts
@@ -329,7 +329,7 @@ module _ (serial : ℕ) (o : OnlineFacts) (old : Rack) (reels : AreReels old.ree
       by_dumps [] is = absurd (some is)
       by_dumps (d ∷ ds) is = let long = end_some d ds in (let same = end_at n r found (d ∷ ds) is in omega (arith, long, same))
 
-  -- REFUSALS behind the catalogue
+  -- refusals after the catalogue was read
   late_tests : (a b : Bool) (need room : ℕ) → nat_lt 0 (state.end_of s serial) ≡ a → nat_lt (state.capacity_in (state.reel_at serial s.reels)) (process_needs k) ≡ b
       → process_needs k ≡ need → state.capacity_in (state.reel_at serial s.reels) ≡ room → process_refuses_late s k serial ≡ first_fault ((a, ReelNotFree serial) ∷ (b, TapeFull need room) ∷ [])
   late_tests a b need room is_a is_b is_need is_room = λ i. first_fault ((is_a i, ReelNotFree serial) ∷ (is_b i, TapeFull (is_need i) (is_room i)) ∷ [])
@@ -370,7 +370,7 @@ module _ (serial : ℕ) (o : OnlineFacts) (old : Rack) (reels : AreReels old.ree
         state_is = λ i. state_up v (sym same i) o None;
       }))
 
-  -- A STORE behind it, over the same reels
+  -- a store afterwards, on the same reels
   module _ (o' : OnlineFacts) (new : Rack) (labels : AllZip IsLabelled old.reels new.reels) (size : o'.disc.size ≡ o.disc.size) where
     names_new : serials (told_reels new) ≡ serials rs
     names_new = unread_names new.reels ∙ zip_names old.reels new.reels labels ∙ sym (unread_names old.reels)

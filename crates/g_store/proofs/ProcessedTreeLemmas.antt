@@ -190,7 +190,7 @@ process_counts serial o text kept rules long =
     let plan_files = plan_long serial o in
     omega (arith, users, files, sum, all, count, both, none, content, plan_files)
 
--- A DUMP THAT HOLDS ALL, the newest one: what is dumped is what it has, whatever other dumps there are
+-- the newest dump holds everything: the dumped tree is what it holds, for any other dumps
 abbrev all_of : Dump → List FileRec
 all_of d = gathered_by d.users d.files
 
@@ -417,7 +417,7 @@ module _ (serial : ℕ) (o : OnlineFacts) (old : Rack) (live : o.live ≡ true) 
         most_by : (need needed process last : ℕ) → need ≡ needed → needed ≡ process → last ≤ 0 + need - 1 → last ≤ process - 1
         most_by need needed process last a b most = omega (arith, a, b, most)
 
-    -- nobody is kept in it
+    -- it keeps no user
     none_in : (name : List ℕ) → state.is_in forgot.kept name ≡ false
     none_in name = ap (λ (us : List UserRec). state.is_in (names_of us) name) (none_kept c.users (every_user c) (λ u there. holds_there (every_user c) u.number (mapped_there (λ (x : UserRec). x.number) c.users u there)))
         ∙ ap is_some (get-empty text_cmp name)

@@ -47,7 +47,7 @@ module _ (disc : DiscState) (rack after : Rack) (only : OnlyReads rack after) wh
   on_reels : (P : List Reel → Type 0) → P reels → P now_reels
   on_reels P is = subst P (sym only.reels) is
 
-  -- what belongs goes on belonging behind reads
+  -- what belongs together still does after reads
   read_up : (s : StoreFacts) → s.rack ≡ rack → Belongs s → Belongs (record s { rack = after })
   read_up s at was = record {
     devices = subst (λ (k : Rack). Belong s.online.disc.held k → Belong s.online.disc.held after) (sym at) (λ is. on_reels (BelongWith s.online.disc.held) is) was.devices;

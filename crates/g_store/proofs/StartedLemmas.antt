@@ -45,7 +45,7 @@ use Rattle.g_store.proofs.MakeLemmas.{belongs_made, down_again, moved, stands_up
 use Rattle.g_store.proofs.RestoredLemmas.{same_refusal}
 use Rattle.g_store.proofs.StartLemmas as start
 
--- THE COUNTS, over the reads of a load and what came behind them
+-- the counts, after the reads of a load and what followed them
 counted : (read stop late : Type 0) (a b c : DiscState) → (read → ⊥) → (stop → late) → (late → stop) → ReadsByCause ⊥ a b → Causes ⊥ late b c → Causes read stop a c
 counted read stop late a b c never to back one two = record {
   size = two.size ∙ one.size;
@@ -171,7 +171,7 @@ module _ (disc : DiscState) (rack : Rack) (o : OnlineFacts) (loaded : HasLoaded 
   abbrev holds : ForSome disc.held (λ blocks. Holds blocks o.contents)
   holds = loaded.holds
 
-  -- THE STORE THAT COMES UP
+  -- the store that comes up
   module _ (new : OnlineFacts) (begun : IsBegun new) (tied : IsTied new) (size : new.disc.size ≡ disc.size) (told : AllTold disc.held (told_reels rack)) (belong : Belong disc.held rack)
       (on_disc : DiscBelongs belong.text belong.shelf (told_reels rack) new.contents) where
     abbrev there : state.State

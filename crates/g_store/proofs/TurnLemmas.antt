@@ -74,7 +74,7 @@ module _ (s : ℕ) (is : Bool) (old : StoreFacts) where
   abbrev pub after : StoreFacts
   after = record old { rack = changed s (with_mounted is) old.rack }
 
-  -- the state behind it
+  -- the state afterwards
   abbrev behind : View → state.State
   behind v = record (state_up v reels old.online old.dump) { reels = state.with_reel s (dumps.with_mounted is) (state_up v reels old.online old.dump).reels }
 

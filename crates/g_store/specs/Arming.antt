@@ -1,4 +1,4 @@
--- A DEVICE IS ARMED, and nothing changes of what the store means.
+-- A device is armed, and nothing changes in what the store means.
 use Rattle.g_store_model.specs.State.{State}
 use Rattle.g_store_meaning.specs.Answers.{Belongs, Told}
 use Rattle.g_store_meaning.specs.Reading.{StandsForState}

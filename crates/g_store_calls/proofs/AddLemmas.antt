@@ -104,7 +104,7 @@ module _ (users : List UserRec) (files : List FileRec) (u : UserRec) (is : IsRec
         };
       }
 
--- A USER WHO MAY BE MADE: there is room, and nobody has the name
+-- a user who may be created: there is room, and no user has the name
 module _ (users : List UserRec) (files : List FileRec) (next : ℕ) (who user : List ℕ) (space time money : ℕ) (is : IsRecords users files)
     (granted : RefusesAs users files next who (NewUser user space time money) None) where
   abbrev tree : Tree

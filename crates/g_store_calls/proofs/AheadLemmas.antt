@@ -1,5 +1,5 @@
--- Of the state that a store stands for: a view in which no dump is ahead of the disc. Where the devices tell it is the view there is;
--- where they don't, one without a dumped tree has the same names and lengths.
+-- For the state that a store represents, a view in which no dump is newer than the disc. If the devices expose their
+-- contents it is the only view; otherwise one without a dumped tree has the same names and lengths.
 use Rattle.std.proofs.Common.{◌≡◌, ◌≢◌, ℕ, ◌≤◌, true, false, List, [], ◌∷◌, ◌++◌, Option, Some, None, is_some, refl, sym, ◌∙◌, ap, inl, inr, subst, All}
 use Rattle.std.specs.Prelude.{◌⊎◌, ◌==◌, AllPairs, Contains, IfSome, if◌then◌else◌}
 use Rattle.std.specs.Option.{ForSome}
@@ -40,13 +40,13 @@ pub record Ahead (s : StoreFacts) (u : State) : Type 0 where
 pub ahead_stands : (s : StoreFacts) (u : State) → s.spent ≡ false → Ahead s u → StandsForState s u
 ahead_stands s u unspent a = stands s u unspent (record { view = a.view; is = a.is; opens = a.opens; state_is = a.state_is })
 
--- the state that a call meets: the one there is, where the devices tell
+-- the state that a call meets: the only one, if the devices expose their contents
 pub record Before (s : StoreFacts) (u : State) : Type 0 where
   pub before : State
   pub ahead : Ahead s before
   pub told : Told s → before ≡ u
 
--- WHETHER THE DEVICES TELL
+-- whether the devices expose their contents
 reels_told : (reels : List Reel) → ReelsTold reels ⊎ (ReelsTold reels → ⊥)
 reels_told [] = inl (record { each = All-nil (λ (r : Reel). is_some r.blocks ≡ true) })
 reels_told (r ∷ rs) = by_first (cases_Bool (is_some r.blocks)) (reels_told rs)

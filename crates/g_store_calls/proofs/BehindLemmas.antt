@@ -24,7 +24,7 @@ use Rattle.g_laws_store.proofs.FileLemmas.{offline_rec}
 pub told_then : (held now : Option (List (List ℕ))) (reels : List Reel) → is_some now ≡ is_some held → AllTold now reels → AllTold held reels
 told_then held now reels same told = record { disc = sym same ∙ told.disc; each = told.each }
 
--- THE SAME VIEW of another disc that tells as much
+-- the same view of another disc that exposes its contents if and only if the first does
 pub rack_seen : (held now : Option (List (List ℕ))) (reels : List Reel) (v : View) → is_some now ≡ is_some held → IsRackView held reels v → IsRackView now reels v
 rack_seen held now reels v same right = record {
   shelved = right.shelved;
@@ -40,7 +40,7 @@ files_seen held now reels v c same right = record {
       let is = right.files i d within in record { len = is.len; bytes = is.bytes; tape = λ told. is.tape (told_then held now reels same told) };
 }
 
--- FILES THAT ARE TAKEN OFF have their texts on tape, where the devices tell and belong together
+-- files that are taken off have their texts on tape, if the devices expose their contents and belong together
 unfoldable pub off : Bool → File → File
 off b g = if b then record g { online = false; bytes = None } else g
 

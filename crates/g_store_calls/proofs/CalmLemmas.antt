@@ -1,4 +1,4 @@
--- An answer that changes nothing, whatever store the filestore is in.
+-- An answer that changes nothing, for any store that the filestore belongs to.
 use Rattle.std.proofs.Common.{◌≡◌, ℕ, Bool, true, false, List, [], ◌∷◌, length, Option, Some, None, Result, Ok, Err, refl, sym, ◌∙◌, ap, arith, inl, subst, All}
 use Rattle.std.specs.Prelude.{◌&&◌, not, if◌then◌else◌, OnOk, is_some, unwrap_or}
 use Rattle.std.proofs.lemmas.Bool.{false≢true}

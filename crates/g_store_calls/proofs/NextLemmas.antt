@@ -30,8 +30,7 @@ use Rattle.g_laws_store.proofs.RecordLemmas.{apart_in, from_filter, pairs_append
 use Rattle.g_migrate.proofs.MigrationLemmas.{rules_here}
 use Rattle.g_store_calls.specs.Versions.{IsNext}
 
--- PAIRS of a list behind another
--- what passes a filter
+-- pairs of a list and its suffix that pass a filter
 passed : {A : Type 0} (p : A → Bool) (xs : List A) (x : A) → Contains (filter p xs) x → p x ≡ true
 passed p xs x there = All-contains (λ y. p y ≡ true) (filter p xs) x (filter_passes p xs) there
 
@@ -256,7 +255,7 @@ next_made o live tied early len short files number file copied stamp same it cop
     subst (λ (r : FileRec). IsVersionOf o full r) (λ i. next_rec (sym copy i) (sym at i) len)
     (next_version o (rules_here o live tied) early len short file there full called)
 
--- what is asked of the record where it is put in
+-- what is required of the record that is inserted
 pub is_next : (o : OnlineFacts) (bytes : List ℕ) (full : Full) (r : FileRec) (len : ℕ) → IsVersionOf o full r → o.contents.head.next_stamp < 2 ^ 62 → r.len ≡ len → len ≡ length bytes → IsNext o bytes r
 is_next o bytes full r len version early is long = record { stamp = version.stamp; early = early; tape = version.tape; len = is ∙ long; rules = version.rules }
 

@@ -1,4 +1,4 @@
--- What is told of records.
+-- What is reported of records.
 use Rattle.std.proofs.Common.{◌≡◌, ℕ, Bool, true, false, List, [], ◌∷◌, length, map, filter, Option, Some, None, Result, Ok, Err, is_some, unwrap_or, refl, sym, ◌∙◌, ap, arith, inl, inr, subst, ◌<◌, ◌≤◌, All}
 use Rattle.std.specs.Prelude.{◌||◌, Contains, IfOk, IfSome, if◌then◌else◌, not, ◌⊎◌, nat_le, nat_lt}
 use Rattle.std.specs.FinMap.{entries, get, get-from_entries}

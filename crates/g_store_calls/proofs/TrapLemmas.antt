@@ -41,7 +41,7 @@ use Rattle.g_store_model.specs.State.{Holding, State}
 use Rattle.g_store_model.specs.CallStep.{is_offline, need, writes}
 use Rattle.g_store_calls.proofs.KindLemmas.{RepliesAs}
 
--- WHO STANDS IN THE TRAPS behind a change: who stood there, and the user
+-- which users are in the traps after a change: those who were there, and this user
 abbrev Pairs : Type 0
 Pairs = List (ℕ × ℕ)
 
@@ -66,7 +66,7 @@ all_with P t owner user modes other mine all = by_owner (user == owner) mine
     by_owner true has = all
     by_owner false has = by_empty (modes == 0) (has refl)
 
--- nobody of them is the owner, by a test and one by one
+-- none of them is the owner, by a test and one by one
 lacks_each : (owner : ℕ) (es : Pairs) → lacks owner es ≡ true → All (λ pair. not (pair.0 == owner) ≡ true) es
 lacks_each owner [] is = All-nil (λ pair. not (pair.0 == owner) ≡ true)
 lacks_each owner (e ∷ es) is = All-cons (λ pair. not (pair.0 == owner) ≡ true) e es (grind (arith, nat_tests)) (lacks_each owner es (grind (arith, nat_tests)))

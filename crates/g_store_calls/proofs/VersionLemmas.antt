@@ -1,5 +1,5 @@
--- A call that makes a new version, by one commit or two, whatever the call: the state behind it, what was written, and that disc and rack go
--- on belonging together.
+-- A call that creates a new version, by one commit or two, for any such call: the state afterwards, what was written, and
+-- that disc and rack still belong together.
 use Rattle.std.proofs.Common.{◌≡◌, ℕ, ◌<◌, ◌≤◌, ◌+◌, Bool, true, false, List, [], ◌∷◌, get_or, length, map, Option, Some, None, Ok, Err, is_some, refl, sym, ◌∙◌, ap, arith, inl, inr, subst, true≢false, All}
 use Rattle.std.specs.Prelude.{◌⊎◌, ◌||◌, ◌&&◌, Contains, IfSome, if◌then◌else◌, nat_lt, not}
 use Rattle.std.specs.Option.{option_map}
@@ -68,7 +68,7 @@ use Rattle.g_store_calls.proofs.RoomSteps.{step_full, step_roomy, step_stopped}
 use Rattle.g_store_calls.proofs.SeenLemmas.{stands}
 use Rattle.g_store_calls.proofs.RecordLemmas.{devices_hold}
 
--- WHAT A VIEW SAYS OF THE CALL: the plain step grants it, it needs so many blocks, and waits for no reel
+-- what a view says of the call: the plain step grants it, it needs this many blocks, and waits for no reel
 pub record IsMet (v : View) (reels : List Reel) (o : OnlineFacts) (dump : Option DumpFacts) (who : List ℕ) (call : StoreCall) (blocks : ℕ) : Type 0 where
   pub granted : fault_of (held_in v o).tree who call ≡ None
   pub needs : need (state_up v reels o dump) (held_in v o) who call ≡ blocks
@@ -415,7 +415,7 @@ module _ (s : StoreFacts) (new : OnlineFacts) (full : Full) (bytes : List ℕ) (
           some_of None is = absurd (false≢true is)
           some_of (Some y) is = (y, refl)
 
-  -- WHICHEVER OF THE THREE the disc holds, it belongs
+  -- whichever of the three contents the disc holds, it belongs to the rack
   module _ (stopped : HasStopped (PutFile r bytes take) s.online new) where
     belong_by : (text : ℕ → List ℕ) (shelf : ℕ → List Dump) (blocks : List (List ℕ)) (x : Contents) → AreShelved shelf reels → RackBelongs text (all_dumps shelf reels) → new.disc.held ≡ Some blocks
         → Holds blocks x → DiscBelongs text shelf reels x → BelongWith new.disc.held reels
