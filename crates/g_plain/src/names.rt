@@ -45,7 +45,7 @@ fn owner_of(who: &User, path: &Path) -> User
 }
 
 /// The full name with another local name.
-pub(crate) fn with_local(full: &Full, local: &Local) -> Full
+pub fn with_local(full: &Full, local: &Local) -> Full
     ensures { result ≡ record full.now { local = local.now } }
 {
     Full {
@@ -57,7 +57,7 @@ pub(crate) fn with_local(full: &Full, local: &Local) -> Full
 }
 
 /// What a call brings in are names and sets of modes: their types say so, which this makes known.
-pub(crate) fn call_is_named(call: &StoreCall)
+pub fn call_is_named(call: &StoreCall)
     ensures { IsNamed call.now }
 {
     match call {

@@ -8,7 +8,8 @@ use g_budget::{Charge, Tariff, Usage};
 use g_job::{Job, NewJob, Turn};
 use g_lines::Document;
 use g_name::{Local, User};
-use g_plain::{Filestore, PlainStore};
+use g_plain::Filestore;
+use g_plain_store::PlainStore;
 use std::alloc::Global;
 
 /// Takes turns until the job ends.
