@@ -3,9 +3,9 @@ use Rattle.std.proofs.Common.{◌≡◌, ℕ, ◌+◌, ◌<◌, ◌≤◌, ◌�
 use Rattle.std.proofs.lemmas.Option.{slice_get_within}
 use Rattle.std.specs.Fn.{Shared, FnReturnsAt}
 use denote.Ref.{Bor}
-use Rattle.g_sched.specs.declared.rule.Standing.{Standing}
-use Rattle.g_sched.specs.declared.choice.Candidate.{Candidate}
-use Rattle.g_sched.specs.Choice.{IsChosen, IsNoLater}
+use Rattle.g_rules.specs.declared.rule.Standing.{Standing}
+use Rattle.g_rules.specs.declared.choice.Candidate.{Candidate}
+use Rattle.g_rules.specs.Choice.{IsChosen, IsNoLater}
 
 IsNoLater-trans : (weight number weight' number' weight'' number'' : ℕ) → IsNoLater weight number weight' number' → IsNoLater weight' number' weight'' number'' → IsNoLater weight number weight'' number''
 IsNoLater-trans w n w' n' w'' n'' (inl a) (inl b) = inl (omega arith)

@@ -1,5 +1,5 @@
 //! A turn's usage, its charge, and the tariff that gives the one for the other: the caller's closure.
-ghost use Rattle.g_budget.specs.Tariff.{IsTariff, IsUsage, IsCharge};
+ghost use Rattle.g_rules.specs.Tariff.{IsTariff, IsUsage, IsCharge};
 ghost use Rattle.std.specs.Fn.{FnReturnsAt};
 ghost use Rattle.std.specs.Prelude.{◌≡◌};
 

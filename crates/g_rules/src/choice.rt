@@ -1,6 +1,6 @@
 //! The choice itself: one pass over the standings, that keeps the first of the least.
-ghost use Rattle.g_sched.specs.Choice.{IsChosen, IsNoLater};
-ghost use Rattle.g_sched.specs.Rule.{IsWeighRule, IsInRange};
+ghost use Rattle.g_rules.specs.Choice.{IsChosen, IsNoLater};
+ghost use Rattle.g_rules.specs.Rule.{IsWeighRule, IsInRange};
 ghost use Rattle.std.specs.Prelude.{◌≡◌, ◌⊎◌, ◌<◌, ◌≤◌, ◌↔◌, All, [], IfSome, IsNone, IsTrue, Some, false};
 
 use crate::rule::{Standing, WeighRule};

@@ -1,5 +1,5 @@
 //! Where a job stands, and the rule that weighs it: a closure of the caller's.
-ghost use Rattle.g_sched.specs.Rule.{IsWeighRule, IsInRange};
+ghost use Rattle.g_rules.specs.Rule.{IsWeighRule, IsInRange};
 ghost use Rattle.std.specs.Fn.{FnReturnsAt};
 ghost use Rattle.std.specs.Prelude.{◌≡◌, ◌≤◌, ◌^◌};
 

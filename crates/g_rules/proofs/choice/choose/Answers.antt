@@ -2,8 +2,8 @@
 use Rattle.std.proofs.Common.{arith}
 use Rattle.std.proofs.lemmas.Option.{slice_get-get_or}
 use Rattle.std.proofs.lemmas.Grind.{common_steps}
-use Rattle.g_sched.proofs.Least.{IsLeast-more, IsChosen-from_least}
-use Rattle.g_sched.proofs.choice.choose.Goals as goal
+use Rattle.g_rules.proofs.Least.{IsLeast-more, IsChosen-from_least}
+use Rattle.g_rules.proofs.choice.choose.Goals as goal
 
 pub loop-place-preserved : goal.loop-place-preserved
 loop-place-preserved g c =
