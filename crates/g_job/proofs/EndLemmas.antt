@@ -2,8 +2,8 @@
 use Rattle.std.proofs.Common.{◌≡◌, ◌+◌, ◌-◌, ◌<◌, ◌≤◌, min, Bool, true, false, not, Option, Some, None, IfSome, is_some, inl, inr, refl, sym, subst, arith}
 use Rattle.std.proofs.Math.Nat.{le-min}
 use Rattle.std.proofs.lemmas.Bool.{leb-false, leb-true, ltb-false, ltb-true}
-use Rattle.g_budget.specs.Tariff.{IsCharge}
-use Rattle.g_budget.specs.declared.tariff.Charge.{Charge}
+use Rattle.g_rules.specs.Tariff.{IsCharge}
+use Rattle.g_rules.specs.declared.tariff.Charge.{Charge}
 use Rattle.g_job.specs.TurnEnd.{behind_turn, charged, end_by, is_free, is_money_up, is_time_up, money_left, money_of, turn_end, turn_of, units_left, units_of, up_line}
 use Rattle.g_job.specs.Rules.{IsJob}
 use Rattle.g_job.specs.Spending.{ComesTo, EndsFor, Spends}

@@ -3,8 +3,8 @@ use Rattle.std.proofs.Common.{◌≡◌, ℕ, ◌+◌, ◌-◌, ◌<◌, ◌≤�
 use Rattle.std.proofs.Math.Nat.{le-min, min-le_right}
 use Rattle.std.proofs.lemmas.Bool.{leb-false, true≢false}
 use Rattle.std.proofs.lemmas.Fmt.{length-decimal-le}
-use Rattle.g_budget.specs.Tariff.{IsCharge}
-use Rattle.g_budget.specs.declared.tariff.Charge.{Charge}
+use Rattle.g_rules.specs.Tariff.{IsCharge}
+use Rattle.g_rules.specs.declared.tariff.Charge.{Charge}
 use Rattle.g_job.specs.Beginning.{room_of}
 use Rattle.g_turn.specs.Bounds.{HasMore, IsWithin}
 use Rattle.g_job.specs.TurnEnd.{behind_turn, broken, charged, end_by, is_money_up, is_time_up, money_left, money_of, turn_end, units_left, units_of, up_line, waited}

@@ -7,8 +7,8 @@ use Rattle.g_turn.proofs.WellThen.{well_gives}
 use Rattle.g_turn.specs.Bounds.{AlwaysGives}
 use Rattle.g_turn.specs.State.{Broken, Done, Full, Stop, Waits, Work}
 use Rattle.g_turn.specs.Steps.{RanWell}
-use Rattle.g_budget.specs.declared.tariff.Charge.{Charge}
-use Rattle.g_budget.specs.declared.tariff.Usage.{Usage}
+use Rattle.g_rules.specs.declared.tariff.Charge.{Charge}
+use Rattle.g_rules.specs.declared.tariff.Usage.{Usage}
 use Rattle.g_job.specs.Beginning.{begin, room_of}
 use Rattle.g_job.specs.TurnEnd.{IsTurn, behind_turn, charged, end_by, last_line}
 use Rattle.g_job.specs.Rules.{IsJob}

@@ -4,9 +4,9 @@ use Rattle.std.proofs.lemmas.Bool.{false≢true}
 use Rattle.std.specs.Fn.{Shared}
 use denote.Ref.{Bor}
 use Rattle.g_base.specs.declared.memory.NoMemory.{NoMemory}
-use Rattle.g_budget.specs.Tariff.{IsCharge, IsTariff, IsUsage}
-use Rattle.g_budget.specs.declared.tariff.Charge.{Charge}
-use Rattle.g_budget.specs.declared.tariff.Usage.{Usage}
+use Rattle.g_rules.specs.Tariff.{IsCharge, IsTariff, IsUsage}
+use Rattle.g_rules.specs.declared.tariff.Charge.{Charge}
+use Rattle.g_rules.specs.declared.tariff.Usage.{Usage}
 use Rattle.g_job.specs.Beginning.{begin, room_of}
 use Rattle.g_turn.specs.Bounds.{IsKeptWithin, IsWithin}
 use Rattle.g_turn.specs.Causes.{CauseOf, last_answer}

@@ -7,7 +7,7 @@ use Rattle.g_macro.specs.Levels.{begun}
 use Rattle.g_macro.specs.declared.outcome.EventNote.TheVariants as note
 use Rattle.g_monitor.specs.JobLines.{header}
 use Rattle.g_peri.specs.JobUnits.{vacant}
-use Rattle.g_sched.specs.declared.rule.Standing.{Standing}
+use Rattle.g_rules.specs.declared.rule.Standing.{Standing}
 
 -- The desk of a job at its beginning: only its document, no program, no unit assigned, and no error yet.
 abbrev pub desk_begun : List (List ℕ) → Desk

@@ -1,6 +1,6 @@
 -- What a turn takes from the allowance, whether the job continues, and why it ends.
 use Rattle.std.specs.Prelude.{None, Option, Some, false, true, ◌+◌, ◌<◌, ◌≡◌, ◌≤◌, ◌⊎◌}
-use Rattle.g_budget.specs.declared.tariff.Charge.{Charge}
+use Rattle.g_rules.specs.declared.tariff.Charge.{Charge}
 use Rattle.g_job.specs.Beginning.{standing_of}
 use Rattle.g_job.specs.TurnEnd.{money_left, units_left}
 use Rattle.g_turn.specs.State.{Broken, Done, Full, Stop, Waits, Work}

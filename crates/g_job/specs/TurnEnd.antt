@@ -2,8 +2,8 @@
 use Rattle.std.specs.Prelude.{Bool, List, None, Option, Some, false, min, nat_le, nat_lt, true, ℕ, ◌++◌, ◌+◌, ◌-◌, ◌≡◌}
 use Rattle.std.specs.Fn.{FnReturnsAt, Shared}
 use denote.Ref.{Bor}
-use Rattle.g_budget.specs.declared.tariff.Charge.{Charge}
-use Rattle.g_budget.specs.declared.tariff.Usage.{Usage}
+use Rattle.g_rules.specs.declared.tariff.Charge.{Charge}
+use Rattle.g_rules.specs.declared.tariff.Usage.{Usage}
 use Rattle.g_turn.specs.State.{Broken, Full, Stop, Waits, Work}
 use Rattle.g_job.specs.State.{JobState}
 use Rattle.g_job.specs.declared.turn.Turn.{Turn}

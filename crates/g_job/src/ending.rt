@@ -1,6 +1,6 @@
 //! The end of a turn: its charge, its last line, and the job afterwards.
 ghost use Rattle.std.specs.Prelude.{◌≡◌, ◌+◌, ◌++◌, min, None, Some, false, option_map, true, IfOk, OnErr, OnOk};
-ghost use Rattle.g_budget.specs.Tariff.{IsTariff};
+ghost use Rattle.g_rules.specs.Tariff.{IsTariff};
 ghost use Rattle.g_job.specs.Beginning.{room_of};
 ghost use Rattle.g_turn.specs.Bounds.{IsWithin};
 ghost use Rattle.g_job.specs.TurnEnd as ends;
@@ -16,9 +16,9 @@ ghost use Rattle.g_monitor.specs.JobLines.{job_line};
 use crate::Turn;
 use crate::parts::Parts;
 use g_base::NoMemory;
-use g_budget::{Charge, Tariff, Usage};
 use g_monitor::JobLine;
 use g_name::Text;
+use g_rules::{Charge, Tariff, Usage};
 use g_turn::{Stop, Work};
 use std::alloc::Global;
 

@@ -1,6 +1,6 @@
 //! A job between its turns.
 ghost use Rattle.std.specs.Prelude.{◌≡◌, ◌≤◌, ◌↔◌, ℕ, [], List, Ok, false, true, IfOk, OnErr, length};
-ghost use Rattle.g_budget.specs.Tariff.{IsTariff};
+ghost use Rattle.g_rules.specs.Tariff.{IsTariff};
 ghost use Rattle.g_job.specs.Beginning.{job_begun, room_of, standing_of};
 ghost use Rattle.g_turn.specs.Bounds.{IsWithin};
 ghost use Rattle.g_turn.specs.Causes.{CauseOf, last_answer};
@@ -13,19 +13,18 @@ ghost use Rattle.g_lines.specs.Lines.{ended};
 ghost use Rattle.g_monitor.specs.JobLines.{header};
 ghost use Rattle.g_plain.specs.Programs.{Answer, RanInPart};
 ghost use Rattle.g_plain.specs.Runs.{RanBy};
-ghost use Rattle.g_sched.specs.Rule.{IsInRange};
+ghost use Rattle.g_rules.specs.Rule.{IsInRange};
 
 use crate::new_job::NewJob;
 use crate::parts::Parts;
 use crate::turn::Turn;
 use g_base::NoMemory;
-use g_budget::{Charge, Tariff, Usage};
 use g_macro::Levels;
 use g_monitor::push_header;
 use g_name::{Local, Text, User};
 use g_peri::Units;
 use g_plain::Filestore;
-use g_sched::Standing;
+use g_rules::{Charge, Standing, Tariff, Usage};
 use g_turn::Work;
 use std::alloc::Global;
 use std::marker::Model;

@@ -1,7 +1,7 @@
 //! Laws of turns. They do nothing; their clauses hold for the program of every turn, and for every end.
 ghost use Rattle.std.specs.Prelude.{◌≡◌, ◌≤◌, ℕ, List, length, Option, None, Some, IfSome, is_some, not, true, false, ◌↔◌};
-ghost use Rattle.g_budget.specs.Tariff.{IsCharge};
-ghost use Rattle.g_budget.specs.declared.tariff.Charge.{Charge};
+ghost use Rattle.g_rules.specs.Tariff.{IsCharge};
+ghost use Rattle.g_rules.specs.declared.tariff.Charge.{Charge};
 ghost use Rattle.g_job.specs.Beginning.{room_of};
 ghost use Rattle.g_turn.specs.Bounds.{AlwaysGives, IsWithin};
 ghost use Rattle.g_turn.specs.Causes.{CauseOf, IsHonest, last_answer};

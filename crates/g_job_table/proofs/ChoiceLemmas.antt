@@ -7,10 +7,10 @@ use Rattle.std.proofs.lemmas.Bool.{cond_both}
 use Rattle.std.proofs.lemmas.List.{length-map, length_push, take_all}
 use Rattle.std.proofs.lemmas.List.Elements.{filter_more}
 use Rattle.std.proofs.lemmas.Option.{none-some, same_Some, slice_get-map, slice_get_read}
-use Rattle.g_sched.specs.declared.choice.Candidate.{Candidate}
-use Rattle.g_sched.specs.declared.rule.Standing.{Standing}
-use Rattle.g_sched.specs.Choice.{IsNoLater}
-use Rattle.g_sched.proofs.Least.{IsBestOf, IsChosen-from_least, IsLeast-more}
+use Rattle.g_rules.specs.declared.choice.Candidate.{Candidate}
+use Rattle.g_rules.specs.declared.rule.Standing.{Standing}
+use Rattle.g_rules.specs.Choice.{IsNoLater}
+use Rattle.g_rules.proofs.Least.{IsBestOf, IsChosen-from_least, IsLeast-more}
 use Rattle.g_job.specs.Beginning.{standing_of}
 use Rattle.g_job.specs.State.{JobState}
 use Rattle.g_store_model.specs.State.{State}

@@ -5,7 +5,7 @@ use denote.Ref.{Bor}
 use Rattle.std.proofs.lemmas.Bool.{cases_lt, eqb-false}
 use Rattle.std.proofs.lemmas.List.{length_push}
 use Rattle.std.proofs.lemmas.Option.{none-some, same_Some, slice_get_read, slice_get_within}
-use Rattle.g_sched.specs.declared.rule.Standing.{Standing}
+use Rattle.g_rules.specs.declared.rule.Standing.{Standing}
 use Rattle.g_job.specs.Beginning.{standing_of}
 use Rattle.g_job.specs.State.{JobState}
 use Rattle.g_job_table.specs.Numbers.{Rise, job_in}

@@ -2,9 +2,9 @@
 use Rattle.std.specs.Prelude.{◌≡◌, ℕ, Bool, true, List, map, filter, Option, Some, None, MatchOption, slice_get}
 use Rattle.std.specs.Fn.{Shared}
 use denote.Ref.{Bor}
-use Rattle.g_sched.specs.declared.choice.Candidate.{Candidate}
-use Rattle.g_sched.specs.declared.rule.Standing.{Standing}
-use Rattle.g_sched.specs.Choice.{IsChosen}
+use Rattle.g_rules.specs.declared.choice.Candidate.{Candidate}
+use Rattle.g_rules.specs.declared.rule.Standing.{Standing}
+use Rattle.g_rules.specs.Choice.{IsChosen}
 use Rattle.g_job.specs.Beginning.{standing_of}
 use Rattle.g_job.specs.State.{JobState}
 use Rattle.g_store_model.specs.State.{State, is_mounted}

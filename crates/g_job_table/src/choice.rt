@@ -3,15 +3,15 @@ ghost use Rattle.std.specs.Prelude.{◌≡◌, ◌⊎◌, ◌≤◌, ℕ, IfSome
 ghost use Rattle.g_job_table.specs.Choice.{IsFirst, TellsMounted, able_in};
 ghost use Rattle.g_job_table.specs.Numbers.{Rise};
 ghost use Rattle.g_job_table.specs.Weights.{AreOthers, AreWeights};
-ghost use Rattle.g_sched.specs.Choice.{IsNoLater};
-ghost use Rattle.g_sched.specs.Rule.{IsWeighRule};
+ghost use Rattle.g_rules.specs.Choice.{IsNoLater};
+ghost use Rattle.g_rules.specs.Rule.{IsWeighRule};
 ghost use Rattle.g_store_model.specs.State.{State};
 ghost use Rattle.g_run_model.specs.World.{can_step, has_none, has_reel};
 
 use crate::place::place_of;
 use crate::weights::Weights;
 use g_job::Job;
-use g_sched::{Candidate, Standing, WeighRule};
+use g_rules::{Candidate, Standing, WeighRule};
 
 /// The maximum number of jobs at a time.
 pub(crate) const MOST_JOBS: usize = 64;

@@ -1,7 +1,7 @@
 //! The crew.
 ghost use Rattle.std.specs.Prelude.{◌≡◌, ◌↔◌, ◌+◌, ◌<◌, ◌≤◌, ◌≢◌, ◌++◌, ℕ, [], ◌∷◌, Bool, true, false, not, List, Ok, Err, None, Some, IfOk, IfSome, OnErr, OnOk, length, slice_index_or};
 ghost use Rattle.std.specs.List.{remove};
-ghost use Rattle.g_budget.specs.Tariff.{IsTariff};
+ghost use Rattle.g_rules.specs.Tariff.{IsTariff};
 ghost use Rattle.g_job_table.specs.Accounts.{AreKept, HaveAccounts, HaveRows, KeepAccounts};
 ghost use Rattle.g_job_table.specs.Choice.{Chooses, TellsMounted, able_in};
 ghost use Rattle.g_job_table.specs.Numbers.{AreJobs, AreOpen, job_in};
@@ -13,7 +13,7 @@ ghost use Rattle.g_job.specs.Spending.{ToldAsBefore};
 ghost use Rattle.g_job.specs.State.{JobState};
 ghost use Rattle.g_job.specs.Turns.{turn_work};
 ghost use Rattle.g_plain.specs.Programs.{RanInPart};
-ghost use Rattle.g_sched.specs.Rule.{IsWeighRule};
+ghost use Rattle.g_rules.specs.Rule.{IsWeighRule};
 ghost use Rattle.g_store_model.specs.State.{State};
 ghost use Rattle.g_run_model.specs.Accounts.{Opened, rows_of, settled, with_new};
 ghost use Rattle.g_run_model.specs.World.{has_none, with_job, without_job};
@@ -26,11 +26,10 @@ use crate::taken::Taken;
 use crate::taking::{NotTaken, refusal};
 use crate::weights::Weights;
 use g_base::NoMemory;
-use g_budget::{Charge, Tariff, Usage};
 use g_entry::UserRec;
 use g_job::{Job, NewJob, Turn};
 use g_plain::Filestore;
-use g_sched::{Standing, WeighRule};
+use g_rules::{Charge, Standing, Tariff, Usage, WeighRule};
 use std::alloc::Global;
 use std::marker::Model;
 

@@ -5,8 +5,8 @@ use Rattle.std.specs.Fn.{FnReturnsAt, Shared}
 use denote.Ref.{Bor}
 use Rattle.g_job.specs.Beginning.{standing_of}
 use Rattle.g_job.specs.State.{JobState}
-use Rattle.g_sched.specs.Choice.{IsChosen, IsNoLater}
-use Rattle.g_sched.specs.declared.rule.Standing.{Standing}
+use Rattle.g_rules.specs.Choice.{IsChosen, IsNoLater}
+use Rattle.g_rules.specs.declared.rule.Standing.{Standing}
 use Rattle.g_run_model.proofs.CrewLemmas.{numbered}
 
 no_standing : {P : Type 0} (x : Standing) → (let none : Option Standing = None in none ≡ Some x) → P

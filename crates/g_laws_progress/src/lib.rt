@@ -3,8 +3,7 @@
 
 ghost use Rattle.g_laws_progress.specs.Progress.{RunsGoOn};
 
-use g_budget::{Charge, Usage};
-use g_sched::Standing;
+use g_rules::{Charge, Standing, Usage};
 
 /// A run that isn't over goes on: there is a move that may come next, whatever came before, where the tariff answers for every usage
 /// and the weigh rule for every standing. So a run is never stuck before its end.

@@ -8,8 +8,8 @@ use Rattle.std.specs.Prelude.{false}
 use Rattle.std.specs.Fn.{Shared}
 use denote.Ref.{Bor}
 use Rattle.g_turn.specs.State.{Work}
-use Rattle.g_budget.specs.declared.tariff.Charge.{Charge}
-use Rattle.g_budget.specs.declared.tariff.Usage.{Usage}
+use Rattle.g_rules.specs.declared.tariff.Charge.{Charge}
+use Rattle.g_rules.specs.declared.tariff.Usage.{Usage}
 use Rattle.g_job.specs.TurnEnd.{IsPriced, turn_end}
 use Rattle.g_job.specs.State.{JobState}
 use Rattle.g_job.specs.Turns.{turn_work}
@@ -17,7 +17,7 @@ use Rattle.g_job.specs.declared.turn.Turn.{Turn}
 use Rattle.g_plain.specs.Programs.{Asks, Call, Gives}
 use Rattle.g_plain.specs.PlainTree.{Tree}
 use Rattle.g_plain.specs.PlainAnswers.{PlainOrDevice, RanPlainly}
-use Rattle.g_sched.specs.declared.rule.Standing.{Standing}
+use Rattle.g_rules.specs.declared.rule.Standing.{Standing}
 use Rattle.g_store_model.specs.CallStep.{Outcome}
 use Rattle.g_store_model.specs.Laws.{AnswersPlainly, RefusalsKeep, StopsLeave}
 use Rattle.g_store_model.specs.State.{State}

@@ -2,9 +2,9 @@
 use Rattle.std.specs.Prelude.{◌≡◌, ◌≢◌, ◌⊎◌, ℕ, Bool, true, false, List, [], ◌∷◌}
 use Rattle.std.specs.Fn.{Shared}
 use denote.Ref.{Bor}
-use Rattle.g_budget.specs.declared.tariff.Charge.{Charge}
-use Rattle.g_budget.specs.declared.tariff.Usage.{Usage}
-use Rattle.g_sched.specs.declared.rule.Standing.{Standing}
+use Rattle.g_rules.specs.declared.tariff.Charge.{Charge}
+use Rattle.g_rules.specs.declared.tariff.Usage.{Usage}
+use Rattle.g_rules.specs.declared.rule.Standing.{Standing}
 use Rattle.g_store_model.specs.CallStep.{Outcome, Cut}
 use Rattle.g_run_model.specs.Accounts.{tree_of}
 use Rattle.g_run_model.specs.Laws.{LeavesTree, tree_behind}

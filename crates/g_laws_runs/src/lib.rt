@@ -17,10 +17,9 @@ ghost use Rattle.g_laws_runs.specs.RefusedLines.{RefusedLinesLeave, StartStillHa
 ghost use Rattle.g_laws_runs.specs.Turns.{TurnsPrintPlainly};
 ghost use Rattle.g_laws_runs.specs.FaultlessRuns.{UnrisenIsPlain, UnrisenTextIsOne};
 
-use g_budget::{Charge, Usage};
 use g_laws_store::some_state;
+use g_rules::{Charge, Standing, Usage};
 use g_run_model::{dumps_come_to_an_end, text_is_one};
-use g_sched::Standing;
 use g_store_meaning::one_state;
 use g_store_model::{process_keeps_all, step_is_plain};
 

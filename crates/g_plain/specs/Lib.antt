@@ -4,7 +4,6 @@ pub mod Codes
 pub mod Faults
 pub mod Grants
 pub mod PlainAnswers
-pub mod PlainHolding
 pub mod PlainStep
 pub mod PlainTree
 pub mod Runs

@@ -44,7 +44,7 @@ fn owner_of(who: &User, path: &Path) -> User
 }
 
 /// The full name, with another local name.
-pub(crate) fn with_local(full: &Full, local: &Local) -> Full
+pub fn with_local(full: &Full, local: &Local) -> Full
     ensures { result ≡ record full.now { local = local.now } }
 {
     Full {
@@ -56,7 +56,7 @@ pub(crate) fn with_local(full: &Full, local: &Local) -> Full
 }
 
 /// The names and modes in a call are valid by their types. This call exists so that its contract states it.
-pub(crate) fn call_is_named(call: &StoreCall)
+pub fn call_is_named(call: &StoreCall)
     ensures { IsNamed call.now }
 {
     match call {

@@ -9,8 +9,8 @@ use Rattle.std.specs.Fmt.{decimal}
 use Rattle.std.specs.Fn.{Shared}
 use denote.Ref.{Bor}
 use Rattle.g_turn.specs.State.{Work}
-use Rattle.g_budget.specs.declared.tariff.Charge.{Charge}
-use Rattle.g_budget.specs.declared.tariff.Usage.{Usage}
+use Rattle.g_rules.specs.declared.tariff.Charge.{Charge}
+use Rattle.g_rules.specs.declared.tariff.Usage.{Usage}
 use Rattle.g_job.specs.Beginning.{job_begun}
 use Rattle.g_job.specs.State.{JobState}
 use Rattle.g_job.specs.declared.turn.Turn.{Turn}
@@ -20,7 +20,7 @@ use Rattle.g_plain.specs.Programs.{Answer, Asks, Call, Gives}
 use Rattle.g_plain.specs.declared.calls.StoreCall.{StoreCall}
 use Rattle.g_plain.specs.declared.faults.StoreFault.{StoreFault}
 use Rattle.g_plain.specs.declared.faults.StoreFault.TheVariants.{NotStarted, Running, Stopped, WaitTape}
-use Rattle.g_sched.specs.declared.rule.Standing.{Standing}
+use Rattle.g_rules.specs.declared.rule.Standing.{Standing}
 use Rattle.g_script.specs.declared.operator.Operator.{Operator}
 use Rattle.g_script.specs.declared.operator.Operator.TheVariants as line
 use Rattle.g_script.specs.declared.operator.Timed.{Timed}

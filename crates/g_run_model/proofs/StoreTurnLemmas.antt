@@ -3,8 +3,8 @@ use Rattle.std.proofs.Common.{◌≡◌, ℕ, false, List, [], map, Some, None, 
 use Rattle.std.specs.Fn.{Shared}
 use denote.Ref.{Bor}
 use Rattle.g_turn.specs.State.{Work}
-use Rattle.g_budget.specs.declared.tariff.Charge.{Charge}
-use Rattle.g_budget.specs.declared.tariff.Usage.{Usage}
+use Rattle.g_rules.specs.declared.tariff.Charge.{Charge}
+use Rattle.g_rules.specs.declared.tariff.Usage.{Usage}
 use Rattle.g_job.specs.Beginning.{standing_of}
 use Rattle.g_job.specs.TurnEnd.{IsTurn}
 use Rattle.g_job.specs.State.{JobState}
@@ -15,8 +15,8 @@ use Rattle.g_plain.specs.Programs.{Answer, Asks, IsAnswer, RanInPart}
 use Rattle.g_plain.specs.Runs.{RanBy}
 use Rattle.g_plain.specs.declared.calls.StoreCall.{StoreCall}
 use Rattle.g_plain.specs.declared.faults.StoreFault.TheVariants.{NoMemory}
-use Rattle.g_sched.specs.Choice.{IsChosen}
-use Rattle.g_sched.specs.declared.rule.Standing.{Standing}
+use Rattle.g_rules.specs.Choice.{IsChosen}
+use Rattle.g_rules.specs.declared.rule.Standing.{Standing}
 use Rattle.g_store_meaning.specs.Answers.{Answers, Belongs, HasCause, Told}
 use Rattle.g_store_meaning.specs.Reading.{StandsForState}
 use Rattle.g_store_meaning.specs.StoreInvariant.{StoreFacts}

@@ -6,7 +6,7 @@ use Rattle.std.proofs.lemmas.Option.{some_pair_parts}
 use Rattle.std.proofs.Math.Nat.{le-min}
 use Rattle.g_turn.specs.Causes.{GoesOn, IsHonest, StopsAt}
 use Rattle.g_turn.specs.State.{Broken, Desk, Done, Full, Stop, Waits, Work}
-use Rattle.g_budget.specs.declared.tariff.Charge.{Charge}
+use Rattle.g_rules.specs.declared.tariff.Charge.{Charge}
 use Rattle.g_job.proofs.TurnBounds.{turn_honest}
 use Rattle.g_job.specs.TurnEnd.{behind_turn, broken, charged, end_by, is_money_up, is_time_up, money_of, turn_end, turn_of, units_left, units_of, up_line, waited}
 use Rattle.g_job.specs.State.{JobState}

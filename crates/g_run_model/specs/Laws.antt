@@ -2,11 +2,11 @@
 use Rattle.std.specs.Prelude.{◌≡◌, ◌⊎◌, ℕ, ◌+◌, ◌-◌, ◌≤◌, ◌<◌, ◌==◌, Bool, true, false, List, [], ◌∷◌, ◌++◌, length, take, sum_by, All, filter, Option, Some, None, IfSome, if◌then◌else◌}
 use Rattle.std.specs.Fn.{Shared}
 use denote.Ref.{Bor}
-use Rattle.g_budget.specs.declared.tariff.Usage.{Usage}
-use Rattle.g_budget.specs.declared.tariff.Charge.{Charge}
-use Rattle.g_sched.specs.declared.rule.Standing.{Standing}
-use Rattle.g_budget.specs.Tariff.{IsTariff}
-use Rattle.g_sched.specs.Rule.{IsWeighRule}
+use Rattle.g_rules.specs.declared.tariff.Usage.{Usage}
+use Rattle.g_rules.specs.declared.tariff.Charge.{Charge}
+use Rattle.g_rules.specs.declared.rule.Standing.{Standing}
+use Rattle.g_rules.specs.Tariff.{IsTariff}
+use Rattle.g_rules.specs.Rule.{IsWeighRule}
 use Rattle.std.specs.FinMap.{get}
 use Rattle.g_name.specs.declared.full.Full.{Full}
 use Rattle.g_plain.specs.PlainTree.{FileRow, Tree, formatted}

@@ -15,8 +15,7 @@ ghost use Rattle.g_run_model.specs.Laws.{
 };
 ghost use Rattle.g_run_model.specs.Terminals.{TerminalsPrint, TerminalsRead, TypesTellNothing};
 
-use g_budget::{Charge, Usage};
-use g_sched::Standing;
+use g_rules::{Charge, Standing, Usage};
 use g_store_model::{step_is_one, step_is_plain};
 
 /// Every call of every job is answered as on one plain file tree, apart from waits, device errors and stops.

@@ -14,8 +14,8 @@ use Rattle.g_store_meaning.specs.StoreInvariant.{StoreFacts}
 use Rattle.g_store_model.specs.State.{State}
 use Rattle.g_entry.specs.declared.user_rec.UserRec.{UserRec}
 use Rattle.g_tape.specs.Rack.{is_mounted, reel}
-use Rattle.g_budget.specs.declared.tariff.Usage.{Usage}
-use Rattle.g_budget.specs.declared.tariff.Charge.{Charge}
+use Rattle.g_rules.specs.declared.tariff.Usage.{Usage}
+use Rattle.g_rules.specs.declared.tariff.Charge.{Charge}
 use Rattle.g_day.specs.declared.progress.Failure.{Failure}
 use Rattle.g_day.specs.declared.progress.Failure.TheVariants.{Memory}
 use Rattle.g_day.specs.Opening.{Opens}

@@ -7,10 +7,10 @@ use denote.Ref.{Bor}
 use Rattle.std.proofs.lemmas.Bool.{false≢true}
 use Rattle.std.proofs.lemmas.List.Elements.{All-nil}
 use Rattle.g_turn.specs.State.{Work}
-use Rattle.g_budget.specs.declared.tariff.Charge.{Charge}
-use Rattle.g_budget.specs.declared.tariff.Usage.{Usage}
-use Rattle.g_sched.specs.declared.rule.Standing.{Standing}
-use Rattle.g_sched.specs.Choice.{IsChosen}
+use Rattle.g_rules.specs.declared.tariff.Charge.{Charge}
+use Rattle.g_rules.specs.declared.tariff.Usage.{Usage}
+use Rattle.g_rules.specs.declared.rule.Standing.{Standing}
+use Rattle.g_rules.specs.Choice.{IsChosen}
 use Rattle.g_io.specs.Streams.{with_more}
 use Rattle.g_plain.specs.Programs.{Gives, RanInPart}
 use Rattle.g_job.specs.Beginning.{standing_of}

@@ -1,6 +1,5 @@
 //! The rules of a run.
-use g_budget::Tariff;
-use g_sched::WeighRule;
+use g_rules::{Tariff, WeighRule};
 
 /// What turns cost, and which job goes next.
 #[derive(Drop)]

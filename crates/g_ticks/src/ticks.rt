@@ -1,10 +1,10 @@
 //! Ticks, as long as something can step and no line is due.
 ghost use Rattle.std.specs.Prelude.{◌≡◌, ◌⊎◌, ◌+◌, ◌<◌, ℕ, None, is_some, true, false};
-ghost use Rattle.g_budget.specs.Tariff.{IsTariff};
+ghost use Rattle.g_rules.specs.Tariff.{IsTariff};
 ghost use Rattle.g_day.specs.Parts.{IsReady, seen};
 ghost use Rattle.g_day.specs.System as system;
 ghost use Rattle.g_job_table.specs.Numbers.{AreOpen};
-ghost use Rattle.g_sched.specs.Rule.{IsWeighRule};
+ghost use Rattle.g_rules.specs.Rule.{IsWeighRule};
 ghost use Rattle.g_ticks.specs.Tick.{some_job_steps};
 ghost use Rattle.g_ticks.specs.Parts.{DidTicks, HasRoom, IsAtRest, is_past, steps_in};
 ghost use Rattle.g_ticks.specs.Turning.{left_of};
@@ -13,12 +13,11 @@ use crate::day_up::DayUp;
 use crate::rules::Rules;
 use crate::ticking::tick;
 use crate::watched::Watched;
-use g_budget::{Charge, Usage};
 use g_day::{Day, Ended, Failure, System};
 use g_disc::Disc;
 use g_io::Sink;
 use g_job_table::{Crew, Weights};
-use g_sched::Standing;
+use g_rules::{Charge, Standing, Usage};
 use g_tape::Tapes;
 use std::alloc::Global;
 

@@ -1,13 +1,13 @@
 //! A job's turn.
 ghost use Rattle.std.specs.Prelude.{◌≡◌, ℕ, None, Some, false, length};
-ghost use Rattle.g_budget.specs.Tariff.{IsTariff};
+ghost use Rattle.g_rules.specs.Tariff.{IsTariff};
 ghost use Rattle.g_day.specs.Parts.{IsReady, seen};
 ghost use Rattle.g_day.specs.System as system;
 ghost use Rattle.g_job_table.specs.Choice.{Chooses, able_in};
 ghost use Rattle.g_job_table.specs.Numbers.{AreJobs, AreOpen, job_in};
 ghost use Rattle.g_job_table.specs.Weights.{AreOthers, AreWeights};
 ghost use Rattle.g_job.specs.State.{JobState};
-ghost use Rattle.g_sched.specs.Rule.{IsWeighRule};
+ghost use Rattle.g_rules.specs.Rule.{IsWeighRule};
 ghost use Rattle.g_store_model.specs.State as state;
 ghost use Rattle.g_store_model.specs.State.{State};
 ghost use Rattle.g_tape.specs.Rack.{is_mounted, reel};
@@ -20,12 +20,11 @@ use crate::ending::end_turn;
 use crate::rules::Rules;
 use crate::watched::Watched;
 use g_base::NoMemory;
-use g_budget::{Charge, Tariff, Usage};
 use g_day::Failure;
 use g_disc::Disc;
 use g_io::Sink;
 use g_job_table::{Crew, Weights};
-use g_sched::{Standing, WeighRule};
+use g_rules::{Charge, Standing, Tariff, Usage, WeighRule};
 use g_tape::Tapes;
 use std::alloc::Global;
 

@@ -4,7 +4,7 @@ use crate::events::{Ask, Device, Event, OnFile};
 use crate::rows::{Wrong, play, told};
 use crate::setting::Setting;
 use crate::system::System;
-use g_plain::PlainStore;
+use g_plain_store::PlainStore;
 use std::alloc::Global;
 
 /// Pseudo-random numbers, each computed from its predecessor.

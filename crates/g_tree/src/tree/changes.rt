@@ -215,18 +215,6 @@ impl Tree {
         keep_room(&mut self.room, boxed);
     }
 
-    /// The least unused number of a user, if there is one below 63.
-    pub fn free_user(&self) -> Option<u8>
-        ensures some { IfSome result (λ number. (number < 63) × (number ≡ length self.now.users)) }
-        ensures none { IfNone result (length self.now.users ≡ 63) }
-    {
-        if self.users.len() < 63 {
-            Some(self.users.len() as u8)
-        } else {
-            None
-        }
-    }
-
     /// The least unused number of a file, if there is one below 1,024.
     pub fn free_file(&self) -> Option<u16>
         ensures unused { IfSome result (λ number. (number < 1024)

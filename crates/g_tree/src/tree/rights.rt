@@ -75,18 +75,6 @@ impl Tree {
         self.modes_of(file, user).contains(mode)
     }
 
-    /// Whether the user of this number owns a file.
-    pub fn is_owner(&self, file: u16, user: u8) -> bool
-        requires { is_some (finmap.get (by_number self.now.files) file) ≡ true }
-        ensures { ForFile self.now.users self.now.files file
-            (λ row full. result ≡ same_text (name_of self.now.users user) full.user) }
-    {
-        match self.file_at(file) {
-            Some(file) => user == file.owner,
-            None => unreachable!(),
-        }
-    }
-
     /// Whether giving these modes to the user of this number would trap a ninth user besides the owner.
     pub fn is_ninth(&self, file: u16, user: u8, modes: Modes) -> bool
         requires { is_some (finmap.get (by_number self.now.files) file) ≡ true }
