@@ -11,7 +11,7 @@ use g_known::KnownReels;
 use g_tape::Tapes;
 
 /// The system: up, as a store over its devices, or down, when the devices stand alone. What is known of the reels stays with them.
-/// Contracts see it by `facts_of` (docs/DEFINITIONS.md, "The whole run").
+/// Contracts see it by `facts_of` (docs/DEFINITIONS.md, "g_day").
 #[derive(Drop)]
 pub enum System<D: Disc, T: Tapes> {
     Up(Running<D, T>),

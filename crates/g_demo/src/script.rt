@@ -10,7 +10,7 @@ use g_base::NoMemory;
 use g_name::Text;
 use std::alloc::Global;
 
-/// The text of a demonstration's script (docs/DEFINITIONS.md, "A demonstration").
+/// The text of a demonstration's script (docs/DEFINITIONS.md, "g_demo").
 pub fn script_of(alloc: Global, demo: &Demonstration) -> Result<Text, NoMemory>
     ensures { IfOk result (λ text. text ≡ script_text demo.now.number demo.now.rounds) }
 {

@@ -30,7 +30,7 @@ use std::alloc::Global;
 use std::marker::Model;
 
 /// A job: its document with the macros that it has called, a program, units, its allowances of TIME and MONEY, and its monitoring file. Contracts see
-/// a `JobState` (`docs/DEFINITIONS.md`, "A job and its turn"). Its parts are boxed: moving a job into the table of jobs and out of it moves a
+/// a `JobState` (`docs/DEFINITIONS.md`, "g_job"). Its parts are boxed: moving a job into the table of jobs and out of it moves a
 /// pointer.
 #[derive(Drop)]
 pub struct Job {

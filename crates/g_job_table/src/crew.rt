@@ -34,7 +34,7 @@ use std::alloc::Global;
 use std::marker::Model;
 
 /// The jobs that were taken in and aren't over, at most 64, in order of number; the accounts of users; and the number of the next job. Contracts see
-/// a `CrewState` (`docs/DEFINITIONS.md`, "What is kept beside the system"). From the first LOGIN on, the seats of the terminals are stored with the
+/// a `CrewState` (`docs/DEFINITIONS.md`, "g_job_table"). From the first LOGIN on, the seats of the terminals are stored with the
 /// jobs; they are determined by the jobs.
 #[derive(Drop)]
 pub struct Crew {

@@ -1,4 +1,4 @@
-//! The texts that the operator reads (`docs/DEFINITIONS.md`, "A run of the whole program").
+//! The texts that the operator reads (`docs/DEFINITIONS.md`, "g_run_model").
 ghost use Rattle.std.specs.Prelude.{◌≡◌, ◌++◌, IfOk, OnOk, codes};
 ghost use Rattle.std.specs.Fmt.{decimal};
 ghost use Rattle.g_run_model.specs.Texts.{closing, dump_text, job_text, operator_line, started_text, tape_text};

@@ -60,7 +60,7 @@ fn split_label(line: &[u8]) -> (Option<Label>, &[u8])
     }
 }
 
-/// What a line says (`docs/DEFINITIONS.md`, "Lines of the command language").
+/// What a line says (`docs/DEFINITIONS.md`, "g_lang").
 ///
 /// A text that is no line of the language is refused with the place where it goes wrong. Memory is allocated only for the result, so it can run out
 /// only for a line of the language. The function calls itself once for each condition of the line; lines of the program have at most 240 bytes.

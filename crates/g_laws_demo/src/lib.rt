@@ -1,4 +1,4 @@
-//! The script of a demonstration is valid for the whole program (docs/DEFINITIONS.md, "A demonstration").
+//! The script of a demonstration is valid for the whole program (docs/DEFINITIONS.md, "g_demo").
 #![tactic(auto)]
 
 mod law;

@@ -19,7 +19,7 @@ use std::alloc::Global;
 
 /// The `len` bytes of the copy: each of its blocks is read from its reel in this call, and as much of the reel's dumps as
 /// isn't known yet. Without a fault the result is None if and only if the completed dumps of the reel don't contain the
-/// place (docs/DEFINITIONS.md, "Content"). For an empty file it is never None. `NoTape`, `NotMounted`, `ReadFault`,
+/// place (docs/DEFINITIONS.md, "g_disc_contents"). For an empty file it is never None. `NoTape`, `NotMounted`, `ReadFault`,
 /// `NoMemory`. Nothing changes except the record of reads.
 pub fn tape_bytes<T: Tapes>(
     alloc: Global,

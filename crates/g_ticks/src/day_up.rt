@@ -14,7 +14,7 @@ use g_job_table::Crew;
 use g_tape::Tapes;
 
 /// A day whose system was up as a tick began: its store, the crew and the count of ticks. A tick changes it where it lies. Where
-/// its store was stopped the system counts as down from then on (docs/DEFINITIONS.md, "The whole run"), and the devices are taken
+/// its store was stopped the system counts as down from then on (docs/DEFINITIONS.md, "g_day"), and the devices are taken
 /// out of the store behind the last tick.
 #[derive(Drop)]
 pub(crate) struct DayUp<D: Disc, T: Tapes> {

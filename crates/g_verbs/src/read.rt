@@ -13,7 +13,7 @@ use crate::{Action, Forms, Verb, VerbFault, asked, parameter};
 use g_lang::{Params, Rest, only_param, two_params};
 use g_name::{Local, Path};
 
-/// The action that a verb requests with the parameters in a text (`docs/DEFINITIONS.md`, "Verbs"); the text is unchanged, from the first parameter
+/// The action that a verb requests with the parameters in a text (`docs/DEFINITIONS.md`, "g_verbs"); the text is unchanged, from the first parameter
 /// on.
 ///
 /// `BadParameter` is returned if and only if a parameter is bad. A name that is no verb's is that of a macro, which isn't searched here. Allocates
