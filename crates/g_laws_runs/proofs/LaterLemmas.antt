@@ -1,4 +1,4 @@
--- A START behind any move, and in a later run.
+-- START after any move, and in a later run.
 use Rattle.std.proofs.Common.{◌≡◌, ℕ, Option, Some, None, option_map, refl, ◌∙◌, ap, inl, inr}
 use Rattle.std.specs.Prelude.{◌⊎◌}
 use Rattle.std.specs.Fn.{Shared}

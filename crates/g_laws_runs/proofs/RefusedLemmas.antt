@@ -26,7 +26,7 @@ use Rattle.g_run_model.proofs.EventToldLemmas.{ToldBy, format_told, restore_told
 use Rattle.g_run_model.proofs.TreeLemmas.{either_first, either_still, told_up}
 use Rattle.g_laws_runs.specs.RefusedLines.{KeepsTree, RefusedLinesLeave, RunKeeping, StartStillHasTheTree}
 
--- an answer that is told isn't a stop where no write failed
+-- an answer with its outcome isn't a stop if no write failed
 pub unstopped : {A : Type 0} (By : Outcome → Result A StoreFault → State → Type 0) (o : Outcome) (r : Result A StoreFault) (new : State) → ToldBy By o r new → o ≢ Cut → r ≢ Err Stopped
 unstopped By o r new (told, step, tells_so, inl same) whole stop = whole (sym same ∙ tells_so.cut stop)
 unstopped By o r new (told, step, tells_so, inr plain) whole stop = let is_cut = tells_so.cut stop in let no : ⊥ = cc in no

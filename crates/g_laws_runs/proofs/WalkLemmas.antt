@@ -50,7 +50,7 @@ IsQuiet (Dumped o) = ⊥
 IsQuiet move = Unit {0}
 
 module _ (K : Outcome → State → State → Type 0) (kept : AreKept K) where
-  -- of the world's store behind an event that left it at s
+  -- for the world's store after an event that left it at s
   told : (o : Outcome) (w new v : World) (s : State) → new ≡ v → v.store ≡ s → K o w.store s → K o w.store new.store
   told o w new v s is same it = subst (λ (x : State). K o w.store x) (sym (ap (λ (x : World). x.store) is ∙ same)) it
 
