@@ -59,7 +59,7 @@ module _ {U : Type 0} (rules : Shared U (Bor Standing × Unit {0}) ℕ) (rule : 
           subst (λ (z : Standing). (weight' : ℕ) × Answers z weight' × IsNoLater weight x.number weight' z.number) same (weight, answer, inr (refl, omega arith))
       least (suc place) y there = rest place y there
 
-  -- or one behind it
+  -- or a later one
   later : (x : Standing) (xs : List Standing) (place weight : ℕ) → Answers x weight → (chosen : IsChosen rules rule xs place) → IsNoLater chosen.weight chosen.standing.number weight x.number → IsChosen rules rule (x ∷ xs) (suc place)
   later x xs place weight answer chosen before = record { standing = chosen.standing; weight = chosen.weight; there = chosen.there; weighed = chosen.weighed; least = least }
     where
