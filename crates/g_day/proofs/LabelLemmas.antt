@@ -1,4 +1,4 @@
--- THE SAME DEVICES behind an event: what is read, written, mounted and armed leaves disc and reels what they are.
+-- The same devices after an event: reads, writes, mounts and arming preserve the identity of disc and reels.
 use Rattle.std.proofs.Common.{◌≡◌, ◌==◌, ◌≤◌, ℕ, Bool, true, false, List, [], ◌∷◌, map, refl, sym, ◌∙◌, ap, if◌then◌else◌, arith}
 use Rattle.g_script.specs.declared.operator.Operator.{Operator}
 use Rattle.g_script.specs.declared.operator.Operator.TheVariants as line
@@ -30,7 +30,7 @@ labels_unread (r ∷ reels) = ap (λ (ls : List (ℕ × ℕ)). (r.serial, r.capa
 pub labels_read : (old new : List Reel) → map unread new ≡ map unread old → labels new ≡ labels old
 labels_read old new is = sym (labels_unread new) ∙ ap labels is ∙ labels_unread old
 
--- a count that stands still, and one that doesn't fall twice
+-- a counter that doesn't move, and one that doesn't fall in two steps
 pub stands_still : (a b : ℕ) → b ≡ a → a ≤ b
 stands_still a b same = omega (arith, same)
 
