@@ -1,4 +1,4 @@
--- What holds of every device behind a turn.
+-- What holds of every device after a turn.
 use Rattle.std.proofs.Common.{◌≡◌, ℕ, true, List, Option, Some, None, refl, sym, ◌∙◌, ap, subst, inl, inr}
 use Rattle.std.specs.Prelude.{◌↔◌}
 use Rattle.g_job.specs.Spending.{SpendsBy}
@@ -69,7 +69,7 @@ module _ (old new : StoreFacts) (c : CrewState) (count : ℕ) (stays : StaysOver
     numbers = λ none. absurd (let no : ⊥ = cc in no);
   }
 
--- nobody took a turn
+-- no job took a turn
 pub none_keeps_run : (s : StoreFacts) (c : CrewState) (count : ℕ) → IsReady (Up s) c → AreOpen c.jobs → (faults : ℕ) → KeepsRun (seen (Up s) c count) None (seen (Up s) c count) faults faults
 none_keeps_run s c count ready still faults = record {
   ready = λ none. (ready, still);

@@ -1,4 +1,4 @@
--- Lists of jobs behind a turn: the job of a number goes on as another, or is taken out.
+-- Lists of jobs after a turn: the job of a number continues as another, or is removed.
 use Rattle.std.proofs.Common.{◌≡◌, ℕ, ◌==◌, Bool, true, false, cond, not, List, [], ◌∷◌, Some, refl, sym, ◌∙◌, ap, if◌then◌else◌, eqb-true, eq-eqb}
 use Rattle.std.proofs.lemmas.List.Elements.{All-cons, All-filter, All-head, All-tail}
 use Rattle.g_job_table.specs.Numbers.{AreOpen, job_in}

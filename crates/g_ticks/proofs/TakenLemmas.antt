@@ -36,7 +36,7 @@ module _ {F U : Type 0} (tariffs : Shared F (Bor Usage × Unit {0}) Charge) (tar
   abbrev pub before_it : Seen
   before_it = seen (Up old) c count
 
-  -- nobody can step
+  -- no job can step
   pub nobody_turns : ChoosesFor rules rule old c None → (before : Option (List ℕ)) (faults : ℕ) → DidTurn tariffs tariff rules rule before_it None before_it before before faults faults
   nobody_turns choice before faults = record {
     goes = none_goes tariffs tariff rules rule old c count 0 ready (λ u here. choice u (mounted_in old ready.0 u here)) before;

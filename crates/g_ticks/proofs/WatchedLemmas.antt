@@ -1,4 +1,4 @@
--- A turn over a store that remembers whether it was asked is one over the store; where it wasn't asked the store is as it was.
+-- A turn on a store that remembers whether it was used is one on the store; if it wasn't used the store is unchanged.
 use Rattle.std.proofs.Common.{◌≡◌, ◌⊎◌, List, [], ◌∷◌, None, Option, Some, append-nil, arith, false, true, true≢false, inl, inr, refl, sym, ◌∙◌, ap, subst, ℕ}
 use Rattle.std.specs.Fn.{Shared}
 use denote.Ref.{Bor}
@@ -61,7 +61,7 @@ module _ {F : Type 0} (tariffs : Shared F (Bor Usage × Unit {0}) Charge) (tarif
   pub takes_quiet : TakesTurn AnswersWatched tariffs tariff job old turn after new → new.asked ≡ false → new ≡ old
   takes_quiet takes quiet = ran_quiet job.user old new _ takes.told takes.work takes.ran quiet
 
--- behind a turn that asked nothing, and changed no account, each user has one still
+-- after a turn that made no call, and changed no account, each user still has one
 pub still_all : (old new : WatchedFacts) (c c' : CrewState) → c'.accounts ≡ c.accounts → (new.asked ≡ false → new ≡ old) → HaveAll old c → HaveAll new c'
 still_all old new c c' accounts same all quiet =
     let is : new ≡ old = same quiet in
@@ -78,7 +78,7 @@ pub nothing_more : (before : Option (List ℕ)) → before ≡ with_more before 
 nothing_more None = refl
 nothing_more (Some bytes) = ap (λ (l : List ℕ). let o : Option (List ℕ) = Some l in o) (sym (append-nil bytes))
 
--- the system behind the opening is the one before
+-- the system after the opening is the one before
 pub still_up : (s s' : StoreFacts) → s' ≡ s → s.spent ≡ false → left_of s' ≡ Up s
 still_up s s' same running = ap left_of same ∙ left_up s running
 

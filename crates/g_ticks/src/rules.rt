@@ -2,7 +2,7 @@
 use g_budget::Tariff;
 use g_sched::WeighRule;
 
-/// What turns cost, and which job goes next.
+/// The tariff of turns, and the rule that chooses the next job.
 #[derive(Drop)]
 pub struct Rules<'a, F, U> {
     pub tariff: &'a Tariff<F>,
