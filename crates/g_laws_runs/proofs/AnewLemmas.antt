@@ -1,4 +1,4 @@
--- A FORMAT over emptied reels: its state is made of nothing that the disc held before.
+-- FORMAT on emptied reels: its state depends on nothing that the disc held before.
 use Rattle.std.proofs.Common.{◌≡◌, ℕ, List, [], ◌∷◌, ◌++◌, Contains, map, Option, Some, None, refl, sym, ◌∙◌, ap, subst}
 use Rattle.std.specs.Prelude.{All, Bool, true, false, not, cond, nat_lt, option_map, Ok, Result}
 use Rattle.std.specs.List.{AllByRecursion}
