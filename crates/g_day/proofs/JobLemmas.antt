@@ -62,7 +62,7 @@ comes_in_is known job count c number failure c' before after old new granted num
 abbrev job_of_line : NewJob → Operator
 job_of_line job = line.Job job.name job.user job.time job.money job.lines
 
--- what the line gives where the system is up
+-- the effect of the line while the system is up
 gives_up : (job : NewJob) (w next : World) → w.store.up ≡ true → next ≡ job_line (job_refusal w job.user job.time job.money) (taken_in job.name job.user job.time job.money job.lines w) w
     → LineGives Plain (job_of_line job) w next
 gives_up job w next up is =
@@ -114,7 +114,7 @@ module _ (job : NewJob) (s : StoreFacts) (known : Bool) (known_is : (u : State) 
   abbrev Did : Option Failure → CrewState → Option (List ℕ) → Option (List ℕ) → ℕ → ℕ → Type 0
   Did failure c' before_text after faults faults' = DidLine (job_of_line job) before failure (seen (Up s) c' count) before_text after faults faults'
 
-  -- by how it came out
+  -- by its outcome
   pub taken_line : (failure : Option Failure) (c' : CrewState) (before_text after : Option (List ℕ)) (faults faults' : ℕ) → TakesJob known job count c failure c' before_text after faults faults'
       → Did failure c' before_text after faults faults'
   taken_line failure c' before_text after faults faults' (inl comes) =
@@ -134,7 +134,7 @@ down_takes_none job d c count failure before after faults faults' ready puts =
     (λ w m. (refl, sym (ap (λ (b : Bool). if b then job_line (job_refusal w job.user job.time job.money) (taken_in job.name job.user job.time job.money job.lines w) w else line_refused NotStarted w) m.stands.0)))
     failure before after faults faults' ready puts
 
--- A JOB'S LINE, where the system knows its user or doesn't, or is down
+-- A JOB'S LINE, if the system knows its user or doesn't, or is down
 pub job_on : (job : NewJob) (f : SystemFacts) (known : Bool) → KnowsIn job.user f (Some known) → (c : CrewState) → IsReady f c → (count : ℕ) (failure : Option Failure) (c' : CrewState) (before after : Option (List ℕ)) (faults faults' : ℕ)
     → TakesJob known job count c failure c' before after faults faults' → DidLine (job_of_line job) (seen f c count) failure (seen f c' count) before after faults faults'
 job_on job f known knows c ready count failure c' before after faults faults' takes =

@@ -9,7 +9,7 @@ use Rattle.g_run_model.specs.Devices.{Devices}
 use Rattle.g_day.specs.Parts.{FusesBy, disc_arms, tape_arms}
 use Rattle.g_day.specs.System.{SameDevices, labels}
 
--- what a reel that is changed keeps, all keep
+-- what one changed reel preserves, all preserve
 pub parts_with : {X : Type 0} (part : Reel → X) (s : ℕ) (f : Reel → Reel) → ((r : Reel) → part (f r) ≡ part r) → (reels : List Reel) → map part (with_reel s f reels) ≡ map part reels
 parts_with part s f keeps [] = refl
 parts_with {X = X} part s f keeps (r ∷ reels) = by (s == r.serial) (parts_with part s f keeps reels)
@@ -37,7 +37,7 @@ stands_still a b same = omega (arith, same)
 twice_later : (a b c : ℕ) → a ≤ b → b ≤ c → a ≤ c
 twice_later a b c first later = omega (arith, first, later)
 
--- where no failure of the disc was counted
+-- if no failure of the disc was counted
 pub same_still : (a b : Devices) → b.disc.size ≡ a.disc.size → b.disc.read_faults ≡ a.disc.read_faults → b.disc.write_faults ≡ a.disc.write_faults → a.disc.writes ≤ b.disc.writes
     → a.rack.read_faults ≤ b.rack.read_faults → a.rack.write_faults ≤ b.rack.write_faults → labels b.rack.reels ≡ labels a.rack.reels → SameDevices a b
 same_still a b size reads faults writes tape_reads tape_writes reels = record {
@@ -50,7 +50,7 @@ same_still a b size reads faults writes tape_reads tape_writes reels = record {
   reels = reels;
 }
 
--- nor anything else
+-- or anything else
 pub same_counts : (a b : Devices) → b.disc.size ≡ a.disc.size → b.disc.read_faults ≡ a.disc.read_faults → b.disc.write_faults ≡ a.disc.write_faults → b.disc.writes ≡ a.disc.writes
     → b.rack.read_faults ≡ a.rack.read_faults → b.rack.write_faults ≡ a.rack.write_faults → labels b.rack.reels ≡ labels a.rack.reels → SameDevices a b
 same_counts a b size reads faults writes tape_reads tape_writes reels =

@@ -32,7 +32,7 @@ use Rattle.g_day.proofs.LabelLemmas.{no_fuse, same_itself}
 use Rattle.g_day.proofs.PutLemmas.{puts_grown, same_grown}
 use Rattle.g_day.specs.Terminals.{DidNothing}
 
--- done, and its text put whole or in part
+-- done, and its text written completely or in part
 pub was_done : (what : Operator) (old new : Seen) (failure : Option Failure) (added : List ℕ) (before after : Option (List ℕ))
     → (does : (w : World) → Matches w old → DoesLine what w old.system new.system added)
     → ((w : World) (m : Matches w old) → failure ≡ None → Matches (does w m).next new) → PutsBy failure added before after → LineGoes what old failure new before after
@@ -136,7 +136,7 @@ nothing_done what no_disc no_tape f c count ready failure c' before after faults
     (subst (λ (n : ℕ). DidLine what (seen f c count) failure (seen f c count) before before faults n) (sym still)
     (untried_line what no_disc no_tape f f c count refl ready failure failed before faults)))
 
--- WHAT A FAULT MAKES OF THE WORLD: a stop takes it down, and any other fault is a refusal
+-- WHAT A FAULT DOES TO THE WORLD: a stop takes it down, and any other fault is a refusal
 abbrev pub told_of : StoreFault → State → World → World
 told_of Stopped u w = system_stopped u w
 told_of fault u w = line_refused fault (record w { store = u })

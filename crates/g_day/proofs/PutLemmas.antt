@@ -16,7 +16,7 @@ pub with_more-nil : (before : Option (List ℕ)) → with_more before [] ≡ bef
 with_more-nil (Some bytes) = ap (λ t. Some t) (append-nil bytes)
 with_more-nil None = refl
 
--- SOME TEXT WAS PUT
+-- SOME TEXT WAS WRITTEN
 pub same_grown : (before after : Option (List ℕ)) → after ≡ before → HasGrown before after
 same_grown before after same = record { more = []; put = same ∙ sym (with_more-nil before) }
 
