@@ -1,4 +1,4 @@
--- A LINE THAT ASKS A STORE, on a system that is up or down.
+-- A LINE THAT CALLS THE STORE, on a system that is up or down.
 use Rattle.std.proofs.Common.{◌≡◌, ℕ, ◌++◌, List, [], Option, Some, refl, sym, subst}
 use Rattle.std.specs.Prelude.{Result, Ok, Err, codes}
 use Rattle.g_name.specs.declared.path.Path.{Path}

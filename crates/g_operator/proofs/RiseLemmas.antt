@@ -83,7 +83,7 @@ pub came_up : {A : Type 0} (given : Type 0) (by : State → Outcome → Result A
 came_up given by count_of disc rack reply new m =
     record { running = m.running; keeps = m.keeps; causes = m.causes; tapes = m.tapes; tape_read = m.tape_read; told = m.told; step = m.step; belongs = m.belongs }
 
--- the events of one line, which brings the system up
+-- the event of the line that brings the system up
 module _ {A : Type 0} (what : Operator) (given : Type 0) (by : State → Outcome → Result A StoreFault → State → Type 0) (said : A → List ℕ)
     (lifts : (o : Outcome) (w next : World) → Asks o (not w.store.up) Running (λ r s. by w.store o r s × IsTold o r) (λ x. up_with (said x)) w next → LineGives o what w next) (counts : (o : Outcome) (d e : Devices) → EventCounted o [] [] d e → CountedBy what o d e)
     (no_disc : disc_arms what ≡ []) (no_tape : tape_arms what ≡ []) (disc : DiscState) (rack : Rack) (c : CrewState) (count : ℕ) (gives : (let d : Devices = record { disc = disc; rack = rack } in BelongTogether d) → given) where

@@ -137,7 +137,7 @@ module _ (login : NewLogin) (s : StoreFacts) (known : Bool) (known_is : (u : Sta
   abbrev DidLogin : Option Failure → CrewState → Option (List ℕ) → Option (List ℕ) → ℕ → ℕ → Type 0
   DidLogin failure c' before after faults faults' = DidLine (login_of_line login) before_login failure (seen (Up s) c' count) before after faults faults'
 
-  -- by how it came out
+  -- by its outcome
   pub seated_line : (failure : Option Failure) (c' : CrewState) (before after : Option (List ℕ)) (faults faults' : ℕ) → SeatsJob known login count c failure c' before after faults faults' → DidLogin failure c' before after faults faults'
   seated_line failure c' before after faults faults' (inl sits) =
       subst (λ (k : CrewState). DidLogin failure k before after faults faults') (sym sits.crew)
@@ -148,7 +148,7 @@ module _ (login : NewLogin) (s : StoreFacts) (known : Bool) (known_is : (u : Sta
       (says_refused (login_of_line login) refl refl away.text (Up s) c count (away_gives away.text away.refuses) failure before after faults faults' ready away.put)
   seated_line failure c' before after faults faults' (inr (inr nothing)) = nothing_done (login_of_line login) refl refl (Up s) c count ready failure c' before after faults faults' nothing
 
--- where the system knows the user or doesn't, or is down
+-- if the system knows the user or doesn't, or is down
 pub login_on : (login : NewLogin) (f : SystemFacts) (known : Bool) → KnowsIn login.user f (Some known) → (c : CrewState) → IsReady f c → (count : ℕ) (failure : Option Failure) (c' : CrewState) (before after : Option (List ℕ)) (faults faults' : ℕ)
     → SeatsJob known login count c failure c' before after faults faults' → DidLine (login_of_line login) (seen f c count) failure (seen f c' count) before after faults faults'
 login_on login f known knows c ready count failure c' before after faults faults' seats =
