@@ -63,7 +63,7 @@ stop_is s k d o u (cut, inl (inr (at, inr is))) = ap (λ (t : State). t.up) is
 stop_is s k d o u (cut, inr (last, inl is)) = ap (λ (t : State). t.up) is
 stop_is s k d o u (cut, inr (last, inr is)) = ap (λ (t : State). t.up) is
 
--- what is said of the step of a dump, by how it came out
+-- what is known of the step of a dump, by its outcome
 pub as_stepped : (old new : StoreFacts) (x y : Step) → x ≡ y → StepsDump old (Ok (stepped x)) new → StepsAs old (Ok (stepped x)) new → KeepsDumps old (Ok (stepped x)) new
     → StepsDump old (Ok (stepped y)) new × StepsAs old (Ok (stepped y)) new × KeepsDumps old (Ok (stepped y)) new
 as_stepped old new x y is event steps stay =

@@ -35,7 +35,7 @@ kept_line next old new is = record {
   stay = λ none. stays_by (is_process next.what) old new (All-head (λ (t : Timed). is_process t.what ≡ false) next [] none) is;
 }
 
--- two parts, over the same reels
+-- two parts, on the same reels
 pub kept_then : (a b : List Timed) (old mid new : Rack) → labels new.reels ≡ labels mid.reels → DumpsKept a old mid → DumpsKept b mid new → DumpsKept (a ++ b) old new
 kept_then a b old mid new same first later = record {
   move = moves_then old mid new same first.move later.move;

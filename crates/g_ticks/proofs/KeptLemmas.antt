@@ -56,7 +56,7 @@ module _ (old new : StoreFacts) (c : CrewState) (count : ℕ) (stays : StaysOver
         numbers = λ none. numbers_are number count old new c job behind there numbers failure system c' before after faults faults' turn ends none;
       })
 
-  -- a front of one
+  -- a prefix of one
   pub part_keeps_run : (system : SystemFacts) (c' : CrewState) → LeftBy new system → (faults : ℕ) → KeepsRun (seen (Up old) c count) (Some Memory) (seen system c' count) faults faults
   part_keeps_run system c' left faults = record {
     ready = λ none. absurd (let no : ⊥ = cc in no);

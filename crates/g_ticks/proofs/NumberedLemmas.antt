@@ -6,7 +6,7 @@ use Rattle.g_job.specs.State.{JobState}
 use Rattle.g_run_model.specs.World.{with_job, without_job}
 use Rattle.g_run_model.proofs.CrewLemmas.{no_job, one_job}
 
--- who takes the place of a job is gone with it
+-- the job that replaces another is removed with it
 pub without_with : (j : JobState) (jobs : List JobState) → without_job j.number (with_job j jobs) ≡ without_job j.number jobs
 without_with j [] = refl
 without_with j (k ∷ jobs) = by (k.number == j.number) refl (without_with j jobs)

@@ -103,7 +103,7 @@ module _ (who : List ℕ) where
   ran_stays (Call call more) [] old given new r = absurd r
   ran_stays (Call call more) (a ∷ told) old given new (mid, is, real, rest) = stays_then old mid new (call_stays old mid who call a is) (ran_stays (more a) told mid given new rest)
 
-  -- a front of one
+  -- a prefix of one
   pub part_stays : (p : Asks Work) (old new : StoreFacts) → RanInPart Answers who old p new → StaysOver old new
   part_stays (Gives x) old new r = stays_itself old new r
   part_stays (Call call more) old new (inl r) = stays_itself old new r

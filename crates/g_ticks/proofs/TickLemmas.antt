@@ -180,7 +180,7 @@ module _ {F U : Type 0} (tariffs : Shared F (Bor Usage × Unit {0}) Charge) (tar
     grows = grown_then before middle after dumped.grows turned.grows;
   }
 
-  -- where the dump's step ends it: by a failure, or by a stop
+  -- if the dump's step ends it: by a failure, or by a stop
   pub dump_did : (old : StoreFacts) (c : CrewState) (count : ℕ) (new : SystemFacts) (c2 : CrewState) (failure : Option Failure) (before after : Option (List ℕ)) (faults faults2 : ℕ)
       → (failure ≡ None → (d : Devices) × (new ≡ Down d)) → DidDump (seen (Up old) c count) failure (seen new c2 count) before after faults faults2
       → DidTick tariffs tariff rules rule (seen (Up old) c count) failure (seen new c2 count) before after faults faults2

@@ -144,7 +144,7 @@ module _ {F U : Type 0} (tariffs : Shared F (Bor Usage × Unit {0}) Charge) (tar
               let (moves, next, added, comes, part) = did.goes w m (may_tick w m between (ap turn_of is ∙ at)) in
               record { moves = moves; next = next; added = added; leads = leads_of w (Up old) new moves next added comes; put = part }
 
-    -- BY HOW IT CAME OUT
+    -- BY ITS OUTCOME
     pub one_did : (failure : Option Failure) → DidTick tariffs tariff rules rule (seen (Up old) c count) failure (seen new c' count) before after faults faults' → (came : Option Failure) (n : ℕ)
         → came ≡ failure → (failure ≡ None → n ≡ count + 1) → DidOne tariffs tariff rules rule limit (seen (Up old) c count) came (seen new c' n) before after faults faults'
     one_did failure did came n is counts =
@@ -156,7 +156,7 @@ module _ {F U : Type 0} (tariffs : Shared F (Bor Usage × Unit {0}) Charge) (tar
             subst (λ (m : ℕ). DidOne tariffs tariff rules rule limit (seen (Up old) c count) None (seen new c' m) before after faults faults') (sym (more refl)) (ticked tick)
         by (Some fault) tick more = failed n fault tick
 
-  -- the same where the system was seen by the store that it has left
+  -- the same if the system was seen by the store that it has left
   pub one_here : (limit : Option ℕ) (old : StoreFacts) (c : CrewState) (count : ℕ) → old.spent ≡ false → IsReady (left_of old) c → is_past limit count ≡ false → steps_in (seen (Up old) c count) ≡ true
       → (new : SystemFacts) (c' : CrewState) (before after : Option (List ℕ)) (faults faults' : ℕ) (failure : Option Failure)
       → DidTick tariffs tariff rules rule (seen (Up old) c count) failure (seen new c' count) before after faults faults' → (n : ℕ) → (failure ≡ None → n ≡ count + 1)

@@ -1,4 +1,4 @@
--- A TURN, as moves of a run, from every world that is what is at hand; and what holds of every device.
+-- A TURN, as moves of a run, from every world that matches what is at hand; and what holds of every device.
 use Rattle.std.proofs.Common.{◌≡◌, ◌⊎◌, ◌<◌, ◌≤◌, ℕ, Bool, true, false, List, [], ◌++◌, map, Option, Some, None, slice_get, refl, sym, ◌∙◌, ap, subst, inl, inr, append-nil, arith}
 use Rattle.std.specs.Prelude.{◌↔◌, ◌&&◌, codes, not}
 use Rattle.std.specs.Fmt.{decimal}
@@ -91,7 +91,7 @@ unbroken turn s is isnt = by s.spent is
     by false is = refl
     by true is = absurd (isnt (is.0 refl))
 
--- by the turn, and where memory ran out
+-- by the turn, and if memory ran out
 turned_stands : (turn : Turn) (s : StoreFacts) (t : State) (job : JobState) (work : Work) (behind : JobState) (w : World) → (s.spent ≡ true) ↔ (turn ≡ turns.Broken) → StoreIsNow s t
     → StandsAs (turned_system turn s) (turned_world w job t work turn behind).store
 turned_stands turns.Broken s t job work behind w stopped now = down_stands s t (stopped.1 refl) now
@@ -218,7 +218,7 @@ module _ {F U : Type 0} (tariffs : Shared F (Bor Usage × Unit {0}) Charge) (tar
   went None old new added before after does put = λ w m may. let d = does w m may in (d.moves, d.next, added, d.comes, d.matches refl, d.through refl, put)
   went (Some failure) old new added before after does put = λ w m may. let d = does w m may in (d.moves, d.next, added, d.comes, put)
 
-  -- where a turn may begin, one does
+  -- if a turn may begin, one does
   may_begin : (w : World) → MayTurn w → MayBegin tariffs tariff rules rule w
   may_begin w (idle, undue, inl (between, closed, some)) = inl (between, closed)
   may_begin w (idle, undue, inr stepped) = inr stepped
@@ -276,7 +276,7 @@ module _ {F U : Type 0} (tariffs : Shared F (Bor Usage × Unit {0}) Charge) (tar
             through = λ none. (refl, inl refl);
           }
 
-      -- A FRONT OF ONE
+      -- A PREFIX OF ONE
       part_does : (new : StoreFacts) (system : SystemFacts) (c' : CrewState) → RanInPart Answers job.user old (turn_work job) new → LeftBy new system
           → (w : World) → Matches w (seen (Up old) c count) → MayTurn w → Doing w (seen (Up old) c count) (Some Memory) (seen system c' count) []
       part_does new system c' ran left w m may =

@@ -24,7 +24,7 @@ use Rattle.g_day.proofs.BesideLemmas.{ready_beside}
 use Rattle.g_day.proofs.LabelLemmas.{same_itself}
 use Rattle.g_day.proofs.PutLemmas.{grown_then, same_grown}
 
--- THE COUNT HAS ROOM for a tick where there is one to be done
+-- THE COUNT HAS ROOM for a tick if there is one to do
 pub room_one : (limit : Option ℕ) (s : Seen) → HasRoom limit s → is_past limit s.count ≡ false → s.count < 18446744073709551615
 room_one None s room undue = omega (arith, room)
 room_one (Some turn) s room undue = let below = leb-false turn s.count undue in omega (arith, room, below)
@@ -126,7 +126,7 @@ module _ {F U : Type 0} (tariffs : Shared F (Bor Usage × Unit {0}) Charge) (tar
   }
   ticks_end s (Some failure) f c count before after faults faults' did ends = record { goes = did.goes; keeps = did.keeps; late = did.late; grows = did.grows; aside = did.aside }
 
--- what a loop over ticks has left to do
+-- what a loop of ticks has left to do
 abbrev pub ticks_left : Option Failure → ℕ → ℕ
 ticks_left None n = n + 1
 ticks_left (Some failure) n = 0

@@ -69,11 +69,11 @@ still_all old new c c' accounts same all quiet =
     subst (λ (w : WatchedFacts). HaveAccounts w.running.online.contents.users c'.accounts) (sym is)
     ((λ user some. let has = before user some in rw (sym accounts) at has))
 
--- where each user has one, none opens
+-- if each user has one, none opens
 pub opens_none : (users : List UserRec) (c : CrewState) → HaveAccounts users c.accounts → Opens users c c
 opens_none users c all = record { accounts = λ s accounts rows are. none_opens s accounts c.accounts users all rows are; others = refl }
 
--- nothing was put
+-- nothing was printed
 pub nothing_more : (before : Option (List ℕ)) → before ≡ with_more before []
 nothing_more None = refl
 nothing_more (Some bytes) = ap (λ (l : List ℕ). let o : Option (List ℕ) = Some l in o) (sym (append-nil bytes))
@@ -82,7 +82,7 @@ nothing_more (Some bytes) = ap (λ (l : List ℕ). let o : Option (List ℕ) = S
 pub still_up : (s s' : StoreFacts) → s' ≡ s → s.spent ≡ false → left_of s' ≡ Up s
 still_up s s' same running = ap left_of same ∙ left_up s running
 
--- where memory ran out at the opening nothing was put
+-- if memory ran out at the opening nothing was printed
 pub goes_nowhere : (s s' : StoreFacts) (text : List ℕ) (c c' : CrewState) (before : Option (List ℕ)) (faults : ℕ) → s' ≡ s → s.spent ≡ false → GoesOn s text c (Some Memory) (left_of s') c' before before faults faults
 goes_nowhere s s' text c c' before faults same running = record {
   up = still_up s s' same running;
