@@ -1,4 +1,4 @@
--- THE USERS of a store, as the state that it stands for has them.
+-- The users of a store, as the state that it represents has them.
 use Rattle.std.proofs.Common.{◌≡◌, ℕ, false, List, refl, sym, ◌∙◌, ap, subst}
 use Rattle.std.specs.Prelude.{is_some}
 use Rattle.std.specs.FinMap as finmap

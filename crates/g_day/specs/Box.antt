@@ -1,4 +1,4 @@
--- THE STORE IN ITS BOX, which is never empty. What an empty one would be seen as is of no account.
+-- The store in its box, which is never empty. What an empty box would represent doesn't matter.
 use Rattle.std.specs.Prelude.{false, [], Option, Some, None}
 use Rattle.g_base.specs.Fuse.{never}
 use Rattle.g_slots.specs.declared.side.Side.TheVariants.{A}

@@ -1,4 +1,4 @@
--- ACCOUNTS OPEN for the users of a store, in whatever state it stands for.
+-- Accounts open for the users of a store, in every state that it represents.
 use Rattle.std.specs.Prelude.{◌≡◌, List}
 use Rattle.g_entry.specs.declared.user_rec.UserRec.{UserRec}
 use Rattle.g_store_model.specs.State.{State}

@@ -17,7 +17,7 @@ use Rattle.g_laws_store.proofs.ClosingLemmas.{contains_filter}
 use Rattle.g_laws_store.proofs.RecordLemmas.{OtherUser, from_filter, gathered_by, gathered_few, gathered_pairs, owned, pairs_head, pairs_tail, pairs_append}
 use Rattle.g_dumper.specs.Beginning.{held_of}
 
--- A USER FOR EACH NUMBER, so that files go by users
+-- A USER FOR EACH NUMBER, so that files are ordered by users
 numbered_user : ℕ → UserRec
 numbered_user n = record { number = n; user = []; superior = 0; space = 0; time = 0; money = 0 }
 

@@ -1,4 +1,4 @@
--- A store keeps what it keeps over a step of its open dump.
+-- A store preserves its invariant in a step of its open dump.
 use Rattle.std.proofs.Common.{◌≡◌, ◌≢◌, ℕ, zero, suc, ◌+◌, ◌<◌, ◌≤◌, Bool, true, false, List, [], ◌∷◌, ◌++◌, length, map, Option, Some, None, Ok, Err, refl, sym, ◌∙◌, ap, arith, subst, inl, inr, true≢false}
 use Rattle.std.specs.Prelude.{◌⊎◌, All, Contains, IfSome, Result, is_some, slice_get}
 use Rattle.std.specs.Option.{ForSome}
@@ -148,7 +148,7 @@ module _ (d : DumpFacts) (o : OnlineFacts) (old new : Rack) (reels : AreReels ol
         one_of blocks c holds (inl was) = subst (DiscBelongs text next (told_reels new)) (holds_one blocks o.contents c was holds) ready_marked.disc
         one_of blocks c holds (inr made) = subst (DiscBelongs text next (told_reels new)) (holds_one blocks (closed_by d.plan.number o) c made holds) up_closed.disc
 
-  -- WHAT IS KEPT by each answer
+  -- WHAT IS PRESERVED by each answer
   module _ (wrote : WroteBlock d o.pins old new) where
     serials_kept : map (λ (r : Reel). r.serial) new.reels ≡ map (λ (r : Reel). r.serial) old.reels
     serials_kept = same_reels d old new (Torn wrote.block) old.write_faults wrote.rack

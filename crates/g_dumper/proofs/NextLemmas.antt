@@ -73,7 +73,7 @@ at_content d j k block is sum =
     ap (slice_get (header_block d ∷ (users ++ (files ++ rest)))) (let next : k ≡ suc (length users + (length files + j)) = omega (arith, sum, long, long_files) in next)
     ∙ get_behind users (files ++ rest) (length files + j) ∙ get_behind files rest j ∙ get_front d.content (mark_block d ∷ []) j block is
 
--- THE NEXT BLOCK is what the writer put there, or a block of a version
+-- THE NEXT BLOCK is what the writer wrote there, or a block of a version
 module _ (d : DumpFacts) (pins : Option (List Pin)) (ps : List Pin) (block : List ℕ) (at : pins ≡ Some ps)
     (are : ArePinned d.plan.serial (first_content d.plan) (waiting d.plan.files) ps) where
   pub next_ready : IsReadyAt d.plan d.done block → IsNextBlock d pins block

@@ -1,4 +1,4 @@
--- A store keeps what it keeps over the opening of a dump.
+-- A store preserves its invariant in the opening of a dump.
 use Rattle.std.proofs.Common.{◌≡◌, ℕ, ◌+◌, ◌≤◌, Bool, true, List, [], ◌∷◌, get_or, map, take, Option, Some, None, Ok, Err, refl, sym, ◌∙◌, ap, subst, inl, inr}
 use Rattle.std.specs.Prelude.{◌⊎◌, All, Contains, IfErr, IfOk, IfSome, Result, is_some}
 use Rattle.std.proofs.lemmas.List.Elements.{All-contains, All-cons, All-head, All-nil, All-tail, Contains-get_or}
@@ -116,7 +116,7 @@ module _ (serial place : ℕ) (rack after : Rack) (on : Reel) (reads : OnlyReads
       let found : blocks_of serial rack ≡ Some blocks = sym (blocks_after_reads serial rack after reads) ∙ ap blocks_in on_is ∙ at in
       end_is.is blocks found (shelf serial) (subst (λ (n : ℕ). AreCompleted n blocks (shelf n)) on_named (shelved.each (unread on) on_there blocks at))
 
-  -- none of its dumps is newer than the last one
+  -- each of its dumps is at most as new as the last one
   pub shelf_quiet : (last : ℕ) → ((d : Dump) → Contains (all_dumps shelf (told_reels after)) d → d.number ≤ last) → All (λ (d : Dump). d.number ≤ last) (shelf serial)
   shelf_quiet last quiet = λ k d within.
       let x = get_or (shelf serial) k d in

@@ -62,7 +62,7 @@ module _ {F U : Type 0} (tariffs : Shared F (Bor Usage × Unit {0}) Charge) (tar
   holds_by w n job here (inl one) = one
   holds_by w n job here (inr none) = nobody n w.jobs job none here
 
-  -- a turn goes on
+  -- a turn continues
   call_goes : (w : World) (n : ℕ) (call : StoreCall) (more : Answer → Asks Work) → IsReadyWorld w → w.turn ≡ Some (n, Call call more) → Goes w
   call_goes w n call more ready is =
       let (job, here) = ready.turn n (Call call more) is in

@@ -85,7 +85,7 @@ module _ (d : OpenDump) where
       third_true (lacks s serial) (not (is_mounted s serial)) NoTape NotMounted (DumpOpen (open_number s.open_dump)) rest
       (subst (λ (b : Bool). first_fault ((lacks s serial, NoTape) ∷ (not (is_mounted s serial), NotMounted) ∷ (b, DumpOpen (open_number s.open_dump)) ∷ rest) ≡ None) (ap is_some opened) none)
 
-  -- behind a line that asked the store, and left it at s
+  -- after a line that called the store, and left it at s
   told : (w new v : World) (s : State) → new ≡ v → v.store ≡ s → StaysOrGoes d s.open_dump → StaysOrGoes d new.store.open_dump
   told w new v s is same it = at_state s new.store (ap (λ (x : World). x.store) is ∙ same) it
 

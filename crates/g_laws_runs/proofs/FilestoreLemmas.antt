@@ -110,7 +110,7 @@ dump_one s k d o (Err Stopped) new old (cut, inr (last, inl is)) = ap (λ (x : S
 dump_one s k d o (Err Stopped) new old (cut, inr (last, inr is)) = ap (λ (x : State). is_some x.holding) is
 dump_one s k d o (Err fault) new old step = absurd step
 
--- devices that stand for a state have a filestore just where it holds one
+-- devices that represent a state have a filestore if and only if it holds one
 pub state_holds : (d : Devices) (s : State) → StandFor d s → HasFilestore d → HoldsOne s
 state_holds d s stand has = ap (λ (x : State). is_some x.holding) stand.is ∙ by stand.contents stand.disc
   where

@@ -1,4 +1,4 @@
--- A START behind any move, and in a later run.
+-- START after any move, and in a later run.
 use Rattle.std.proofs.Common.{◌≡◌, ℕ, Option, Some, None, option_map, refl, ◌∙◌, ap, inl, inr}
 use Rattle.std.specs.Prelude.{◌⊎◌}
 use Rattle.std.specs.Fn.{Shared}
@@ -18,7 +18,7 @@ use Rattle.g_laws_runs.specs.NewDevices.{StatesAreOne}
 use Rattle.g_laws_runs.specs.LaterRuns.{LaterRunsKeep, StartIsBehind}
 use Rattle.g_laws_runs.proofs.RefusedLemmas.{keeping}
 
--- a store that goes down keeps its tree
+-- a store that goes down has the same tree
 tree_down : (h : Option Holding) → option_map (λ (k : Holding). k.tree) (option_map no_longer_kept h) ≡ option_map (λ (k : Holding). k.tree) h
 tree_down None = refl
 tree_down (Some k) = refl

@@ -36,7 +36,7 @@ use Rattle.std.proofs.lemmas.Bool.{false≢true}
 use Rattle.g_script.specs.declared.operator.Timed.{Timed}
 use Rattle.g_run_model.proofs.StepLemmas.{call_kept}
 
--- a reel that is as it was, or was mounted, unmounted or written
+-- a reel that is unchanged, or was mounted, unmounted or written
 row_same : (n : ℕ) (r q : ReelRow) → q.serial ≡ r.serial → q.capacity ≡ r.capacity → q.dumps ≡ r.dumps → IsGrown n r q
 row_same n r q serial capacity dumps = record { serial = serial; capacity = capacity; more = []; dumps = dumps ∙ sym (append-nil r.dumps); few = omega arith }
 
@@ -112,7 +112,7 @@ restore_grows : (s : State) (f : Option StoreFault) (o : Outcome) (r : Result �
 restore_grows s None o r new step = restores_grow s s.dumped o r new step
 restore_grows s (Some fault) o r new (err, is) = still 0 s new (ap (λ (x : State). x.reels) is)
 
--- of the world's store behind a line
+-- for the world's store after a line
 told : (w new v : World) (s : State) → new ≡ v → v.store ≡ s → Grows 0 w.store s → Grows 0 w.store new.store
 told w new v s is same it = at_state 0 w.store s new.store (ap (λ (x : World). x.store) is ∙ same) it
 

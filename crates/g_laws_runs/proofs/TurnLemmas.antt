@@ -92,7 +92,7 @@ module _ {F U : Type 0} (tariffs : Shared F (Bor Usage × Unit {0}) Charge) (tar
       }
 
   module _ (plainly : AnswersPlainly) (keep : RefusalsKeep) (stops : StopsLeave) where
-    -- the rest of the moves, whatever is left of the program then
+    -- the rest of the moves, for any rest of the program
     abbrev Rest : ℕ → JobState → World → World → ℕ → Option Charge → World → Type 0
     Rest number job mid before ended charge new =
         (tree : Tree) (asks : Asks Work) → mid.turn ≡ Some (number, asks) → job_of mid number ≡ Some job → tree_of mid.store ≡ Some tree → RestOf job tree number asks ended charge mid before new
@@ -117,7 +117,7 @@ module _ {F U : Type 0} (tariffs : Shared F (Bor Usage × Unit {0}) Charge) (tar
           kept = behind_made w mid before s (Some (asker, more answer)) w.phase made r.kept;
         }
 
-    -- no other move comes within a turn
+    -- no other move occurs within a turn
     one_within : (job : JobState) (tree : Tree) (number : ℕ) (asks : Asks Work) (ended : ℕ) (charge : Option Charge) (move : Move) (w mid before new : World) → w.turn ≡ Some (number, asks) → job_of w number ≡ Some job
         → tree_of w.store ≡ Some tree → IsWithin move → Step tariffs tariff rules rule w move mid → Rest number job mid before ended charge new → RestOf job tree number asks ended charge w before new
     one_within job tree number asks ended charge (TakeLine tape o) w mid before new turn_is here there within (line, others, lines, between, idle, due, is_tape, gives) rest = idle_turn w.turn (number, asks) turn_is idle

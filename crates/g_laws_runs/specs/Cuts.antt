@@ -1,5 +1,5 @@
--- WHOSE A FAILED WRITE IS: of the disc in every event but a step of the open dump and a PROCESS, which write reels too. So where the disc's
--- count didn't rise, whatever the rack's did, no call of a run was cut, and no line of it but a PROCESS.
+-- Which device failed: the disc in every event except a dump step and PROCESS, which also write reels. Therefore, if the
+-- disc's counter didn't rise, no call of a run was interrupted and no line except a PROCESS, for any counts of the rack.
 use Rattle.std.specs.Prelude.{◌≡◌, ◌≢◌, true, List, All}
 use Rattle.g_base.specs.Counts.{Rose}
 use Rattle.g_store_model.specs.CallStep.{Cut}

@@ -1,4 +1,5 @@
--- A FILESTORE STAYS: a store that holds one goes on to hold one, whatever is done and whatever fails; and so do the devices under it.
+-- A filestore is never lost: a store that holds one still does after any run, including all failures; and so do its
+-- devices.
 use Rattle.std.specs.Prelude.{◌≡◌, ℕ, true, List, Option, Some, is_some}
 use Rattle.std.specs.Fn.{Shared}
 use denote.Ref.{Bor}
@@ -13,7 +14,7 @@ use Rattle.g_run_model.specs.Moves.{Move, Run}
 use Rattle.g_run_model.specs.Top.{RunOf}
 use Rattle.g_run_model.specs.World.{World}
 
--- the disc tells what it holds, and this is a filestore
+-- The disc exposes its contents, which are a filestore.
 pub record HasFilestore (d : Devices) : Type 0 where
   pub blocks : List (List ℕ)
   pub contents : Contents

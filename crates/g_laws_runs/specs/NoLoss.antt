@@ -1,4 +1,4 @@
--- NOTHING IS LOST: in no run over devices that belong together does a RESTORE name a lost directory or copy.
+-- Nothing is lost: in no run on devices that belong together does a RESTORE name a lost directory or copy.
 use Rattle.std.specs.Prelude.{ℕ, List, Option, Result}
 use Rattle.std.specs.Fn.{Shared}
 use denote.Ref.{Bor}

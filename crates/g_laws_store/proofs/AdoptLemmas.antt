@@ -162,7 +162,7 @@ module _ (k : state.Holding) (serial from to : ℕ) (places : FinMap nat_cmp sta
     other_is : (stamp : ℕ) (p : state.Place) (o : Option TapeCopy) → get (own_copies k places) stamp ≡ o → other_copy (get d.own stamp) p ≡ other_copy o p
     other_is stamp p o is = ap (λ (m : FinMap nat_cmp TapeCopy). other_copy (get m stamp) p) own_is ∙ ap (λ (x : Option TapeCopy). other_copy x p) is
 
-    -- a version that doesn't wait keeps its copy
+    -- a version that doesn't wait has the same copy
     same_copy : (e : Full × FileRow) (p : state.Place) → Contains es e → get k.places e.1.stamp ≡ Some p → waits k e ≡ false → other_copy (state.place_at places e.1.stamp).copy p ≡ p
     unfolding with_tape
     same_copy e p there has isnt = by_length (cases_eq (length e.1.bytes) 0)

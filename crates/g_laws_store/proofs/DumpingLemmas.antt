@@ -1,4 +1,4 @@
--- Events that aren't a job's keep what a store that is up keeps.
+-- Events that aren't a job's preserve the invariant of a store that is up.
 use Rattle.std.proofs.Common.{◌≡◌, ℕ, ◌≤◌, List, [], ◌∷◌, ◌++◌, Option, Some, None, refl, sym, ◌∙◌, ap, subst}
 use Rattle.std.specs.Prelude.{◌⊎◌, All, Contains, IfSome, map}
 use Rattle.std.specs.Option.{ForSome}

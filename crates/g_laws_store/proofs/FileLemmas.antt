@@ -1,4 +1,4 @@
--- Files that are taken off, brought back, or put among others.
+-- Files that are taken off, brought back, or inserted among others.
 use Rattle.std.proofs.Common.{◌≡◌, ℕ, Bool, true, false, List, [], ◌∷◌, ◌++◌, get_or, Option, None, refl, sym, ◌∙◌, ap}
 use Rattle.std.specs.Prelude.{◌==◌, All, Contains, filter, map, nat_lt, if◌then◌else◌}
 use Rattle.std.proofs.lemmas.List.{map-append}
@@ -39,7 +39,7 @@ of_stamp files f distinct numbered there i d within =
       λ same. ap (λ (h : File). h.rec.number) (one_of_key (λ (h : File). h.rec.stamp) files g f distinct in_files there same),
     )
 
--- a file put among others, by their records
+-- a file inserted among others, by their records
 pub recs_with : (f : File) (files : List File) → map (λ (g : File). g.rec) (with_file f files) ≡ records.with_file f.rec (map (λ (g : File). g.rec) files)
 recs_with f files =
     map-append (λ (g : File). g.rec) (filter (λ (g : File). nat_lt g.rec.number f.rec.number) files) (f ∷ filter (λ (g : File). nat_lt f.rec.number g.rec.number) files)

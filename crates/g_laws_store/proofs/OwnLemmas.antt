@@ -68,7 +68,7 @@ reel_end shelf serial (r ∷ rs) there = by_serial (cases_eq serial r.serial) (�
     by_serial (inr other) rest =
         ap (λ (b : Bool). state.end_in (if b then Some (row_of shelf r) else state.reel_at serial (map (row_of shelf) rs))) (ne_eqb serial r.serial other) ∙ rest other
 
--- one who is kept has no copy of the dump's own
+-- a user who is kept has no copy of the dump's own
 pub chosen_copy : (b : Bool) (n : ℕ) (o : Option TapeCopy) → (if b then [] else state.copy_entry n o) ≡ state.copy_entry n (if b then None else o)
 chosen_copy true n o = refl
 chosen_copy false n o = refl

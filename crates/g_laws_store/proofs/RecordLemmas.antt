@@ -1,4 +1,4 @@
--- Records that are gathered user by user keep the rules that they kept in order of number.
+-- Records that are gathered user by user satisfy the rules that they satisfied in order of number.
 use Rattle.std.proofs.Common.{◌≡◌, ◌≢◌, ℕ, zero, suc, ◌+◌, ◌<◌, ◌≤◌, Bool, true, false, List, [], ◌∷◌, ◌++◌, get_or, length, refl, sym, ◌∙◌, ap, arith, subst, inl, inr}
 use Rattle.std.specs.Prelude.{◌⊎◌, ◌==◌, All, AllPairs, Contains, filter, map}
 use Rattle.std.specs.List.{flat_map}
@@ -143,7 +143,7 @@ users_apart users are i j d less within same =
     let two = user_at users are j d within in
     (let no : ⊥ = omega (arith, less, same, one, two) in no)
 
--- WHAT DOESN'T GO BY NUMBERS
+-- WHAT DOESN'T DEPEND ON NUMBERS
 all_unmapped : {A : Type 0} (P : A → Type 0) (f : A → A) (xs : List A) → All P (map f xs) → All (λ x. P (f x)) xs
 all_unmapped P f [] all = All-nil (λ x. P (f x))
 all_unmapped P f (x ∷ xs) all = All-cons (λ y. P (f y)) x xs (All-head P (f x) (map f xs) all) (all_unmapped P f xs (All-tail P (f x) (map f xs) all))

@@ -93,7 +93,7 @@ cause_of s k who call o fault new step = by_early (refused (λ g. new ≡ s) (ea
     by_early (inr (some, e)) =
         at_early s k who call o fault (fault_of k.tree who call) (is_offline s k who call) (is_mounted s (reel_of s k who call)) (is_tape_read o) refl refl refl some
 
--- a fault of devices is none of the plain step's
+-- a device's fault is none of the plain step's
 never_plain : {A : Type 0} (tree : Tree) (who : List ℕ) (call : StoreCall) (fault : StoreFault) → is_plain fault ≡ false → fault_of tree who call ≡ Some fault → A
 never_plain tree who call fault isnt e =
     let is : is_plain fault ≡ true = own_fault tree who call fault fault (sym e) refl in

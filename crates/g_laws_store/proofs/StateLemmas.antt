@@ -24,7 +24,7 @@ use Rattle.g_laws_store.proofs.PinLemmas.{both_told}
 use Rattle.g_laws_store.proofs.UpOneLemmas.{on_all, reel_named}
 use Rattle.g_store_meaning.proofs.ViewLemmas.{Stands, back}
 
--- THE DUMPED DIRECTORY, where there is a dump
+-- THE DUMPED DIRECTORY, if there is a dump
 abbrev pub dumped_in : (dumps : List Dump) → ((d : Dump) → Contains dumps d → DumpedDirectory dumps) → Option (DumpedDirectory dumps)
 dumped_in [] tree = None
 dumped_in (d ∷ ds) tree = Some (tree d (0, omega arith, refl))

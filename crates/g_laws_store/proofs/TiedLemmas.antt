@@ -1,4 +1,5 @@
--- A store whose filestore is tied to its disc: its devices belong together, and what it keeps goes by parts of the filestore.
+-- A store whose filestore is tied to its disc: its devices belong together, and its invariant depends on parts of the
+-- filestore.
 use Rattle.std.proofs.Common.{◌≡◌, ℕ, Bool, true, false, List, Option, Some, None, sym, ◌∙◌, ap, subst, true≢false}
 use Rattle.std.specs.Prelude.{IfSome, not}
 use Rattle.std.specs.Option.{ForSome}
@@ -67,7 +68,7 @@ moved text shelf s new e contents pins was =
       open_dump = open_again text shelf (told_reels s.rack) s.online new s.dump two.open_dump;
     }
 
--- A COMMIT that drops the intent, or keeps it
+-- A COMMIT that drops the intent, or preserves it
 pub committed_belongs : (text : ℕ → List ℕ) (shelf : ℕ → List Dump) (reels : List Reel) (b : Bool) (c : Contents) → IsQuiet shelf reels c → DiscBelongs text shelf reels c
     → DiscBelongs text shelf reels (committed b c)
 committed_belongs text shelf reels true c quiet belongs = belongs

@@ -101,7 +101,7 @@ module _ (shelf : ℕ → List Dump) (reels : List Reel) (told : ReelsTold reels
       both e f (inr is_e) (inl in_f) same = inr (inr (subst (λ (x : Dump). ends f ≤ x.place) is_e (before f in_f (sym same ∙ ap (λ (x : Dump). x.serial) (sym is_e)))))
       both e f (inr is_e) (inr is_f) same = inl (sym is_e ∙ is_f)
 
--- the intent's place is the end of its reel's dumps, where none is newer than the last one
+-- the intent's place is the end of its reel's dumps, if none is newer than the last one
 pub placed_at_end : (text : ℕ → List ℕ) (shelf : ℕ → List Dump) (reels : List Reel) (c : Contents) (i : Intent) → DiscBelongs text shelf reels c
     → ((d : Dump) → Contains (all_dumps shelf reels) d → d.number ≤ c.head.last_dump) → c.head.intent ≡ Some i → i.place ≡ end_of (shelf i.serial)
 placed_at_end text shelf reels c i disc quiet is =

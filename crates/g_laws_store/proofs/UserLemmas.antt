@@ -130,7 +130,7 @@ same_names m n same = same_map text_total text_exact m n (λ q. one_of (get m q)
 pub is_called : (q : List ℕ) (u : UserRec) → called q u ≡ true → q ≡ u.user
 is_called q u e = tied_are text_total text_exact q u.user e
 
--- who is called so has the number, and the other way round
+-- the user of this name has the number, and conversely
 module _ (users : List UserRec) (numbers : List ℕ) (u : UserRec) (named : All (IsNamed u.number u.user) users) where
   of_number : (q : List ℕ) → called q u ≡ true → All (λ (v : UserRec). called q v ≡ true → v.number ≡ u.number) users
   of_number q is = All-weaker (IsNamed u.number u.user) (λ (v : UserRec). called q v ≡ true → v.number ≡ u.number) (λ v n e. n.1 (sym (is_called q v e) ∙ is_called q u is)) users named

@@ -53,7 +53,7 @@ candidates_more files i f inside at =
 abbrev recs_of : List File → List FileRec
 recs_of files = map (λ (f : File). f.rec) files
 
--- the candidates are those of the files in front of them
+-- the candidates are those of the preceding files
 pub record IsListed (files : List File) (left : List FileRec) (candidates : List Candidate) : Type 0 where
   pub place : ℕ
   pub left_is : left ≡ drop place (map (λ (f : File). f.rec) files)

@@ -1,4 +1,4 @@
--- A store keeps what it keeps where files of its filestore are taken off the disc.
+-- A store preserves its invariant when files of its filestore are taken off the disc.
 use Rattle.std.proofs.Common.{◌≡◌, ℕ, ◌<◌, Bool, true, false, List, [], Option, Some, None, refl, sym, ◌∙◌, ap, subst, arith, inl, inr, if◌then◌else◌}
 use Rattle.std.specs.Prelude.{◌⊎◌, ◌||◌, IfSome, is_some, not}
 use Rattle.g_tape.specs.Rack.{Rack}
@@ -65,7 +65,7 @@ dump_kept (Some d) o new rack numbers pins contents is = open_kept d o new rack 
 grows_to : (old new : List ℕ) → new ≡ old → (n : ℕ) → holds old n ≡ true → holds new n ≡ true
 grows_to old new same n is = ap (λ (l : List ℕ). holds l n) same ∙ is
 
--- WHERE IT IS DONE
+-- IF IT IS DONE
 module _ (s : StoreFacts) (new : OnlineFacts) (numbers : List ℕ) (done : HasChanged (Unload numbers) s.online new) (tied : IsTied new) (unspent : s.spent ≡ false) (store : IsStore s) where
   pub store_after : IsStore (with_online new s)
   store_after = record {
@@ -116,7 +116,7 @@ keeps_done numbers old new done tied = record {
   belongs = λ s at unspent store was. belongs_after s new numbers (subst (λ (o : OnlineFacts). HasChanged (Unload numbers) o new) (sym at) done) tied unspent store was;
 }
 
--- WHERE IT WAS STOPPED the store is spent
+-- IF IT WAS STOPPED the store is spent
 module _ (s : StoreFacts) (new : OnlineFacts) (numbers : List ℕ) (stopped : HasStopped (Unload numbers) s.online new) (tied : IsTied new) (unspent : s.spent ≡ false) where
   pub store_stopped : IsStore (with_online new s)
   store_stopped = spent_store s new stopped.live tied

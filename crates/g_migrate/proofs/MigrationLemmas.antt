@@ -1,4 +1,4 @@
--- One file that goes off the disc: that it may, and how it is answered.
+-- One file that is taken off the disc: that this is permitted, and how it is answered.
 use Rattle.std.proofs.Common.{◌≡◌, ◌≢◌, ℕ, zero, suc, ◌==◌, Bool, true, false, List, [], ◌∷◌, get_or, map, Option, Some, None, Ok, Err, refl, sym, ◌∙◌, ap, subst, arith, inl, inr, if◌then◌else◌, true≢false}
 use Rattle.std.specs.Prelude.{◌⊎◌, ◌↔◌, ◌||◌, All, Contains, OnErr, Result, is_some}
 use Rattle.std.specs.FinMap.{get}
@@ -92,7 +92,7 @@ refused o number fault other tied = record {
   told = refl;
 }
 
--- WHAT A STORE KEEPS
+-- THE INVARIANT OF A STORE
 keeps_by : (o new : OnlineFacts) (number : ℕ) (fault : StoreFault) → o.live ≡ true
     → (let r : Result (Unit {0}) StoreFault = Err fault in HasMigrated number o new r × ((r ≡ Err Stopped) ⊎ (r ≡ Err NoMemory))) → KeepsStore o new
 keeps_by o new number fault live (is, inl stopped) = keeps_stopped (number ∷ []) o new (is.stopped stopped) is.tied

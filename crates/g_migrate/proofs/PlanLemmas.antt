@@ -23,7 +23,7 @@ use Rattle.g_online.specs.Room.{FitsDisc}
 use Rattle.g_migrate.specs.UnjamPlan.{IsOlder, IsRoomWithout}
 use Rattle.g_migrate.proofs.FrontLemmas.{AreRising, IsFront, below, fewer_below, until_front, until_of}
 
--- WHAT IS KEPT AND MADE of a list
+-- WHAT IS LEFT AND BUILT of a list
 pub made_there : {A B : Type 0} (p : A → Bool) (f : A → B) (xs : List A) (x : A) → Contains xs x → p x ≡ true → Contains (map f (filter p xs)) (f x)
 made_there p f [] x (i, inside, is) pass = let no : ⊥ = omega (arith, inside) in absurd no
 made_there {A} {B} p f (y ∷ ys) x there pass = by_case (made_there p f ys x) (contains_cases y x ys there) (cases_Bool (p y))
@@ -382,7 +382,7 @@ module _ (o : OnlineFacts) (need : ℕ) (sorted : List Candidate) (taken : List 
     least = at_least;
   }
 
--- where the room suffices nothing is taken
+-- if the room suffices nothing is taken
 pub none_taken : (sorted : List Candidate) (start need : ℕ) (taken : List ℕ) (room : ℕ) → TakesFirst sorted start need taken room → need ≤ start → (taken ≡ []) × (room ≡ start)
 none_taken sorted start need taken room first suffices = by_count first.count first.numbers first.room_is first.least
   where

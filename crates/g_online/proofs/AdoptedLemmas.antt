@@ -32,7 +32,7 @@ use Rattle.g_online.proofs.TieLemmas.{rec_of}
 abbrev Tapes : Type 0
 Tapes = List (ℕ × TapeCopy)
 
--- AN EMPTY FILE has no copy in the list, where its record has none then
+-- AN EMPTY FILE has no copy in the list, if its record has none then
 none_for : (copies : Tapes) (stamp : ℕ) (old : Option TapeCopy) → copy_of copies stamp old ≡ None → All (λ (c : ℕ × TapeCopy). c.0 ≢ stamp) copies
 none_for [] stamp old none = λ k d within. (let no : ⊥ = omega (arith, within) in absurd no)
 none_for (c ∷ cs) stamp old none = by_first (cases_Bool (c.0 == stamp)) (none_for cs stamp old)
@@ -164,7 +164,7 @@ adopting_is last copies all old o new result all_is is noted = subst (λ (p : On
   only = noted.only;
 })
 
--- WHERE RECORDS ARE MADE READY: what the tree asks for, and what they are
+-- IF RECORDS ARE PREPARED: what the tree requires, and what they are
 module _ (copies : Tapes) (held : Option (List (List ℕ))) (head : Head) (users : List UserRec) (files : List FileRec) (online : List (ℕ × DiscCopy)) (c : Contents) (is : contents_of held (directory_of head users files online) ≡ c) where
   pub ready_rules : IsRecords c.users (map (copied_rec copies) (recs_in c)) → IsRecords users (map (copied_rec copies) files)
   ready_rules rules =

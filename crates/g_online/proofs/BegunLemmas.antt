@@ -82,7 +82,7 @@ any_there (x ∷ xs) n (suc k) below is = or_right (x == n) (has xs n) (any_ther
 pub has_user : (users : List UserRec) → AreUsers users → (n : ℕ) → n < length users → has (all_numbers users) n ≡ true
 has_user users are n below = any_there (all_numbers users) n n (omega (arith, below, length-map users (λ (u : UserRec). u.number))) (number_at users are n below 0)
 
--- ALL IS MARKED where nothing is remembered
+-- ALL IS MARKED if nothing is remembered
 marked_none : (k : ℕ) → slice_get (replicate 1088 true) k ≡ Some false → ⊥
 marked_none k is =
     let within = slice_get_within (replicate 1088 true) k false is in

@@ -1,4 +1,4 @@
--- A write into copy blocks that are free leaves what is kept of a filestore.
+-- A write into free copy blocks preserves the invariant of a filestore.
 use Rattle.std.proofs.Common.{◌≡◌, ◌⊎◌, ℕ, zero, suc, ◌-◌, ◌||◌, Bool, true, false, not, List, [], ◌∷◌, filter, Option, Some, None, All, refl, sym, ◌∙◌, ap, subst, arith, slice_get, inl, inr}
 use Rattle.std.specs.List.{flat_map}
 use Rattle.std.specs.Prelude.{Contains, unwrap_or}
@@ -119,7 +119,7 @@ module _ (before after : DiscState) (m : Memory) (places : List ℕ) (kept : IsK
       by_pins None is are = refl
       by_pins (Some pins) is are = same_told pins before.held after.held changes (pins_away before.size m.head.next_stamp pins is are.each)
 
-  -- AND SO IS ALL THAT IS KEPT
+  -- AND SO IS THE WHOLE INVARIANT
   pub beside_kept : ForSome after.held (AreWhole after.size) → IsKept after m
   beside_kept whole =
       let low = kept.size in

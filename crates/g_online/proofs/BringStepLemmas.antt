@@ -169,7 +169,7 @@ off_copied r lies = by_case lies.lies
     by_case (inl is) = (let no : ⊥ = cc in absurd no)
     by_case (inr is) = is
 
--- a file put in its own place
+-- a file inserted at its own place
 same_rec : (r0 : FileRec) (files : List FileRec) → AllPairs (λ r s. r.number < s.number) files → Contains files r0 → All (λ r. r.number ≡ r0.number → r ≡ r0) files
 same_rec r0 [] rising there k d inside same = let no : ⊥ = omega (arith, inside) in absurd no
 same_rec r0 (x ∷ files) rising (zero, within, is) zero d inside same = is

@@ -16,7 +16,7 @@ use Rattle.g_online.specs.Copies.{with_copy_at, without_copy, without_copies}
 use Rattle.g_online.proofs.CopyLemmas.{Copies}
 use Rattle.g_online.proofs.ContentLemmas.{Told, files_of, erased, put_in, taken_away, brought_back, copies_noted, bytes_are}
 
--- the head of a commit: while versions are pinned it keeps the intent
+-- the head of a commit: it has the intent while versions are pinned
 abbrev pub committed_head : Bool → Head → Head
 committed_head true head = head
 committed_head false head = record head { intent = None }

@@ -1,4 +1,5 @@
--- A dump is closed: its versions are let go, their places on tape are noted as those of a dump that was completed, and who was touched counts as changed.
+-- A dump is closed: its versions are unpinned, their places on tape are noted as those of a completed dump, and touched
+-- users count as changed.
 use Rattle.std.proofs.Common.{◌≡◌, ◌≢◌, ◌⊎◌, ℕ, ◌<◌, ◌==◌, ◌||◌, Bool, true, false, List, [], ◌∷◌, length, get_or, map, Option, Some, None, Result, Ok, Err, All, AllPairs, refl, sym, ◌∙◌, ap, subst, arith, inl, inr}
 use Rattle.std.specs.Prelude.{is_some}
 use Rattle.std.proofs.lemmas.Bool.{cases_Bool, cond-false, cond-true}
@@ -98,8 +99,7 @@ noted_closed users size next files online changed touched (Some pins) some was a
   waits = waits_closed pins touched files online are.waits;
 }
 
--- THE CLOSING, as the places of a completed dump are noted, once the versions were let go
--- what is known before it
+-- THE CLOSING, as the places of a completed dump are noted, after the versions were unpinned: what is known before it
 pub record IsToClose (last : ℕ) (before : DiscState) (m : Memory) : Type 0 where
   pub kept : IsKept before m
   pub live : m.live ≡ true
@@ -115,7 +115,7 @@ to_close last before m o is kept live some rules = record {
 }
 
 module _ (last : ℕ) (before : DiscState) (m : Memory) (may : IsToClose last before m) (files : List FileRec) (pins : List Pinned) (files_are : files ≡ m.files) (pins_are : pins ≡ pinned_in m.pins) where
-  -- what giving their blocks back asks for
+  -- what giving their blocks back requires
   pub lost_to_close : AllPairs (λ j k. j ≢ k) (lost_places files pins) × All (IsTaken m.pool) (lost_places files pins)
   lost_to_close = lost_blocks before m may.kept may.live files pins files_are pins_are
 
@@ -145,7 +145,7 @@ module _ (last : ℕ) (before : DiscState) (m : Memory) (may : IsToClose last be
       rules = subst KeepsRules (sym (adopted_is (is_some before.held) last (noted_in pins) (facts_of before gone) refl ∙ closes)) may.rules;
     }
 
-    -- what the tree asks for
+    -- what the tree requires
     pub close_rules : IsRecords m.users (map (copied_rec (noted_in pins)) m.files)
     close_rules = adopt_rules last (noted_in pins) (noted_in pins) before gone (facts_of before gone) refl refl gone_is allowed
 

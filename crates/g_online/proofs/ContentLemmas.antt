@@ -50,7 +50,7 @@ module _ (held : Told) where
       files_made (tree_without_file n files) (without_copy n online) ∙ made-erased (file_of held) (λ f. f.rec.number) (number_is held) n files online
       ∙ sym (ap (without_file n) (files_made files online))
 
-  -- A FILE IS PUT IN, with a copy of these bytes
+  -- A FILE IS INSERTED, with a copy of these bytes
   pub put_in : (rec : FileRec) (copy : DiscCopy) (files : List FileRec) (online : Copies)
       → files_of held (tree_with_file rec files) (with_copy_at (rec.number, copy) online)
       ≡ with_file (record { rec = rec; online = true; bytes = option_map (bytes_at copy.blocks copy.len) held }) (files_of held files online)

@@ -47,7 +47,7 @@ module _ (place : FileRec → Option TapeCopy) where
         };
       }
 
--- THE COPY of a stamp, where one may be noted
+-- THE COPY of a stamp, if one may be noted
 copied_fits : (cs : Tapes) (stamp : ℕ) (old : Option TapeCopy) → All (λ c. IsCopy c.1) cs → IfSome old IsCopy → IfSome (copy_of cs stamp old) IsCopy
 copied_fits [] stamp old all was = was
 copied_fits (c ∷ cs) stamp old all was = by_stamp (c.0 == stamp) (copied_fits cs stamp old (All-tail (λ (x : ℕ × TapeCopy). IsCopy x.1) c cs all) was)
@@ -65,7 +65,7 @@ still_copied (c ∷ cs) stamp old was = by_stamp (c.0 == stamp) (still_copied cs
     by_stamp true rest = refl
     by_stamp false rest = rest
 
--- and none is given where no copy has the stamp
+-- and none is added if no copy has the stamp
 pub none_copied : (cs : Tapes) (stamp : ℕ) (old : Option TapeCopy) → All (λ c. c.0 ≢ stamp) cs → copy_of cs stamp old ≡ old
 none_copied [] stamp old all = refl
 none_copied (c ∷ cs) stamp old all =
@@ -95,7 +95,7 @@ module _ (copies : Tapes) (stand : All (λ c. IsCopy c.1) copies) where
       by_case (inl on) = inl on
       by_case (inr copied) = inr (still_copied copies f.rec.stamp f.rec.tape copied)
 
-  -- with them noted the contents keep the rules
+  -- with them noted the contents satisfy the rules
   pub rules_copied : (c : Contents) (last : ℕ) → last < 2 ^ 62 → All (KeepsEmpty copies) (recs_in c) → KeepsRules c
       → KeepsRules (record c { head = record c.head { last_dump = last; intent = None }; files = with_copies copies c.files })
   rules_copied c last low kept rules =

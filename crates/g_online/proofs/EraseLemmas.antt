@@ -94,7 +94,7 @@ copies_without n files online are = record {
         (without_copy n cs) (filter_passes (λ (c : ℕ × DiscCopy). not (c.0 == n)) cs)
         (All-filter (λ (c : ℕ × DiscCopy). not (c.0 == n)) (λ (c : ℕ × DiscCopy). Contains (map (λ (s : FileRec). s.number) files) c.0) cs all)
 
--- who is pinned stays so
+-- pinned versions stay pinned
 pinned_without : (size next n : ℕ) (files : List FileEntry) (p : Pinned) → IsPinned size next files p → IsPinned size next (without_entry n files) p
 pinned_without size next n files p is = record {
   older = is.older;
@@ -120,7 +120,7 @@ noted_without users n files changed_are touched was = record {
   waits = All-filter (λ (f : FileEntry). not (f.0.number == n)) (λ (f : FileEntry). WaitsFor changed_are f.0) files was.waits;
 }
 
--- THE FILE that goes
+-- THE FILE that is removed
 pub record IsGoing (number : ℕ) (before : DiscState) (m : Memory) : Type 0 where
   pub was : IsAgreed before m
   pub file : FileRec
@@ -235,7 +235,7 @@ module _ (size next : ℕ) (e : FileEntry) (files : List FileEntry) (rising : Al
       used_same size (used_places pins files) (places_of e ++ used_places pins (without_entry e.0.number files)) pool
       (used_without pins e files rising there (not_pinned pins is)) (used size pins files pool was)
 
-  -- what giving them back asks for
+  -- what giving them back requires
   pub may_go : (pins : Option (List Pinned)) (pool : List Bool) → is_pinned pins e.0.stamp ≡ false → IsPooled size pins files pool → AllPairs (λ j k. j ≢ k) (places_of e) × All (IsTaken pool) (places_of e)
   may_go pins pool is was = may_give size (places_of e) (used_places pins (without_entry e.0.number files)) pool (used_then pins pool is was)
 
@@ -264,7 +264,7 @@ module _ (size next : ℕ) (e : FileEntry) (files : List FileEntry) (rising : Al
       (used_same size (used_places (Some pins) files) (used_places (Some pins) (without_entry e.0.number files)) old
       (use_gone (Some pins) touched true is are) (used size (Some pins) files old was)))
 
--- what the tree asks for
+-- what the tree requires
 pub going_is : (number : ℕ) (before : DiscState) (m : Memory) (going : IsGoing number before m) → finmap.get (by_number m.files) number ≡ Some going.file
 going_is number before m going =
     let recs = recs-entries m.files m.online in
@@ -366,7 +366,7 @@ module _ (number : ℕ) (before : DiscState) (m : Memory) (going : IsGoing numbe
   rules : AllPairs (λ (f : FileEntry) g. f.0.number < g.0.number) (entries_of m.files m.online) × AllPairs (λ (f : FileEntry) g. f.0.stamp ≢ g.0.stamp) (entries_of m.files m.online)
   rules = (entries_rise m.files m.online going.was.stored.rules.numbered.rising, entries_differ m.files m.online going.was.stored.rules.files.stamps)
 
-  -- what giving them back asks for
+  -- what giving them back requires
   pub its_blocks : (stamp : ℕ) (copy : Option DiscCopy) (keeps : Bool) → stamp ≡ going.file.stamp → copy ≡ copy_at m.online number → keeps ≡ is_pinned m.pins stamp → keeps ≡ false
       → AllPairs (λ j k. j ≢ k) (copy_places copy) × All (IsTaken m.pool) (copy_places copy)
   its_blocks stamp copy keeps stamp_is copy_is keeps_is free =

@@ -179,7 +179,7 @@ file_ready rec before m pinned head users files k first pages all touched o pinn
     (file_set_ready rec before m first pages o is kept allowed there keeps remembers (subst (λ (h : Head). CoversHead m.head h m.pages first) top covers)
     (subst (λ (j : ℕ). pages ≡ marked j first) at marks') remembers' (subst (λ (j : ℕ). CoversBut j first pages) at covers'))
 
--- what the tree asks for
+-- what the tree requires
 pub file_rules : (rec : FileRec) (before : DiscState) (m : Memory) (users : List UserRec) (files : List FileRec) (o : OnlineFacts) → users ≡ m.users → files ≡ m.files
     → facts_of before m ≡ o → IsKept before m → IsAllowed (SetFile rec) o → IsRecords users (with_file rec files)
 file_rules rec before m users files o users_are files_are is kept allowed =

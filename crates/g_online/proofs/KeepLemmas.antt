@@ -17,7 +17,7 @@ use Rattle.g_online.proofs.ContentLemmas.{recs_are}
 abbrev pub Told : Type 0
 Told = Option (List (List ℕ))
 
--- as many block numbers as the bytes take, where it is on the disc
+-- as many block numbers as the bytes take, if it is on the disc
 abbrev pub CopyFits : FileEntry → Type 0
 CopyFits f = IfSome f.1 (IsCopyOf f.0)
 

@@ -160,7 +160,7 @@ module _ (bytes : ℕ) (listed : List ℕ) (inner outer : Change) (o : OnlineFac
         let given = takes.gives.count in
         (let no : ⊥ = omega (arith, few, enough, given) in no)
 
-    -- what the first commit asks for
+    -- what the first commit requires
     pub asked_rules : (pinned : Bool) → pinned ≡ is_some m.pins
         → AreRecords Two (directory_of (head_after pinned m.head) m.users m.files (without_copies listed m.online)) × IsDirectory before.size (directory_of (head_after pinned m.head) m.users m.files (without_copies listed m.online))
     asked_rules pinned is =
@@ -191,7 +191,7 @@ module _ (bytes : ℕ) (listed : List ℕ) (inner outer : Change) (o : OnlineFac
       let stored = (asked.kept.agreed (allowed_live outer before m o asked.view asked.allowed)).stored in
       record { size = asked.kept.size; gate = stored.gate; remembers = stored.remembers; covers = stored.covers; records = stored.records; rules = stored.rules }
 
--- WHAT THE WRITES ASK FOR
+-- what the writes require
 pub unjammed_copy : (bytes : ℕ) (given : List ℕ) (old pool : List Bool) (copy : DiscCopy) (inner : Change) (listed : List ℕ) (o : OnlineFacts) (disc : DiscState) (m : Memory) → (takes : TakesBeside given bytes old pool copy) → IsUnjammed inner listed o disc m
     → m.pool ≡ takes.between → IsCopy disc.size copy
 unjammed_copy bytes given old pool copy inner listed o disc m takes un is =

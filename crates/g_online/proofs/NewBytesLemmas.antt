@@ -140,7 +140,7 @@ module _ (number : ℕ) (bytes unjam : List ℕ) (copy : DiscCopy) (o : OnlineFa
       ap (copy_at m.online) (sym off.number_is)
       ∙ All-contains (λ (e : FileEntry). copy_at m.online e.0.number ≡ e.1) (entries_of m.files m.online) (let e : FileEntry = (off.file, None) in e) (copy_of_entry m.files m.online) off.entry
 
-  -- what giving the blocks of a replaced version back asks for
+  -- what giving the blocks of a replaced version back requires
   pub may_give_back : (rec : Option FileRec) → HasWritten rec number bytes unjam copy o origin before m → (mid : List Bool) (keeps : Bool) → HasTaken copy.blocks m.pool mid
       → keeps ≡ is_pinned_at m.pins (finmap.get (by_number m.files) number) → keeps ≡ false
       → AllPairs (λ j k. j ≢ k) (copy_places (copy_at m.online number)) × All (IsTaken mid) (copy_places (copy_at m.online number))
@@ -154,7 +154,7 @@ module _ (number : ℕ) (bytes unjam : List ℕ) (copy : DiscCopy) (o : OnlineFa
       → AllPairs (λ j k. j ≢ k) (copy_places (copy_at m.online n)) × All (IsTaken mid) (copy_places (copy_at m.online n))) w.at
       (λ same. may_replace r bytes unjam copy o origin before m w.un (copy_for r w) w.whole w.counts w.written mid keeps taken same free) is
 
-  -- what the record asks for
+  -- what the record requires
   pub record_fits : (rec : Option FileRec) → HasWritten rec number bytes unjam copy o origin before m → IfSome rec (λ r. IsRecords m.users (tree_with_file r m.files))
   record_fits None w = tt
   record_fits (Some r) w = put_records r bytes unjam copy o origin before m w.un (copy_for r w) w.whole w.counts w.written

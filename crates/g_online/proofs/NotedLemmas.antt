@@ -33,7 +33,7 @@ pub adopted_is : (told : Bool) (last : ℕ) (copies : List (ℕ × TapeCopy)) (o
 unfolding changed
 adopted_is told last copies o none = ap (λ (pins : Option (List Pin)). changed told (is_some pins) (Adopt last copies) o.contents) none
 
--- THE SAME MEMORY, but for who counts as changed
+-- THE SAME MEMORY, except for the users who count as changed
 abbrev pub counted : List ℕ → List ℕ → Memory → Memory
 counted all touched m = record m { changed = all; touched = touched }
 
@@ -62,7 +62,7 @@ pub record IsNotedBy (last : ℕ) (copies : List (ℕ × TapeCopy)) (all : List 
   pub told : is_some new.disc.held ≡ is_some old.disc.held
   pub only : OnErr result (result ≡ Err Stopped)
 
--- WHAT IS COMMITTED: nothing is pinned in it, and who will count as changed may
+-- WHAT IS COMMITTED: nothing is pinned in it, and the users who will count as changed may
 pub record MayNote (last : ℕ) (copies : List (ℕ × TapeCopy)) (all touched : List ℕ) (before : DiscState) (m n : Memory) : Type 0 where
   pub ready : IsReady (Adopt last copies) before m n
   pub none : (facts_of before m).pins ≡ None

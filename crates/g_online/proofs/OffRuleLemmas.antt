@@ -45,7 +45,7 @@ off_rules numbers c may rules =
     same_recs c (taken_off numbers c.files) (recs_off numbers c.files)
     (All-map Lies (offline_in numbers) c.files (λ k d inside. lies_off numbers (get_or c.files k d) (may k d inside) (rules.lie k d inside))) rules
 
--- a commit that drops the intent, or keeps it
+-- a commit that drops the intent, or preserves it
 pub committed_rules : (b : Bool) (c : Contents) → KeepsRules c → KeepsRules (committed b c)
 committed_rules true c rules = rules
 committed_rules false c rules = record {

@@ -61,7 +61,7 @@ module _ (disc : DiscState) (m : Memory) (o : OnlineFacts) (is : facts_of disc m
   list_here : (list : List Pinned) → m.pins ≡ Some list → listed ≡ list
   list_here list are = listed_is ∙ ap pinned_in are
 
-  -- where it lies
+  -- the block that it lies in
   place_there : IsKept disc m → m.live ≡ true → (ps : List Pin) (pin : Pin) → o.pins ≡ Some ps → slice_get ps i ≡ Some pin → part < blocks_for pin.len
       → (place : ℕ) × (place_in (slice_get listed i) part ≡ Some place) × (place < disc.size)
   place_there kept live ps pin are there within =

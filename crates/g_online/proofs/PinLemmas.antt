@@ -202,7 +202,7 @@ has_pin serial at online (r ∷ rs) s (suc k, within, is) = or_right (r.stamp ==
     or_right true b is = refl
     or_right false b is = is
 
--- THEY ARE PINNED as memory keeps them
+-- THEY ARE PINNED as memory has them
 module _ (size next serial first : ℕ) (online : Copies) (files : List FileRec) (rising : AllPairs (λ r s. r.number < s.number) files) (stamps : AllPairs (λ r s. r.stamp ≢ s.stamp) files) (owners : All (λ (r : FileRec). r.owner < 63) files)
     (laid : All (IsLaid size next online) files) where
   abbrev rs : List FileRec

@@ -130,7 +130,7 @@ current_with : (s : ℕ) (e : FileEntry) (files : List FileEntry) → e.0.stamp 
 current_with s e files other =
     same_current s (without_entry e.0.number files) (with_entry e files) (omega (arith, sum_with (dated s) e files, dated_no s e other))
 
--- the version of a file that goes is none's
+-- no other file has the version of a removed file
 one_of_stamp : (e : FileEntry) (files : List FileEntry) → AllPairs (λ f g. f.0.stamp ≢ g.0.stamp) files → Contains files e → sum_by (dated e.0.stamp) files ≤ 1
 one_of_stamp e [] apart there = omega arith
 one_of_stamp e (x ∷ files) apart (zero, inside, is) =
@@ -163,7 +163,7 @@ current_there e files rising there =
     let s = e.0.stamp in
     current_by_count s files ∙ lt-ltb 0 (sum_by (dated s) files) (omega (arith, sum_split (dated s) e files rising there, dated_yes s e refl))
 
--- orphans go by which pinned versions are files'
+-- orphans depend on which pinned versions are files'
 pub orphans_same : (pins : List Pinned) (old new : List FileEntry) → All (λ p. is_current new p.stamp ≡ is_current old p.stamp) pins → orphans (Some pins) new ≡ orphans (Some pins) old
 orphans_same [] old new same = refl
 orphans_same (p ∷ pins) old new same =
@@ -191,7 +191,7 @@ away_from : (s : ℕ) (pins : Option (List Pinned)) (P : ℕ → Type 0) → ((t
 away_from s None P each away = tt
 away_from s (Some pins) P each away = All-weaker (λ (p : Pinned). p.stamp ≢ s) (λ (p : Pinned). P p.stamp) (λ p other. each p.stamp (λ same. other (sym same))) pins away
 
--- one file more is used, where the same pins are orphans
+-- one file more is used, if the same pins are orphans
 used_more : (f : ℕ → ℕ) (pins : Option (List Pinned)) (e : FileEntry) (more others : List FileEntry) → orphans pins more ≡ orphans pins others
     → sum_by f (all_places more) ≡ sum_by f (places_of e ++ all_places others) → sum_by f (used_places pins more) ≡ sum_by f (places_of e ++ used_places pins others)
 used_more f pins e more others lost split =
@@ -205,7 +205,7 @@ used_more f pins e more others lost split =
       sum_by-append f (all_places others) (orphans pins others),
     )
 
--- A FILE THAT ISN'T PINNED GOES: its blocks are used no more
+-- A FILE THAT ISN'T PINNED GOES: its blocks are no longer used
 pub used_without : (pins : Option (List Pinned)) (e : FileEntry) (files : List FileEntry) → RisingEntries files → Contains files e → NotPinned e.0.stamp pins
     → SameUse (used_places pins files) (places_of e ++ used_places pins (without_entry e.0.number files))
 used_without pins e files rising there away f =
@@ -224,7 +224,7 @@ used_with pins e files away f =
     orphans_kept pins others new (away_from e.0.stamp pins (λ s. is_current new s ≡ is_current others s) (λ s other. current_with s e files other) away) in
     used_more f pins e new others lost (places_with e files f)
 
--- A FILE THAT IS PINNED GOES: its blocks stay used
+-- A PINNED FILE IS REMOVED: its blocks stay used
 orphan-cons : (f : ℕ → ℕ) (p : Pinned) (pins : List Pinned) (files : List FileEntry)
     → sum_by f (orphans (Some (p ∷ pins)) files) ≡ (if is_current files p.stamp then 0 else sum_by f p.blocks) + sum_by f (orphans (Some pins) files)
 orphan-cons f p pins files = by_current (is_current files p.stamp)

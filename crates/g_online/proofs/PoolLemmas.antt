@@ -1,4 +1,4 @@
--- Blocks of a pool are given back or taken, those of one thing of a list after those of the others.
+-- Blocks of a pool are given back or taken, item by item of a list.
 use Rattle.std.proofs.Common.{◌≡◌, ◌≢◌, ℕ, ◌+◌, ◌-◌, ◌<◌, ◌≤◌, Bool, true, false, List, [], ◌∷◌, ◌++◌, length, get_or, take, drop, Some, All, AllPairs, refl, sym, ◌∙◌, ap, subst, arith, length-append, take-append-drop, slice_get, ⊎_elim}
 use Rattle.std.specs.Prelude.{Contains}
 use Rattle.std.specs.List.{flat_map}
@@ -116,7 +116,7 @@ retaken blocks p q r were given took = same_lists r p each
         (λ (away : Contains blocks (2177 + k) → ⊥). took.changes.others k away ∙ given.changes.others k away)
         (contains_or_not blocks (2177 + k))
 
--- ONE THING AFTER THE OTHER: what is done with the blocks of each, and what that asks of them
+-- ONE ITEM AFTER ANOTHER: what is done with the blocks of each, and what that requires of them
 module _ {A : Type 0} (F : A → List ℕ) (xs : List A) (i : ℕ) (x : A) (within : i < length xs) (is : get_or xs i x ≡ x) where
   further : flat_map F (take (i + 1) xs) ≡ flat_map F (take i xs) ++ F x
   further =

@@ -1,4 +1,4 @@
--- A version that is put in: its copy among the copies, and its blocks among those that are used.
+-- A version that is inserted: its copy among the copies, and its blocks among those that are used.
 use Rattle.std.proofs.Common.{◌≡◌, ◌≢◌, ℕ, zero, suc, ◌+◌, ◌<◌, ◌==◌, Bool, true, false, List, [], ◌∷◌, ◌++◌, length, map, filter, find, Option, Some, None, All, AllPairs, refl, sym, ◌∙◌, ap, inl, inr, arith, subst, if◌then◌else◌, is_some}
 use Rattle.std.specs.Prelude.{Contains, IfSome, nat_lt, ◌⊎◌}
 use Rattle.std.specs.Option.{ForSome}
@@ -71,7 +71,7 @@ copies_rise c online rising =
 abbrev numbers : List FileRec → List ℕ
 numbers files = map (λ r. r.number) files
 
--- a number of the files is one of them with another put in
+-- a number of the files is one of them after another is inserted
 in_filter : (p : ℕ → Bool) (files : List FileRec) (m : ℕ) → p m ≡ true → Contains (numbers files) m → Contains (numbers (filter (λ s. p s.number) files)) m
 in_filter p [] m passes (k, inside, is) = let no : ⊥ = omega (arith, inside) in absurd no
 in_filter p (r ∷ files) m passes (zero, inside, is) =

@@ -47,7 +47,7 @@ use Rattle.g_online.proofs.UnjamLemmas.{IsUnjammed}
 use Rattle.g_online.proofs.WrittenLemmas.{IsNewCopy, NeedsFor, written_beside, written_kept}
 use Rattle.g_online.proofs.UseLemmas.{IsUsed, SameUse, contains_or_not}
 
--- THE VERSION THAT IS REPLACED, where there is one
+-- THE VERSION THAT IS REPLACED, if there is one
 record FoundRec (number : ℕ) (files : List FileRec) (online : Copies) : Type 0 where
   pub file : FileRec
   pub number_is : file.number ≡ number
@@ -126,7 +126,7 @@ module _ (disc : DiscState) (m : Memory) (was : IsAgreed disc m) (number : ℕ) 
       λ i. gone_places gone (copy_places (none i)) ++ used_places m.pins (all i) in
       subst (λ (l : List ℕ). SameUse (used_places m.pins es) l) (sym (step ∙ none_gone gone (used_places m.pins es))) (λ f. refl)
 
-  -- its blocks, unless they are kept, and those that stay used
+  -- its blocks, unless they must stay, and those that stay used
   pub replaced_use : (gone : Bool) → gone ≡ is_pinned_at m.pins (finmap.get (by_number m.files) number)
       → SameUse (used_places m.pins es) (gone_places gone (copy_places (copy_at m.online number)) ++ used_places m.pins (without_entry number es))
   replaced_use gone is = ⊎_elim
@@ -162,7 +162,7 @@ module _ (rec : FileRec) (bytes unjam : List ℕ) (copy : DiscCopy) (o : OnlineF
   rules_here : (pool : List Bool) (pages : Remembered) → KeepsRules (contents_of before.held (directory_in (put_in_memory (is_some m.pins) m rec copy pool pages)))
   rules_here pool pages = subst KeepsRules (sym (made_here pool pages ∙ made_there)) un.allowed.rules
 
-  -- what the tree asks for
+  -- what the tree requires
   pub put_records : IsRecords m.users (tree_with_file rec m.files)
   put_records = subst (IsRecords m.users) (recs_here before.held (tree_with_file rec m.files) (with_copy_at (rec.number, copy) m.online)) (rules_here m.pool m.pages).records
 
@@ -175,7 +175,7 @@ module _ (rec : FileRec) (bytes unjam : List ℕ) (copy : DiscCopy) (o : OnlineF
   uses : IsUsed before.size (used_places m.pins (entries_of m.files m.online)) m.pool
   uses = used before.size m.pins (entries_of m.files m.online) m.pool was.pool
 
-  -- what giving the blocks of the replaced version back asks for
+  -- what giving the blocks of the replaced version back requires
   pub may_replace : (mid : List Bool) (keeps : Bool) → HasTaken copy.blocks m.pool mid → keeps ≡ is_pinned_at m.pins (finmap.get (by_number m.files) rec.number) → keeps ≡ false
       → AllPairs (λ j k. j ≢ k) (copy_places (copy_at m.online rec.number)) × All (IsTaken mid) (copy_places (copy_at m.online rec.number))
   may_replace mid keeps taken is free =

@@ -40,7 +40,7 @@ allowed_live change before m o is allowed = ap (λ (p : OnlineFacts). p.live) is
 pub allowed_here : (change : Change) (before : DiscState) (m : Memory) (o : OnlineFacts) → facts_of before m ≡ o → IsAllowed change o → IsAllowed change (facts_of before m)
 allowed_here change before m o is allowed = subst (IsAllowed change) (sym is) allowed
 
--- the rules that the change asks for
+-- the rules that the change requires
 pub rules_then : (change : Change) (before : DiscState) (m n : Memory) (o : OnlineFacts) → facts_of before m ≡ o → IsAllowed change o
     → contents_of before.held (directory_in n) ≡ changed_to (is_some before.held) (is_some m.pins) change (contents_of before.held (directory_in m))
     → KeepsRules (contents_of before.held (directory_in n))

@@ -110,7 +110,7 @@ user_ready user copied before m pinned head users files k first pages o same pin
     (user_set_ready user before m first pages o is kept allowed marks remembers covers
     (subst (λ (j : ℕ). pages ≡ marked j first) at marks') remembers' (subst (λ (j : ℕ). CoversBut j first pages) at covers'))
 
--- what the tree asks for
+-- what the tree requires
 pub user_rules : (user copied : UserRec) (before : DiscState) (m : Memory) (o : OnlineFacts) → copied ≡ user → facts_of before m ≡ o → IsKept before m → IsAllowed (SetUser user) o
     → (copied.number < length m.users) × (name_of m.users copied.number ≡ copied.user) × IsRecords (slice_set m.users copied.number copied) m.files
 user_rules user copied before m o same is kept allowed =

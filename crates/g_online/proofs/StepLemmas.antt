@@ -93,7 +93,7 @@ pub both_told : {R : List (List ℕ) → List (List ℕ) → Type 0} (x y : Opti
 both_told None y changes = ap (λ (h : Option (List (List ℕ))). is_some h) (changes.untold refl)
 both_told (Some b) y changes = ap (λ (h : Option (List (List ℕ))). is_some h) (changes.told b refl).1
 
--- what the commit asks for
+-- what the commit requires
 pub marked_for : (change : Change) {origin : DiscState} (before : DiscState) (m n : Memory) → IsReadyFrom change origin before m n → (online : List (ℕ × DiscCopy)) → online ≡ n.online
     → IsMarked before n.side n.pages (directory_of n.head n.users n.files online)
 marked_for change before m n ready online same = subst (λ (on : List (ℕ × DiscCopy)). IsMarked before n.side n.pages (directory_of n.head n.users n.files on)) (sym same) ready.marked
@@ -243,7 +243,7 @@ module _ (change : Change) {origin : DiscState} (before after : DiscState) (m n 
       ∙ ap (λ (told : Bool). changed_to told (is_some (pins_of origin.held m.pins)) change (contents_of origin.held (directory_in m)))
       (sym ready.beside.told ∙ ap (λ (h : Option (List (List ℕ))). is_some h) was)
 
-  -- what the disc holds, where the commit was stopped at any of its writes
+  -- what the disc holds, if the commit was stopped at any of its writes
   stop_holds : Changes (OldOrNew (directory_in n)) before.held after.held → ForSome after.held (AfterStop change (facts_of origin m))
   stop_holds content blocks told =
       let from = Changes-back (OldOrNew (directory_in n)) before.held after.held content blocks told in

@@ -91,7 +91,7 @@ tied disc m kept = record {
   pinned = λ live. pins_tied disc.held disc.size m.head.next_stamp (facts_of disc m).layout.directory.files m.touched m.pins kept.whole (kept.agreed live).pins;
 }
 
--- WHERE THE DISC HOLDS WHAT IT HELD memory agrees with it as before
+-- IF THE DISC HOLDS WHAT IT HELD memory agrees with it as before
 stored_still : (before after : DiscState) (side : Side) (pages : Remembered) (d : Directory) → after.held ≡ before.held → after.size ≡ before.size → IsStored before side pages d → IsStored after side pages d
 stored_still before after side pages d held size was = record {
   gate = subst (GateNames side) (sym held) was.gate;

@@ -197,7 +197,7 @@ put_two rec bytes unjam = record {
   first = λ told pinned c. unload_first told pinned rec bytes unjam c;
 }
 
--- THE RECORD of a new version keeps the rules
+-- THE RECORD of a new version satisfies the rules
 pub record IsNew (rec : FileRec) (users : List UserRec) : Type 0 where
   pub file : IsFile rec
   pub number : rec.number < 1024

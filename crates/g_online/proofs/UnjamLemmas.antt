@@ -122,7 +122,7 @@ takes_off numbers pinned users files before after x y mid slice result same head
   only = only;
 }
 
--- WHAT IS LEFT keeps the rules
+-- WHAT IS LEFT satisfies the rules
 each_entry : (P : FileRec → Type 0) (es : List FileEntry) → All P (map (λ (e : FileEntry). e.0) es) → All (λ (e : FileEntry). P e.0) es
 each_entry P es all k d within =
     subst P (get_or-map (λ (e : FileEntry). e.0) es k d d.0 within) (all k d.0 (omega (arith, within, length-map es (λ (e : FileEntry). e.0))))
@@ -154,7 +154,7 @@ module _ (numbers : List ℕ) (before : DiscState) (m : Memory) (un : IsUnloadab
       subst (λ (fs : List FileEntry). PinsAre m.pins before.size m.head.next_stamp fs m.touched) (sym (entries_off numbers m.files m.online))
       (pins_off before.size m.head.next_stamp numbers (entries_of m.files m.online) m.touched m.pins un.copied un.was.pins)
 
-  -- THE ROOM, were they taken off
+  -- THE ROOM if they were taken off
   pub room_left : free_count m.pool + length (places_off numbers m.online) ≡ room_with (taken_off numbers (contents_of before.held (directory_in m)).files) (facts_of before m)
   room_left =
       let count : 2177 + free_count m.pool + length (used_places m.pins (entries_of m.files m.online)) ≡ before.size = un.was.pool.fresh.count in

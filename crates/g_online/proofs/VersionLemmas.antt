@@ -30,7 +30,7 @@ AllSame [] (f ∷ fs) = ⊥
 AllSame (e ∷ es) [] = ⊥
 AllSame (e ∷ es) (f ∷ fs) = IsSameEntry e f × AllSame es fs
 
--- what goes from one to the other goes from all to all
+-- a property that carries over from one to the other does so for all
 pub all_same : (P Q : FileEntry → Type 0) → ((e f : FileEntry) → IsSameEntry e f → P e → Q f) → (old new : List FileEntry) → AllSame old new → All P old → All Q new
 all_same P Q each [] [] same all = λ k d inside. absurd (omega arith)
 all_same P Q each [] (f ∷ fs) same all = absurd same

@@ -78,7 +78,7 @@ module _ (inner : Change) (unjam : List ℕ) (bytes : ℕ) (copy : DiscCopy) (o 
     },
   )
 
-  -- and where they were all made
+  -- and if all of them were made
   pub written_beside : WritesOnly {T = Unit {0}} {E = OnlineFault} (length copy.blocks) origin before (Ok tt) → IsBeside inner origin before m
   written_beside counts = record {
     contents = beside_contents origin before m copy.blocks un.kept un.live new.free only size;

@@ -75,7 +75,7 @@ module _ (old new : StoreFacts) (answer : Result ℕ StoreFault) (is : ProcessCa
       by (inl (rose, still)) = dump_failed was now rose still
       by (inr (rose, still)) = rack_failed was now still rose
 
--- A STOP TAKES THE STATE DOWN: none of the refusals is one
+-- A STOP TAKES THE STATE DOWN: no refusal is a stop
 not_early : (a : Bool) (u : Option ℕ) (d b : Bool) (n : ℕ) → first_fault ((a, NoTape) ∷ fault_from RackNotMounted u ∷ (d, DumpOpen n) ∷ (b, CountersSpent) ∷ []) ≡ Some Stopped → ⊥
 not_early true u d b n is = cc
 not_early false (Some m) d b n is = cc
@@ -123,7 +123,7 @@ module _ (s : State) (k : Holding) (serial : ℕ) (u : State) where
       early_down o (process_refuses s k serial)
       (not_early (lacks s serial) (first_reel (λ r. not r.mounted) s.reels) (is_some s.open_dump) (k.last == 2 ^ 62 - 1) (open_number s.open_dump)) step
 
--- no count of the disc falls in it, and none of the tapes
+-- no counter of the disc or of the tapes falls in it
 process_reads : (answer : Result ℕ StoreFault) (old new : StoreFacts) → ProcessCause old new answer → old.online.disc.read_faults ≤ new.online.disc.read_faults
 process_reads (Err DiscReadFault) old new is = Rose-later (is.disc_read refl)
 process_reads answer old new is = stands_still old.online.disc.read_faults new.online.disc.read_faults (is.disc_read_only (λ e. let no : ⊥ = cc in no))

@@ -1,4 +1,4 @@
--- A DEVICE IS ARMED: its fuse is set, and the arming is counted. Nothing changes of what the system stands for.
+-- A device is armed: its fuse is set, and the arming is counted. Nothing changes in what the system represents.
 use Rattle.std.specs.Prelude.{◌≡◌, ℕ, Some}
 use Rattle.g_base.specs.Fuse.{armed_with}
 use Rattle.g_store_model.specs.State.{State}

@@ -99,7 +99,7 @@ module _ (serial : ℕ) (o : OnlineFacts) (old : Rack) (live : o.live ≡ true) 
   unread_serials [] = refl
   unread_serials (r ∷ rs) = ap (λ (ns : List ℕ). r.serial ∷ ns) (unread_serials rs)
 
-  -- OVER ANOTHER RACK of the same reels
+  -- ON ANOTHER RACK of the same reels
   module _ (x : Rack) (same : labels x.reels ≡ labels old.reels) where
     names : map (λ (r : Reel). r.serial) x.reels ≡ map (λ (r : Reel). r.serial) old.reels
     names = same_serials old.reels x.reels same
@@ -244,7 +244,7 @@ module _ (serial : ℕ) (o : OnlineFacts) (old : Rack) (live : o.live ≡ true) 
           let moved = events_stay_up.reels text (with_dump made shelf) (closed_with (record { plan = plan; done = 0 }) [] opened) x (same_serials old.reels x.reels same) shut in
           without_dump text (with_dump made shelf) x (closed_with (record { plan = plan; done = 0 }) [] opened).online o' (contents ∙ sym contents_moved) changed_is moved
 
-      -- ALL VERSIONS are in the dump, and so the others may go
+      -- ALL VERSIONS are in the dump, so the others may be deleted
       lens_waiting : All (λ (r : FileRec). length (text r.stamp) ≡ r.len) (waiting plan.files)
       lens_waiting = subst (All (λ (r : FileRec). length (text r.stamp) ≡ r.len)) (sym (plan_waiting serial o)) (All-map (λ (r : FileRec). length (text r.stamp) ≡ r.len) bare_rec (versions c) lens)
 

@@ -29,7 +29,7 @@ use Rattle.g_process.specs.Progress.{HasWritten, IsReadable, MayWrite, WritesBlo
 use Rattle.g_process.proofs.BecomeLemmas.{labels_beside, same_mounted, same_serials}
 use Rattle.g_disc.proofs.CallLemmas.{Causes-for}
 
--- WHAT THE INTENT'S COMMIT MAKES
+-- WHAT THE INTENT'S COMMIT CHANGES
 
 pub has_intended : (i : Intent) (o new : OnlineFacts) (u : Unit {0}) → o.pins ≡ None → (let r : Result (Unit {0}) OnlineFault = Ok u in IsApplied (SetIntent (Some i)) o new r) → HasIntended i o new
 has_intended i o new u none done =
@@ -142,7 +142,7 @@ module _ (job : Job) (o : OnlineFacts) (old : Rack) where
   abbrev the_given : Intent
   the_given = record { serial = job.serial; place = 0; number = job.number }
 
-  -- what the intent asks
+  -- what the intent requires
   pub may_begin : o.live ≡ true → IsTied o → MayCarry o old job → IsAllowed (SetIntent (Some the_given)) o
   may_begin live tied may =
       let serial : job.writer.serial ≡ job.serial = ap (λ (i : Intent). i.serial) may.intent_is in

@@ -109,7 +109,7 @@ left_long Unchanged k r more long = long
 left_long Shortened k r more long = more
 left_long (Torn block) k r more long = omega arith
 
--- WHAT BECAME of a reel other than that one, by how far the releases came
+-- WHAT HAPPENED to a reel other than that one, by how far the releases got
 abbrev Outcome : ℕ → Option ℕ → Rack → Reel → Reel → Type 0
 Outcome until cut old r x =
     ((until ≤ r.serial) × (x ≡ unread r)) ⊎ ((r.serial < until) × ((IsFree r.serial old × (x ≡ unread r)) ⊎ (IsTaken r.serial old × ((0 < x.len) ⊎ (cut ≡ Some r.serial)))))

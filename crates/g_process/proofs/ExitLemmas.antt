@@ -56,7 +56,7 @@ use Rattle.g_process.proofs.WholeLemmas.{none_short}
 use Rattle.g_process.proofs.WriteLemmas.{element, get_map}
 use Rattle.g_laws_store.proofs.TiedLemmas.{devices_belong}
 
--- the plan keeps off its own reel's dumps: no record in it names a copy
+-- the plan doesn't use its own reel's dumps: no record in it names a copy
 bare_away : (files : List FileRec) (n from to : ℕ) → All (λ (r : FileRec). is_between n from to r.tape ≡ false) (map bare_rec files)
 bare_away [] n from to = λ k d inside. absurd (let no : ⊥ = omega (arith, inside) in no)
 bare_away (x ∷ xs) n from to = all_cons (λ (r : FileRec). is_between n from to r.tape ≡ false) (bare_rec x) (map bare_rec xs) refl (bare_away xs n from to)

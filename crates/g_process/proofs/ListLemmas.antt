@@ -70,7 +70,7 @@ some_noted : (dumps : List Dump) (notes : List DumpNote) → notes ≡ map note_
 some_noted [] notes is some none = some is
 some_noted (d ∷ ds) notes is some none = let no : ⊥ = cc in no
 
--- A REEL IS FREE where its list is empty, and else it is taken
+-- A REEL IS FREE if its list is empty, otherwise it is taken
 pub free_by_list : (serial : ℕ) (old new : Rack) (lists : List Listed) (r : Reel) → AreListed old lists → reel serial old.reels ≡ Some r → notes_at serial lists ≡ [] → IsFree serial old
 free_by_list serial old new lists r are at none =
     let noted = noted_at serial old new lists r are at in

@@ -97,7 +97,7 @@ with_nothing s (r ∷ rs) =
           ∙ ap (λ (xs : List Reel). r ∷ xs) (with_nothing s rs)
     ]
 
--- COUNTS OF READS stay, where the change keeps them
+-- COUNTS OF READS stay, if the change keeps them
 mapped_times : (f : Reel → Reel) → ((r : Reel) → (f r).times_read ≡ r.times_read) → (o : Option Reel) → times_in (option_map f o) ≡ times_in o
 mapped_times f keeps None = refl
 mapped_times f keeps (Some r) = keeps r

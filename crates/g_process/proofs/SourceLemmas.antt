@@ -46,7 +46,7 @@ pub online_same : (F : Type 0) (o o' : OnlineFacts) → o' ≡ record o { disc =
 online_same F o o' same r ok =
     online_failed F o o' same r ∙ ap (λ (n : ℕ). let x : OnlineFacts = record o { disc = record o.disc { read_faults = n } } in x) (r.kept ok)
 
--- what a read or a write that isn't refused says where it fails
+-- what is known after a failed read or write that isn't refused
 pub read_fails : (s k : ℕ) (old new : Rack) (fault : TapeFault) (into : List ℕ) → refuses_read k (reel s old.reels) ≡ None → (let r : Result (Unit {0}) TapeFault = Err fault in Reading s k old r into new)
     → Rose old.read_faults new.read_faults × (new ≡ record old { read_faults = new.read_faults })
 read_fails s k old new tapes.ReadFailed into free (refused, rose, is) = (rose, is)
@@ -174,7 +174,7 @@ filled_in serial p rs o rack k i part q (Ok u) block o' new are stands is (same,
     (same, inr (i, part, q, found.0, stands, source), only, kept)
 filled_in serial p rs o rack k i part q (Err fault) block o' new are stands is fails = fails
 
--- a write that was made burnt the fuse, and did nothing else besides
+-- a write that was made burnt the fuse, and did nothing else
 pub wrote : (s k : ℕ) (block : List ℕ) (old new : Rack) (u : Unit {0}) → (let r : Result (Unit {0}) TapeFault = Ok u in Writing s k block old r new) → new ≡ record (changed s (ending k block) old) { fuse = new.fuse }
 wrote s k block old new u (granted, unspent, is) =
     is ∙ ap (λ (f : Option ℕ). let x : Rack = record (changed s (ending k block) old) { fuse = f } in x) (sym (ap (λ (x : Rack). x.fuse) is))

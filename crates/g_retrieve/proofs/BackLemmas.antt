@@ -210,7 +210,7 @@ module _ (number : ℕ) (plan : Unjam) (o : OnlineFacts) (before after : Rack) (
   refused_only fault (inr (inr (inl (name, is)))) = inr (inr (inl (name, is)))
   refused_only fault (inr (inr (inr is))) = inr (inr (inr (inr (inr is))))
 
-  -- the bytes were there: put back, or refused by the disc
+  -- the bytes were there: written back, or refused by the disc
   module _ (new : OnlineFacts) (text : List ℕ) (result : Result (List ℕ) StoreFault) (copied : HasCopied c f.rec.len text before after) (tapes : (let r : Result (List ℕ) StoreFault = Ok text in ReadsTapes before after r))
       (put : IsPutBack number text plan o new result) where
     abbrev wanted : ℕ
@@ -292,7 +292,7 @@ module _ (number : ℕ) (plan : Unjam) (o : OnlineFacts) (before after : Rack) (
     pub put_only : IfErr result IsOneOf
     put_only = only_by result put.refusals
 
-    -- and the store keeps what it keeps
+    -- and the store preserves its invariant
     keeps_by : (r : Result (List ℕ) StoreFault) → result ≡ r → o.live ≡ true → IsTied o → IsOnTape number o f c → KeepsDevices o new before after
     keeps_by (Ok t) is live tied away =
         keeps_done o new before after number f c text plan.take live tied away copied tapes.only put.tied put.told

@@ -1,4 +1,4 @@
--- A store keeps what it keeps where its rack is read and a file is brought back.
+-- A store preserves its invariant when its rack is read and a file is brought back.
 use Rattle.std.proofs.Common.{◌≡◌, ℕ, ◌<◌, Bool, true, false, List, [], ◌∷◌, map, get_or, Option, Some, None, is_some, refl, sym, ◌∙◌, ap, subst, arith, inl, inr, if◌then◌else◌}
 use Rattle.std.specs.Prelude.{◌⊎◌, ◌||◌, All, IfSome, length, not, option_map}
 use Rattle.std.specs.Option.{ForSome}
@@ -166,7 +166,7 @@ itself_grows s = record { grows = λ n is. is; grows_open = by_dump s.dump }
     by_dump None = tt
     by_dump (Some d) = λ n is. is
 
--- WHERE IT IS DONE
+-- IF IT IS DONE
 module _ (s : StoreFacts) (new : OnlineFacts) (number : ℕ) (bytes take : List ℕ) (done : HasChanged (Bring number bytes take) s.online new) (tied : IsTied new) (unspent : s.spent ≡ false) (store : IsStore s) where
   store_after : IsStore (with_online new s)
   store_after = record {
@@ -221,7 +221,7 @@ module _ (s : StoreFacts) (new : OnlineFacts) (number : ℕ) (bytes take : List 
         up = λ unspent. (text, shelf, shelved, after);
       }
 
--- WHERE IT WAS STOPPED the store is spent
+-- IF IT WAS STOPPED the store is spent
 module _ (s : StoreFacts) (new : OnlineFacts) (number : ℕ) (bytes take : List ℕ) (stopped : HasStopped (Bring number bytes take) s.online new) (tied : IsTied new) where
   store_stopped : IsStore (with_online new s)
   store_stopped = spent_store s new stopped.live tied
@@ -261,7 +261,7 @@ module _ (s : StoreFacts) (new : OnlineFacts) (number : ℕ) (bytes take : List 
     up = λ up. absurd (spent_then new stopped.live up);
   }
 
--- THE STORE over these devices: nothing has changed but that the rack was read
+-- THE STORE on these devices: nothing has changed except that the rack was read
 same_store : (s : StoreFacts) (o : OnlineFacts) → s.online ≡ o → s.spent ≡ false → o.live ≡ true → s ≡ with_online o s
 same_store s o at unspent live = λ i. let t : StoreFacts = record s { online = at i; spent = (unspent ∙ sym (ap not live)) i } in t
 

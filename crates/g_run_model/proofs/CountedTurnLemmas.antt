@@ -29,7 +29,7 @@ use Rattle.g_run_model.proofs.TurnLemmas.{MayBegin, in_turn, run_append, with_tu
 pub keeps_itself : (w : World) → KeepsLines w w
 keeps_itself w = record { lines = refl; bad = refl; over = refl; count = refl; disc_stops = refl; tape_stops = refl }
 
--- the end of a turn keeps the lines and what goes with them
+-- the end of a turn preserves the lines and what belongs to them
 pub turn_keeps : (after : JobState) (turn : Turn) (w : World) → KeepsLines w (turn_told after turn w)
 turn_keeps after turns.Broken w = record { lines = refl; bad = refl; over = refl; count = refl; disc_stops = refl; tape_stops = refl }
 turn_keeps after (turns.Wants serial) w = record { lines = refl; bad = refl; over = refl; count = refl; disc_stops = refl; tape_stops = refl }

@@ -53,7 +53,7 @@ rising_with j low (k ∷ jobs) top r = by (k.number == j.number) refl (rising_wi
         (subst (λ (n : ℕ). low ≤ n) same r.0, subst (λ (n : ℕ). AreRising (n + 1) (with_job j jobs) top) same rest)
     by false e rest = (r.0, rest)
 
--- jobs that go
+-- jobs that are removed
 pub rising_filter : (p : JobState → Bool) (low : ℕ) (jobs : List JobState) (top : ℕ) → AreRising low jobs top → AreRising low (filter p jobs) top
 rising_filter p low [] top r = r
 rising_filter p low (j ∷ jobs) top r = by (p j) (rising_filter p (j.number + 1) jobs top r.1)
@@ -105,7 +105,8 @@ number_of number low (j ∷ jobs) top job r found = by (j.number == number) refl
         (ap (λ (x : JobState). x.number) (sym (one_job j job found)) ∙ same, omega (arith, same, below))
     by false e found again = again found
 
--- who is found where one was put into the place of another: it, under its number, and the same as before under all others
+-- which job is found after one was replaced by another: the new one, under its number, and the same as before under all
+-- others
 pub found_same : (j : JobState) (jobs : List JobState) (job : JobState) → numbered j.number (with_job j jobs) ≡ Some job → job ≡ j
 found_same j [] job found = no_job job found
 found_same j (k ∷ jobs) job found = by (k.number == j.number) refl found (λ e. found_same j jobs job e)
@@ -143,7 +144,7 @@ left_other gone number other (k ∷ jobs) = by (k.number == gone) refl (left_oth
         rest ∙ sym (ap (λ (c : Bool). cond c (Some k) (numbered number jobs)) (ap (λ (n : ℕ). n == number) (eqb-true k.number gone e) ∙ other))
     by false e rest = ap (λ (r : Option JobState). cond (k.number == number) (Some k) r) rest
 
--- who is found where one came: one who was there, or it
+-- which job is found after one was added: an old one, or the new one
 pub found_push : (number : ℕ) (jobs : List JobState) (job found : JobState) → numbered number (jobs ++ job ∷ []) ≡ Some found
     → (numbered number jobs ≡ Some found) ⊎ ((job.number ≡ number) × (found ≡ job))
 found_push number [] job found is = by (job.number == number) refl is

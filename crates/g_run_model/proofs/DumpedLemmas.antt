@@ -57,7 +57,7 @@ Opens s new = (d : OpenDump) × (s.open_dump ≡ None) × (new.open_dump ≡ Som
 abbrev Completes : State → State → Type 0
 Completes s new = (x : DumpedTree) × (new.dumped ≡ Some x) × (about s.open_dump ≡ Some (x.number, x.tree)) × (about new.open_dump ≡ None)
 
--- a PROCESS puts the tree that there is in its place, and opens no dump
+-- PROCESS installs the current tree as the dumped one, and opens no dump
 abbrev Renews : State → State → Type 0
 Renews s new = (x : DumpedTree) × (new.dumped ≡ Some x) × (tree_in s ≡ Some x.tree) × ((about new.open_dump ≡ None) ⊎ (about new.open_dump ≡ about s.open_dump))
 

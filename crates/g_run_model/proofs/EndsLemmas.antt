@@ -150,7 +150,7 @@ module _ (n : ℕ) (u q : Bool) (a : ℕ) where
     typed_keeps t change w true idle h = changed_keeps t change w (open_at t w.jobs) refl idle h
     typed_keeps t change w false idle h = h
 
-    -- A LINE, by what it asks
+    -- A LINE, by what it requires
     line_keeps : (at : ℕ) (o : Outcome) (what : Operator) (w new : World) → IsTimed (record { turn = at; what = what }) → w.turn ≡ None → Keeps f m c rest w → LineGives o what w new
         → (m2 : ℕ) × (m2 ≡ m + mounts (record { turn = at; what = what } ∷ [])) × Keeps f m2 c rest new
     line_keeps at o line.Format w new timed idle h gives =

@@ -30,7 +30,7 @@ pub record OutcomeTold {A : Type 0} (outcome : Outcome) (answer : Result A Store
   pub tape_read : answer ≡ Err fault.TapeReadFault → outcome ≡ TapeRead
   pub cut : answer ≡ Err fault.Stopped → outcome ≡ Cut
 
--- a refusal that is none of the devices' own
+-- a refusal that no device causes
 abbrev pub IsOwn : StoreFault → Type 0
 IsOwn DiscReadFault = ⊥
 IsOwn TapeReadFault = ⊥
@@ -121,7 +121,7 @@ module _ {A : Type 0} (reply : A) (s after : State) (answer : Result A StoreFaul
       let at : Event (Some Stopped) reply s after answer new = subst (λ (x : Option StoreFault). Event x reply s after answer new) is event in
       (o, refl, told_cut o answer so at.0, inl refl)
 
--- checks that are none of the devices' own, or don't hold
+-- checks that no device causes, or that don't hold
 abbrev AreOwn : Checks → Type 0
 AreOwn [] = Unit {0}
 AreOwn (check ∷ checks) = ((check.0 ≡ false) ⊎ IsOwn check.1) × AreOwn checks
@@ -266,7 +266,7 @@ module _ (s : State) where
           (from_own MountFirst (λ serial. tt) (unmounted_reel s k.intent), (inl refl, (inl refl, tt)))
           (ap (λ (b : Bool). first_fault (fault_from MountFirst (unmounted_reel s k.intent) ∷ (false, TapeReadFault) ∷ (b, Stopped) ∷ [])) e) refl
 
-  -- where it isn't a failed read of the disc, a start is an event
+  -- if it isn't a failed read of the disc, a start is an event
   abbrev StartsPlainly : Holding → Outcome → Result (Option ℕ) StoreFault → State → Type 0
   StartsPlainly k o answer new =
       Event (start_refuses s k o) (option_map (λ d. d.number) (dump_adopted s k)) s (coming_up s (adopted (dump_adopted s k) k)) answer new
@@ -326,7 +326,7 @@ module _ (s : State) where
   early_goes Cut = quiet (restore_early s) Cut (fault_from RackNotMounted (first_reel (λ r. not r.mounted) s.reels) ∷ (false, TapeReadFault) ∷ (list_all has_none s.reels, NoDump) ∷ [])
       (from_own RackNotMounted (λ serial. tt) (first_reel (λ r. not r.mounted) s.reels), (inl refl, (inr tt, tt))) refl refl
 
-  -- an outcome goes with both of its refusals
+  -- an outcome matches both of its refusals
   none_apart : {P : Type 0} (f : Option StoreFault) (g : StoreFault) → f ≡ None → f ≡ Some g → P
   none_apart f g none some = absurd (let no : ⊥ = cc in no)
 
@@ -473,7 +473,7 @@ call_outcome s k who call o g new step = by_early (refused (λ x. new ≡ s) (ea
     by_early (inr (some, is)) =
         of_early (early_which (fault_of k.tree who call) (is_offline s k who call && not (is_mounted s (reel_of s k who call))) (is_tape_read o && is_offline s k who call) (reel_of s k who call) g some)
 
--- an answer that is none of the devices' own has a step in which no device failed
+-- an answer that no device causes has a step in which no device failed
 own_too : (s : State) (k : Holding) (who : List ℕ) (call : StoreCall) (o : Outcome) (fault : StoreFault) (new : State) → IsOwn fault → CallStep s k who call o (Err fault) new
     → ToldBy (CallStep s k who call) o (Err fault) new
 own_too s k who call o fault new own step =

@@ -1,4 +1,4 @@
--- Where no count rose, the text follows from the script, the state that there was, the charges and the weigh rule.
+-- IF no count rose, the text follows from the script, the state that there was, the charges and the weigh rule.
 use Rattle.std.proofs.Common.{◌≡◌, ◌⊎◌, ◌<◌, ◌+◌, ◌&&◌, ◌++◌, ℕ, zero, suc, Bool, true, false, not, List, [], ◌∷◌, map, Option, Some, None, option_map, slice_get, Result, codes, if◌then◌else◌, refl, sym, ◌∙◌, ap, subst, inl, inr, arith}
 use Rattle.std.proofs.lemmas.Bool.{false≢true}
 use Rattle.std.proofs.lemmas.List.Elements.{recursion_from_All}
@@ -144,7 +144,7 @@ parted Ticked Ticked moves others k e = (tt, e)
 parted Over Over moves others k e = (tt, e)
 parted m n moves others k e = absurd (let no : ⊥ = cc in no)
 
--- a program that asks, and one that is done
+-- a program that makes a call, and one that is done
 abbrev asked_in : StoreCall → Asks Work → StoreCall
 asked_in d (Call c more) = c
 asked_in d (Gives w) = d

@@ -116,7 +116,7 @@ some_at (Some p) e = refl
 pub no_bytes : (row : FileRow) → nat_lt 0 (length row.bytes) ≡ false → length row.bytes ≡ 0
 no_bytes row e = let le : length row.bytes ≤ 0 = ltb-false 0 (length row.bytes) e in omega (arith, le)
 
--- places are alike, but for their first blocks, where those of the current files are
+-- places are alike, except for their first blocks, if those of the current files are
 module _ (t u : Tree) (trees : t ≡ u) (places others : FinMap nat_cmp Place) (current : (q : ℕ) → is_some (get places q) ≡ is_current t q)
     (current_too : (q : ℕ) → is_some (get others q) ≡ is_current u q)
     (at_file : (q : ℕ) (full : Full) (row : FileRow) → get t.files full ≡ Some row → row.stamp ≡ q → bare_place (place_at places q) ≡ bare_place (place_at others q)) where
@@ -229,7 +229,7 @@ module _ (s t : State) (serial : ℕ) (a b : Result ℕ StoreFault) (new other :
   behind m n places = opening_bare s k serial m ∙ ap (λ (x : State). opening x (bare_holding k) serial (bare_places m)) same
       ∙ ap (λ (x : Holding). opening (bare_state t) x serial (bare_places m)) here ∙ ap (λ (x : FinMap nat_cmp Place). opening (bare_state t) (bare_holding h) serial x) places ∙ sym (opening_bare t h serial n)
 
-  -- where it isn't opened, where the copies would lie doesn't matter
+  -- if it isn't opened, it doesn't matter where the copies would lie
   open_by : (f : Option StoreFault) → open_refuses s k serial Plain ≡ f → OpenStep s k serial Plain a new → OpenStep t h serial Plain b other → AreSame a b new other
   open_by None e (m, noted, one) (n, noted2, two) =
       event_alike (k.last + 1) s t (opening s k serial m) (opening t h serial n) a b new other same

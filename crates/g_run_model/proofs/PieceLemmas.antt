@@ -1,4 +1,4 @@
--- The text that a move puts, in pieces, and what they are of the files of jobs at terminals.
+-- The text that a move prints, in pieces, and how they relate to the files of jobs at terminals.
 use Rattle.std.proofs.Common.{◌≡◌, ◌+◌, ◌==◌, ◌&&◌, ℕ, Bool, true, false, cond, List, [], ◌∷◌, ◌++◌, drop, length, Option, Some, None, IfSome, append_assoc, append-nil, refl, sym, ◌∙◌, ap, subst, inl, inr, if◌then◌else◌, eq-eqb, eqb-true, arith}
 use Rattle.std.specs.List.{AllByRecursion}
 use Rattle.g_turn.specs.State.{Broken, Done, Full, Stop, Waits, Work}
@@ -72,7 +72,7 @@ module _ (last : JobState → List ℕ) where
   files_others [] = tt
   files_others (j ∷ jobs) = (other_by j j.terminal refl, files_others jobs)
 
-  -- nothing is put for a number that none of them has
+  -- nothing is printed for a number that no job has
   pub files_none : (number t : ℕ) (jobs : List JobState) → numbered number jobs ≡ None → output_at number t (pieces_of jobs) ≡ []
   files_none number t [] none = refl
   files_none number t (k ∷ jobs) none = by (k.number == number) refl none (λ e. files_none number t jobs e)
@@ -146,7 +146,7 @@ end_grown j w None (Some charge) = by (is_time_up j charge) (is_money_up j charg
 pub turn_grown : (j : JobState) (w : Work) (charge : Option Charge) (turn : Turn) (after : JobState) → turn_end j w charge ≡ Some (turn, after) → Grown j turn after
 turn_grown j w charge turn after ends = subst (λ (e : Option (Turn × JobState)). IfSome e (λ x. Grown j x.0 x.1)) ends (end_grown j w w.stop charge)
 
--- what is put at once is what was added
+-- what is printed at once is what was added
 drop_front : (xs ys : List ℕ) → drop (length xs) (xs ++ ys) ≡ ys
 drop_front [] ys = refl
 drop_front (x ∷ xs) ys = drop_front xs ys

@@ -1,4 +1,4 @@
--- Every turn keeps its limits, and so a tariff charges a unit at least.
+-- Every turn satisfies its limits, and so a tariff charges at least one unit.
 use Rattle.std.proofs.Common.{◌&&◌, ◌≡◌, ◌⊎◌, ◌≤◌, ◌+◌, ◌==◌, ◌++◌, ℕ, Bool, true, false, not, List, [], ◌∷◌, filter, length, Option, Some, None, IfSome, slice_get, Result, Ok, Err, MatchBool, codes, if◌then◌else◌, refl, sym, ◌∙◌, ap, subst, inl, inr, eqb-true, lit≤, arith}
 use Rattle.std.proofs.lemmas.Option.{some_pair_parts}
 use Rattle.std.specs.Fmt.{decimal}
@@ -51,7 +51,7 @@ use Rattle.g_run_model.proofs.ProcessedLemmas.{process_short}
 abbrev pub IsFit : JobState → Type 0
 IsFit j = (length j.desk.units.writers ≤ 16) × IfSome j.pending (IsKeptWithin (room_of j))
 
--- THE JOBS are fit, and what is left of a turn's program keeps its limits
+-- THE JOBS are fit, and the rest of a turn's program satisfies its limits
 pub record AreFit (jobs : List JobState) (next : ℕ) (turn : Option (ℕ × Asks Work)) : Type 0 where
   pub rising : AreRising 0 jobs next
   pub fits : (n : ℕ) (job : JobState) → numbered n jobs ≡ Some job → IsFit job

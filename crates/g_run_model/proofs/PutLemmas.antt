@@ -1,4 +1,4 @@
--- EVERY MOVE puts its text in pieces, and what it puts for a terminal's job is what that job's file grew by.
+-- EVERY MOVE prints its text in pieces, and what it prints for a terminal's job is what was added to that job's file.
 use Rattle.std.proofs.Common.{◌≡◌, ◌<◌, ◌≤◌, ◌+◌, ◌==◌, ◌&&◌, ℕ, Bool, true, false, cond, nat_le, not, List, [], ◌∷◌, ◌++◌, Option, Some, None, Result, Ok, Err, MatchBool, append_assoc, append-nil, codes, refl, sym, ◌∙◌, ap, subst, inl, inr, if◌then◌else◌, eqb-true, ne_eqb, arith}
 use Rattle.std.proofs.lemmas.Bool.{leb-false, leb-true}
 use Rattle.std.specs.List.{AllByRecursion}
@@ -37,7 +37,7 @@ use Rattle.g_run_model.proofs.CrewLemmas.{AreRising, found_by, found_other, left
 use Rattle.g_run_model.proofs.PieceLemmas.{Grown, Last, added_is, eqb_same, files_none, files_one, files_others, files_text, its_number, other_number, output_append, pieces_of, text_append, turn_grown}
 use Rattle.g_run_model.proofs.TickLemmas.{turn_added, turn_adds}
 
--- how a number's job goes with what was put for it at t
+-- how a number's job continues with what was printed for it at t
 abbrev pub GrowsBy : ℕ → ℕ → List Piece → Option JobState → Option JobState → Type 0
 GrowsBy number t ps None None = output_at number t ps ≡ []
 GrowsBy number t ps None (Some after) = after.terminal ≡ Some t → after.monitor ≡ output_at number t ps
@@ -378,7 +378,7 @@ module _ (w : World) (job after : JobState) (rising : AreRising 0 w.jobs w.next_
     apart_rest number t (turns.Ended units money) e =
         same_grown number t (rest_ended after.terminal after.monitor) (numbered number w.jobs) (numbered number (without_job after.number w.jobs)) (left_other after.number number e w.jobs) (rest_output after.terminal after.monitor number t)
 
-    -- what is put alike goes alike
+    -- texts that are printed alike have the same effect
     alike : (number t : ℕ) (ps qs : List Piece) (o p : Option JobState) → output_at number t ps ≡ output_at number t qs → GrowsBy number t qs o p → GrowsBy number t ps o p
     alike number t ps qs None None e h = e ∙ h
     alike number t ps qs None (Some a) e h = λ at_t. h at_t ∙ sym e

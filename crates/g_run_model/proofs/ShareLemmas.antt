@@ -5,7 +5,7 @@ use Rattle.g_job.specs.State.{JobState}
 use Rattle.g_run_model.specs.World.{with_job, without_job}
 use Rattle.g_run_model.proofs.CrewLemmas.{AreRising, no_job, numbered, one_job}
 
--- a job's share: the units that are left of its allowance, and one where it can step
+-- a job's share: the units that are left of its allowance, plus one if it can step
 abbrev pub share : (JobState → Bool) → JobState → ℕ
 share can j = (j.allowance - j.used) + (if can j then 1 else 0)
 

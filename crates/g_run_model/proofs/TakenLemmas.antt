@@ -1,5 +1,5 @@
--- What is known of one number's job in a run: how many free turns it may have had by the lines that were done, and that what
--- was charged is within its allowance.
+-- What is known of one number's job in a run: how many free turns it may have had by the lines that were done, and that
+-- what was charged is within its allowance.
 use Rattle.std.proofs.Common.{◌≡◌, ◌<◌, ◌≤◌, ◌+◌, ◌-◌, ◌==◌, ◌⊎◌, ◌&&◌, ℕ, Bool, true, false, not, List, [], ◌∷◌, ◌++◌, filter, Option, Some, None, IfSome, slice_get, refl, sym, ◌∙◌, ap, subst, inl, inr, if◌then◌else◌, eqb-true, arith}
 use Rattle.std.proofs.lemmas.Bool.{false≢true, leb-false}
 use Rattle.std.proofs.lemmas.Option.{some_pair_parts}
@@ -25,7 +25,7 @@ use Rattle.g_run_model.proofs.MountLemmas.{NoMount}
 abbrev pub IsCandid : State → Asks Work → Type 0
 IsCandid s p = IsHonest p ⊎ (((serial : ℕ) × StopsAt (Waits serial) p × (is_mounted s serial ≡ false)) ⊎ StopsAt Broken p)
 
--- the charge of a turn, where there is one, takes a unit at least
+-- the charge of a turn, if there is one, takes a unit at least
 abbrev pub TakesUnit : Move → Type 0
 TakesUnit (TurnOver number (Some charge)) = 1 ≤ charge.units
 TakesUnit move = Unit {0}
@@ -88,7 +88,7 @@ charged_ends j w charge None = by (is_time_up j charge) (is_money_up j charge) r
     by false true e = inr (_, _, refl, refl)
     by false false e = inl (_, _, refl, goes_on j w charge e)
 
--- who waits by its work, waits for a reel that isn't mounted
+-- a job that waits by its work, waits for a reel that isn't mounted
 abbrev serial_in : Option Stop → ℕ
 serial_in (Some (Waits serial)) = serial
 serial_in stop = 0
@@ -135,7 +135,7 @@ module _ (n : ℕ) (u q : Bool) (a : ℕ) where
     taking = taking;
   }
 
-  -- where all jobs are the same
+  -- if all jobs are the same
   same_jobs : {f m c next : ℕ} {jobs : List JobState} {s : State} {t : Option (ℕ × Asks Work)} (m2 : ℕ) (new : State) (left : Option (ℕ × Asks Work)) → IsTaken f m c jobs next s t → f ≤ 1 + m2
       → ((job : JobState) → numbered n jobs ≡ Some job → has_reel new job ≡ true → f ≤ m2) → ((p : Asks Work) → left ≡ Some (n, p) → (f ≤ m2) × IsCandid new p)
       → IsTaken f m2 c jobs next new left

@@ -67,7 +67,7 @@ left_by : (s : State) (k : Holding) (who : List ℕ) (call : StoreCall) (until :
 left_by s k who call until new Stopped other is = absurd (other refl)
 left_by s k who call until new fault other is = is
 
--- AN ANSWER that is none of the devices' own is that of the step in which no device failed
+-- AN ANSWER that no device causes is that of the step in which no device failed
 pub plain_too : (s : State) (k : Holding) (who : List ℕ) (call : StoreCall) (o : Outcome) (answer : Reply) (new : State)
     → ((let e : Reply = Err DiscReadFault in answer ≡ e) → ⊥) → ((let e : Reply = Err TapeReadFault in answer ≡ e) → ⊥) → ((let e : Reply = Err Stopped in answer ≡ e) → ⊥)
     → CallStep s k who call o answer new → CallStep s k who call Plain answer new

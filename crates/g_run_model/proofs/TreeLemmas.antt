@@ -39,7 +39,7 @@ use Rattle.g_run_model.proofs.AnswerLemmas.{call_plain}
 use Rattle.g_run_model.proofs.StepLemmas.{tree_held}
 use Rattle.g_run_model.proofs.ProcessedLemmas.{process_tree}
 
--- a store that goes down keeps its tree
+-- a store that goes down has the same tree
 in_down : (h : Option Holding) → option_map (λ (k : Holding). k.tree) (option_map no_longer_kept h) ≡ option_map (λ (k : Holding). k.tree) h
 in_down None = refl
 in_down (Some k) = refl
@@ -113,7 +113,7 @@ pub job_store : (o : Outcome) (refusal : Option (List ℕ)) (taken w : World) �
 job_store o None taken w e = e
 job_store o (Some text) taken w e = refl
 
--- a line leaves the tree, or puts its own there
+-- a line leaves the tree, or installs its own
 abbrev pub LineLeaves : Operator → World → World → Type 0
 LineLeaves what w new = (tree_in new.store ≡ tree_in w.store) ⊎ (tree_in new.store ≡ (if w.store.up then tree_in w.store else tree_by_line what w.store))
 
@@ -124,7 +124,7 @@ stays w new v is same = ap (λ (x : World). tree_in x.store) is ∙ ap tree_in s
 goes : (w new v : World) (s : State) → new ≡ v → v.store ≡ s → tree_in new.store ≡ tree_in s
 goes w new v s is same = ap (λ (x : World). tree_in x.store) is ∙ ap tree_in same
 
--- a line of a system that is down puts its tree there
+-- a line of a system that is down installs its tree
 puts : (what : Operator) (w new : World) (t : Option Tree) → w.store.up ≡ false → (t ≡ tree_in w.store) ⊎ (t ≡ tree_by_line what w.store) → tree_in new.store ≡ t → LineLeaves what w new
 puts what w new t e (inl same) is = inl (is ∙ same)
 puts what w new t e (inr put) is = inr (is ∙ put ∙ sym (ap (λ (b : Bool). if b then tree_in w.store else tree_by_line what w.store) e))
@@ -171,7 +171,7 @@ pub typed_by : (t : ℕ) (change : JobState → JobState) (w : World) (b : Bool)
 typed_by t change w true = changed_store t change (open_at t w.jobs) w
 typed_by t change w false = refl
 
--- A LINE leaves the tree, or puts its own there
+-- A LINE leaves the tree, or installs its own
 line_leaves : (o : Outcome) (what : Operator) (w new : World) → LineGives o what w new → LineLeaves what w new
 line_leaves o line.Format w new gives = rises_at FormatStep (λ r. codes "FORMATTED") o line.Format w new (λ r s does. event_tree _ _ w.store _ r s does) w.store.up refl gives
 line_leaves o line.Start w new gives = rises_at StartStep started_text o line.Start w new (λ r s does. inl (start_keeps w.store w.store.holding o r s refl does)) w.store.up refl gives
@@ -279,7 +279,7 @@ rises_up Does said o w new t up leaves false e low (r, s, (does, says_so), is) =
     let at_s : new.store ≡ s = ap (λ (x : World). x.store) is ∙ told_up said r s w in
     ap tree_in at_s ∙ leaves r s (sym (ap (λ (x : State). x.up) at_s) ∙ up) does
 
--- a line that brings the system up leaves just the tree that it should
+-- a line that brings the system up leaves exactly the right tree
 line_up : (o : Outcome) (what : Operator) (w new : World) → w.store.up ≡ false → new.store.up ≡ true → LineGives o what w new → tree_in new.store ≡ tree_by_line what w.store
 line_up o line.Format w new low up gives = rises_up FormatStep (λ r. codes "FORMATTED") o w new (Some formatted) up (λ r s s_up does. event_up _ _ w.store _ r s low s_up does) w.store.up refl low gives
 line_up o line.Restore w new low up gives =

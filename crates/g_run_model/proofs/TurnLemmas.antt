@@ -21,7 +21,7 @@ module _ {F U : Type 0} (tariffs : Shared F (Bor Usage × Unit {0}) Charge) (tar
   run_append w [] ns mid new first later = subst (λ (v : World). Run tariffs tariff rules rule v ns new) first later
   run_append w (m ∷ ms) ns mid new first later = (first.0, first.1, run_append first.0 ms ns mid new first.2 later)
 
-  -- where a tick is ready for a turn
+  -- if a tick is ready for a turn
   abbrev pub MayBegin : World → Type 0
   MayBegin w = ((w.phase ≡ Between) × (is_dumping w ≡ false)) ⊎ (w.phase ≡ Stepped)
 

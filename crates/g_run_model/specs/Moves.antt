@@ -134,7 +134,7 @@ cuts_of_calls moves = counted cuts_in (filter not_dump moves)
 abbrev pub cuts_of_dumps : List Move → ℕ
 cuts_of_dumps moves = counted cuts_in (filter is_dump moves)
 
--- A fault counter after n failures: it rose by at least n, and is unchanged if n is 0.
+-- A fault counter after n failures: it rose by at least n, unless it is saturated, and is unchanged if n is 0.
 pub record Failures (n before now : ℕ) : Type 0 where
   pub rose : HasRisenBy n before now
   pub none : n ≡ 0 → now ≡ before

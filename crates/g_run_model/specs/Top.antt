@@ -23,7 +23,7 @@ use Rattle.g_run_model.specs.Moves.{Move, Run, Counted}
 
 module _ {F U : Type 0} (tariffs : Shared F (Bor Usage × Unit {0}) Charge) (tariff : F) (rules : Shared U (Bor Standing × Unit {0}) ℕ) (rule : U) where
   -- Moves of a run, with the failures that the devices counted. Afterwards the devices represent the state of the last
-  -- world; if that is up, they represent it as it is after going down.
+  -- world; if that is up, they represent it as after a shutdown.
   pub record RunOf (lines : List Timed) (bad : Option ℕ) (s : State) (old new : Devices) (moves : List Move) (last : World) : Type 0 where
     pub run : Run tariffs tariff rules rule (start lines bad s) moves last
     pub counted : Counted moves last old new
@@ -86,6 +86,7 @@ pub record AreArmings (lines : List Timed) (through : Type 0) (old new : Devices
   pub tape_since : IsArmedIn old.rack.write_faults new.rack.write_faults old.rack.arms new.rack.arms
 
 -- The fuses, whether or not the devices expose their contents. The disc's is the last number that it was armed with, minus
--- all writes since. That of the tapes is between 1 and that number, or it is gone, and then a write has failed since.
+-- all writes since, unless the write counter is saturated. That of the tapes is between 1 and that number, or it is gone,
+-- and then a write has failed since.
 abbrev pub AreFused : Devices → Type 0
 AreFused d = IsDisc d.disc × IsRack d.rack

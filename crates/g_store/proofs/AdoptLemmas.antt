@@ -18,7 +18,7 @@ use Rattle.g_laws_store.proofs.WaitingLemmas.{mapped_there}
 use Rattle.g_store.specs.Starting.{adoption, copies_named, has_empty}
 use Rattle.g_store.proofs.OwnPlaceLemmas.{empty_there, named_all}
 
--- WHAT THE COMMIT MAKES of the contents
+-- WHAT THE COMMIT CHANGES in the contents
 pub adopt_then : (told pinned : Bool) (last : ℕ) (copies : List (ℕ × TapeCopy)) (c : Contents) → pinned ≡ false → changed told pinned (Adopt last copies) c ≡ closed last copies c
 unfolding changed
 adopt_then told true last copies c is = let no : ⊥ = both_ways true is refl in absurd no

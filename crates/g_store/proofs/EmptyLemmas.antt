@@ -84,7 +84,7 @@ pub none_is_used : (rack : Rack) (i : ℕ) → length rack.reels ≤ i → AreEm
 unfolding AreEmpty
 none_is_used rack i le empty = sym (ap (option_map (λ (r : Reel). r.serial)) (none_found rack.reels (subst (All (λ (r : Reel). used r ≡ false)) (take_all i rack.reels le) empty)))
 
--- WHERE NONE HAS ONE
+-- IF NONE HAS ONE
 pub all_unused : (reels : List Reel) → first_used reels ≡ None → All (λ r. used r ≡ false) reels
 all_unused [] none = All-nil (λ (r : Reel). used r ≡ false)
 all_unused (r ∷ rs) none = pick (used r) refl none (all_unused rs)

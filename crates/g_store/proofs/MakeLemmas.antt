@@ -1,4 +1,4 @@
--- A store that is made of devices: what it keeps, and what its state is.
+-- A store that is made of devices: its invariant, and its state.
 use Rattle.std.proofs.Common.{◌≡◌, ℕ, Bool, true, false, List, [], ◌∷◌, Option, Some, None, is_some, refl, sym, ◌∙◌, ap, arith, subst, inl, inr, true≢false}
 use Rattle.std.specs.Prelude.{◌⊎◌, ◌==◌, All, Contains, IfSome, filter, map, not, if◌then◌else◌}
 use Rattle.std.proofs.lemmas.Bool.{eq-eqb, false≢true, or_left, or_right}
@@ -118,7 +118,7 @@ down_again size held reels s is = is.state_is ∙ by_contents is.contents ∙ sy
     by_contents None = refl
     by_contents (Some c) = refl
 
--- WHERE IT WAS STOPPED, the disc holds what it held, or the new contents
+-- IF IT WAS STOPPED, the disc holds what it held, or the new contents
 module _ (disc now : DiscState) (reels : List Reel) (c : Contents) (changes : Changes (AsBeforeOr c) disc.held now.held) (size : now.size ≡ disc.size) where
   pub record Stood : Type 0 where
     pub before : List (List ℕ)

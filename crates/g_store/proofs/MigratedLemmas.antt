@@ -152,7 +152,7 @@ module _ (path : Path) (t : StoreFacts) (unspent : t.spent ≡ false) (keeps : I
         (λ text kept.
         refusal_is c path text kept full f is Plain ∙ (λ i. first_fault ((not (on i), Offline) ∷ (is_none (none i), NotDumped) ∷ (false, Stopped) ∷ [])))
 
-    -- and may go
+    -- and may be taken off
     module _ (on : f.online ≡ true) (copied : is_none f.rec.tape ≡ false) where
       granted : (out : Outcome) (text : ℕ → List ℕ) (kept : List UserRec)
           → migrate_refuses (holding_of text kept c) path.user (input_name (tree_in text c) [] path) out ≡ first_fault ((is_cut out, Stopped) ∷ [])

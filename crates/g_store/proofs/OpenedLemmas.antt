@@ -89,7 +89,7 @@ pub spent_stands : (o : OnlineFacts) (rack : Rack) (u : state.State) → Devices
 unfolding Stands
 spent_stands o rack u is = let devices : Stands true o None u (told_reels rack) = is in back true o None u rack devices
 
--- and a spent store over them, part by part
+-- and a spent store on them, part by part
 pub spent_holding : (o : OnlineFacts) (rack : Rack) (u : state.State) (v : View) (c : Contents) (blocks : List (List ℕ)) → o.disc.held ≡ Some blocks → Holds blocks c
     → IsView o.disc.held (told_reels rack) c v → u.up ≡ false → u.open_dump ≡ None → u.size ≡ o.disc.size → u.holding ≡ Some (holding_of v.text [] c)
     → u.reels ≡ map (row_of v.shelf) (told_reels rack) → u.dumped ≡ option_map (dumped_of v.text) v.dumped → StandsForState (spent_with o rack) u
@@ -453,7 +453,7 @@ module _ (serial : ℕ) (o : OnlineFacts) (rack : Rack) (on : Reel) (on_is : ree
       writes = record { exactly = λ less. ap (λ (x : OnlineFacts). x.disc.writes) is ∙ (let n : o.disc.writes ≡ o.disc.writes + 0 = omega arith in n) };
     }
 
-    -- the state goes nowhere by an outcome that refuses
+    -- an outcome that refuses leaves the state unchanged
     stays_by : (v : View) (out : Outcome) (fault : StoreFault) → open_refuses (state_up v (told_reels rack) o None) (held_in v o) serial out ≡ Some fault
         → ((reply : ℕ) (s next : state.State) → Event (Some fault) reply s next (Err fault) s) → OpenStep (state_up v (told_reels rack) o None) (held_in v o) serial out (Err fault) (state_up v (told_reels rack) o None)
     stays_by v out fault is event =

@@ -117,7 +117,7 @@ module _ (serial : ℕ) (old new : Rack) (rising : AllPairs Below (serials old.r
   row_rising : AllPairs Below (names (rows shelf old.reels))
   row_rising = subst (AllPairs Below) (sym (row_names shelf old.reels)) rising
 
-  -- a reel's row, where it has its labels still
+  -- a reel's row, if it has its labels still
   row_is : (next : ℕ → List Dump) (r q : Reel) → IsLabelled r q → (b : Bool) → nat_lt 0 q.len ≡ b → (dumps : List state.Shelved) → map shelved_of (next r.serial) ≡ dumps
       → row_of next (unread q) ≡ record { serial = r.serial; capacity = r.capacity; mounted = r.mounted; used = b; dumps = dumps }
   unfolding row_by

@@ -1,4 +1,4 @@
--- How a store answers a process, as states go.
+-- How a store answers PROCESS, in terms of states.
 use Rattle.std.proofs.Common.{◌≡◌, ◌≢◌, ℕ, zero, suc, ◌+◌, ◌-◌, ◌^◌, ◌<◌, ◌≤◌, ◌==◌, Bool, true, false, List, [], ◌∷◌, ◌++◌, length, map, Option, Some, None, Result, Ok, Err, refl, sym, ◌∙◌, ap, arith, subst, inl, inr, true≢false}
 use Rattle.std.specs.Prelude.{◌⊎◌, ◌&&◌, ◌||◌, All, AllPairs, Contains, IfSome, MatchOption, filter, if◌then◌else◌, is_none, is_some, nat_le, nat_lt, not, option_map}
 use Rattle.std.specs.List.{AllZip, flat_map}
@@ -207,7 +207,7 @@ rose_of : (old new : StoreFacts) → (Rose old.online.disc.write_faults new.onli
 rose_of old new (inl both) = inl both.0
 rose_of old new (inr both) = inr both.0
 
--- what is dumped goes by the newest dump and by what is gathered
+-- what is dumped depends on the newest dump and on what is gathered
 dumped_one : (text : ℕ → List ℕ) (xs ys : List Dump) (t : DumpedDirectory xs) (u : DumpedDirectory ys) → t.last ≡ u.last → t.gathered ≡ u.gathered → dumped_of text t ≡ dumped_of text u
 unfolding dumped_parts
 dumped_one text xs ys t u last gathered = λ i. dumped_parts text (last i) (gathered i)
@@ -241,7 +241,7 @@ module _ (o : OnlineFacts) (old : Rack) (reels : AreReels old.reels) (told : All
       by_dumps [] blocks completed some long = absurd (some refl)
       by_dumps (d ∷ ds) blocks completed some long = let low = within blocks d completed.are.0.stands in omega (arith, low, long)
 
-  -- where each file belongs to them none is lost
+  -- if each file belongs to them none is lost
   pub none_lost : (text : ℕ → List ℕ) → All (λ (g : File). KeepsFile (text g.rec.stamp) (all_dumps shelf (told_reels old)) g) o.contents.files → (f : File) (copy : TapeCopy) → IsFirstLost o old f copy → ⊥
   none_lost text files f copy lost =
       let kept = All-contains (λ (g : File). KeepsFile (text g.rec.stamp) (all_dumps shelf (told_reels old)) g) o.contents.files f files lost.there in
@@ -259,7 +259,7 @@ module _ (o : OnlineFacts) (old : Rack) (reels : AreReels old.reels) (told : All
       lost.lost it.blocks (ap (λ (n : ℕ). blocks_of n old) (sym named) ∙ it.at) (shelf r.serial) (subst (λ (n : ℕ). AreCompleted n it.blocks (shelf r.serial)) named it.completed)
       (λ n less. record { dump = content.dump; there = on_r; on = content.reel; from = omega (arith, from); to = omega (arith, less, to, size) })
 
--- the reel is there, where nothing refuses the event without a read
+-- the reel is there, if nothing refuses the event without a read
 pub there_is : (serial : ℕ) (t : StoreFacts) → process_refuses serial t ≡ None → (r : Reel) × (reel serial t.rack.reels ≡ Some r)
 there_is serial t granted =
     has_reel (reel serial t.rack.reels) (fault_from RackNotMounted (first_unmounted t.rack.reels)) (is_some t.dump) (open_number t.dump) (t.online.contents.head.last_dump == 2 ^ 62 - 1) granted

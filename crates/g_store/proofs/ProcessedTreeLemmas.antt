@@ -1,4 +1,4 @@
--- The dump of all versions, as a state has it: its number, its tree, where its versions lie, and how many blocks it takes.
+-- The dump of all versions, as a state has it: its number, its tree, where its versions lie, and the number of its blocks.
 use Rattle.std.proofs.Common.{◌≡◌, ℕ, zero, suc, ◌+◌, ◌-◌, ◌≤◌, ◌==◌, Bool, true, false, List, [], ◌∷◌, ◌++◌, length, map, Option, Some, None, refl, sym, ◌∙◌, ap, arith, subst, inl, inr, unwrap_or, option_map, get_or}
 use Rattle.std.specs.Prelude.{◌⊎◌, ◌&&◌, ◌||◌, All, AllPairs, Contains, filter, is_none, is_some, nat_lt, not, sum_by}
 use Rattle.std.specs.List.{flat_map, list_any}
@@ -70,7 +70,7 @@ use Rattle.g_process.proofs.PinsLemmas.{content_pins, pins_of, pins_texts}
 use Rattle.g_process.proofs.PlanLemmas.{plan_content, plan_long}
 use Rattle.g_store.proofs.NotedLemmas.{last_is}
 
--- A SUM over what is gathered by users is one over all files, where each has an owner
+-- A SUM over what is gathered by users is one over all files, if each has an owner
 abbrev IsntOf : ℕ → UserRec → Type 0
 IsntOf owner u = u.number ≡ owner → ⊥
 

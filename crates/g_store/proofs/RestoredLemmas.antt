@@ -146,7 +146,7 @@ module _ (disc : DiscState) (rack after : Rack) (only : OnlyReads rack after) wh
               (λ i. first_fault (rising.fault_from RackNotMounted ((first_is s devices ∙ first) i) ∷ (false, TapeReadFault) ∷ (rows i, NoDump) ∷ []));
         }
 
-    -- where there is a tree
+    -- if there is a tree
     module _ (number : ℕ) (made : Contents) (is : IsRestored reels disc.held number made) (mounted : first_unmounted rack.reels ≡ None) (told : AllTold disc.held reels) (belong : Belong disc.held rack) where
       at : RestoredAt (all_dumps belong.shelf reels) disc.held number made
       at = restored_at reels disc.held number made belong.shelf told.each belong.shelved is

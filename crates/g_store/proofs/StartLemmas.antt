@@ -238,7 +238,7 @@ module _ (disc : DiscState) (rack : Rack) (told : AllTold disc.held (told_reels 
         abbrev pub after : Contents
         after = closed i.number copies c
 
-        -- its records keep the texts of their stamps
+        -- its records have the texts of their stamps
         kept : All (HasKept belong.text dumps) files
         kept =
             subst (All (HasKept belong.text dumps)) (sym files_are)

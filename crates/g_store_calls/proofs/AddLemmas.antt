@@ -49,7 +49,7 @@ slice_last : {X : Type 0} (xs : List X) (x : X) → slice_get (xs ++ x ∷ []) (
 slice_last [] x = refl
 slice_last (y ∷ xs) x = slice_last xs x
 
--- WITH ONE MORE USER, whose name is new, the records keep their rules
+-- WITH ONE MORE USER, whose name is new, the records satisfy their rules
 module _ (users : List UserRec) (files : List FileRec) (u : UserRec) (is : IsRecords users files) (fits : IsUser Two u) (number : u.number ≡ length users) (few : length users < 63)
     (below : u.superior < length users) (apart : All (λ w. w.user ≢ u.user) users) where
   abbrev more : List UserRec

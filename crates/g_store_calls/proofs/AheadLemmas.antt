@@ -64,7 +64,7 @@ told_or_not held reels = by_disc (cases_Bool (is_some held)) (reels_told reels)
     by_disc (inr isnt) rest = inr (λ told. both_ways (is_some held) isnt told.disc)
     by_disc (inl is) (inr not) = inr (λ told. not told.each)
 
--- WHERE THEY DON'T: the same without a dumped tree
+-- IF THEY DON'T: the same without a dumped tree
 module _ (s : StoreFacts) (u : State) (sn : Seen s u) (not : Told s → ⊥) where
   abbrev bare : View
   bare = record sn.view { dumped = None; opened = None }
@@ -82,7 +82,7 @@ module _ (s : StoreFacts) (u : State) (sn : Seen s u) (not : Told s → ⊥) whe
     opened = tt;
   }
 
--- WHERE THEY DO
+-- IF THEY DO
 pub agree_with : (d : Dump) (a b : ℕ → List Dump) (reels : List Reel) → Agree a b reels → Agree (with_dump d a) (with_dump d b) reels
 unfolding Agree
 agree_with d a b reels agree r there = ap (λ (ds : List Dump). let es : List Dump = if r.serial == d.serial then ds ++ d ∷ [] else ds in es) (agree r there)

@@ -141,7 +141,7 @@ append_answers o new before after who path bytes number full live tied granted a
         (append_early s.online.contents.users (recs_in s.online.contents) s.online.contents.head.next_stamp who path bytes rules free)
         (subst (λ (r : FileRec). r.len + length bytes ≤ 65536) (sym rec) short) result (each f there numbered))
 
--- ITS KIND: the bytes are few enough, and who waits, waits for a reel that isn't mounted
+-- ITS KIND: the bytes are few enough, and a call that waits, waits for a reel that isn't mounted
 module _ (path : Path) (bytes : List ℕ) (full : Full) (before : Rack) (few : length bytes ≤ 65536) where
   settled : (fault : StoreFault) → ((serial : ℕ) → fault ≢ WaitTape serial) → IsKind (Append path bytes) before (Err fault)
   settled fault other = record {

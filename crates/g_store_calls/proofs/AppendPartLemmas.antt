@@ -56,7 +56,7 @@ nothing_asked o rack tied = record {
 pub disc_asked : (cause : Type 0) (o new : OnlineFacts) (rack : Rack) → ReadsByCause cause o.disc new.disc → new ≡ record o { disc = new.disc } → IsTied new → HasAsked cause ⊥ o new rack rack
 disc_asked cause o new rack reads same tied = record { disc = reads; same = same; tied = tied; only = nothing_read rack; kept = λ no. refl; rose = λ no. absurd no }
 
--- no read has failed where it answered otherwise
+-- no read has failed if the answer isn't a read fault
 pub asked_none : {P Q : Type 0} (old new : OnlineFacts) (before after : Rack) → (P → ⊥) → (Q → ⊥) → HasAsked P Q old new before after → HasAsked ⊥ ⊥ old new before after
 asked_none old new before after no_disc no_tape asked = asked_for no_disc (λ no. absurd no) no_tape (λ no. absurd no) asked
 

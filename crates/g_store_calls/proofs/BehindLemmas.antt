@@ -1,4 +1,5 @@
--- A view of a disc stays right where files are taken off, and where a new version is put in, whose text is the one of its stamp from then on.
+-- A view of a disc stays right where files are taken off, and where a new version is inserted, whose text is the one of its
+-- stamp from then on.
 use Rattle.std.proofs.Common.{◌≡◌, ℕ, ◌<◌, ◌≤◌, Bool, true, false, List, ◌∷◌, get_or, length, Option, Some, None, is_some, refl, sym, ◌∙◌, arith, inl, inr, subst, true≢false, All}
 use Rattle.std.specs.Prelude.{◌⊎◌, ◌==◌, Contains, IfSome, filter, nat_lt, if◌then◌else◌}
 use Rattle.std.specs.Option.{ForSome}
@@ -142,7 +143,7 @@ module _ (s : StoreFacts) (unspent : s.spent ≡ false) (keeps : IsStore s) (bel
     files = subst (λ (fs : List File). All (λ (g : File). HasText (AllTold now reels) (v.text g.rec.stamp) v.dumps g) fs) (sym are) (off_all numbers);
   }
 
-  -- and a new version is put in
+  -- and a new version is inserted
   module _ (bytes : List ℕ) (f : File) (stamp : f.rec.stamp ≡ next) (len : length bytes ≡ f.rec.len) (told_is : (f.bytes ≡ Some bytes) ⊎ (f.bytes ≡ None)) (online : f.online ≡ true)
       (dated : All (λ g. g.rec.stamp < next) files) (dumped : IfSome v.dumped (λ t. t.last.next ≤ next)) where
     abbrev texts : ℕ → List ℕ

@@ -88,7 +88,7 @@ down_with v false e = refl
 
 module _ (v : View) (reels : List Reel) (o : OnlineFacts) (dump : Option DumpFacts) (who : List ℕ) (call : StoreCall) (known : IsAsked v o dump) (need_is : ℕ) (take : List ℕ) (room : ℕ)
     (plan : IsUnjamPlan need_is o take room) where
-  -- where a stop came between the two commits
+  -- if a stop came between the two commits
   pub down_off : state_down v reels o.disc.size (Some (committed (is_some o.pins) (off_disc take o.contents))) ≡ down (after_unjam (state_up v reels o dump) (held_in v o) who call plan.until)
   down_off =
       let up : State = state_up v reels o dump in

@@ -31,7 +31,7 @@ use Rattle.g_store_calls.specs.Replies.{RefusesAs}
 use Rattle.g_store_calls.proofs.SeenLemmas.{seen}
 use Rattle.g_store_calls.proofs.StepLemmas.{here_early, no_late, none_lacks, step_early, step_made}
 
--- THE FAULTS OF THE PLAIN STEP are none of devices and of memory
+-- THE FAULTS OF THE PLAIN STEP concern neither devices nor memory
 abbrev pub IsPlain : StoreFault → Type 0
 IsPlain NoMemory = ⊥
 IsPlain Stopped = ⊥

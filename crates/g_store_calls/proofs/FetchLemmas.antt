@@ -127,7 +127,7 @@ replied_at : (s : StoreFacts) (who : List ℕ) (call : StoreCall) (reply : List 
 replied_at s who call reply f reader v right =
     reader.replied (λ (r : FileRec). v.text r.stamp) (texts_fit (AllTold s.online.disc.held (told_reels s.rack)) v s.online.contents right.files)
 
--- BROUGHT BACK, over one store
+-- BROUGHT BACK, in one store
 module _ (s : StoreFacts) (new : OnlineFacts) (after : Rack) (who : List ℕ) (call : StoreCall) (reply : List ℕ → StoreReply) (f : File) (c : TapeCopy) (unspent : s.spent ≡ false) (store : IsStore s)
     (plan : KeepsPlan s.dump) (reader : IsReader s.online who call reply f) (away : IsOnTape f.rec.number s.online f c) (keeps : KeepsDevices s.online new s.rack after) where
   abbrev Comes : Result (List ℕ) StoreFault → Type 0
@@ -220,7 +220,7 @@ module _ (s : StoreFacts) (new : OnlineFacts) (after : Rack) (who : List ℕ) (c
       (subst (λ (x : Rack). Answers s who call (Err NoMemory) (with_devices s.online x s)) (sym is.rack) (starved_then s s.rack who call unspent store (nothing_read s.rack) refl)))
   starved_or_back result (inr come) = comes_back result come
 
--- READ FROM THE DISC, over one store
+-- READ FROM THE DISC, in one store
 read_faults_alone : (o new : OnlineFacts) {P : Type 0} → new ≡ record o { disc = new.disc } → ReadsByCause P o.disc new.disc → new ≡ with_faults o new.disc.read_faults
 read_faults_alone o new same reads =
     same

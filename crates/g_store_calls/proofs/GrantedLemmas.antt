@@ -78,7 +78,7 @@ pub named_of : (users : List UserRec) (files : List FileRec) (who : List ℕ) (p
 named_of users files who path number full old at is =
     subst (λ (r : FileRec). IsFileNamed users files who path r full) (sym (is at.rec at.there at.number_is)) (record { there = at.there; name_is = at.name_is; named = at.named })
 
--- THE NAME that a Put gives for output
+-- THE NAME that a Put denotes for output
 module _ (o : OnlineFacts) (live : o.live ≡ true) (tied : IsTied o) (who : List ℕ) (path : Path) (bytes : List ℕ) (number : Option ℕ) (full : Full)
     (granted : Grants o who (Put path bytes) (Output number full)) where
   pub output_called : ForTree o.contents.users (recs_in o.contents) (λ t. full ≡ output_name t who path)

@@ -1,4 +1,4 @@
--- The record of a new version: in the place of the file of its number, or of a new file, the records keep their rules.
+-- The record of a new version: in the place of the file of its number, or of a new file, the records satisfy their rules.
 use Rattle.std.proofs.Common.{◌≡◌, ◌≢◌, ℕ, zero, suc, ◌<◌, ◌≤◌, ◌^◌, Bool, true, List, [], ◌∷◌, get_or, length, Option, Some, None, is_some, refl, sym, ◌∙◌, ap, arith, inl, inr, subst, All}
 use Rattle.std.specs.Prelude.{◌⊎◌, AllPairs, Contains, IfSome, filter, nat_lt}
 use Rattle.std.specs.FinMap.{get, get-from_entries, len, nat_cmp-IsAntisymmetric}
@@ -53,7 +53,7 @@ few_of files is = by_length (cases_lt 1024 (length files))
         let most = is.below 1024 d more in
         let no : ⊥ = omega (arith, least, most) in absurd no
 
--- A RECORD AMONG RECORDS: what it has to keep to itself, and with those of other numbers
+-- A RECORD AMONG RECORDS: which rules it has to satisfy on its own, and which together with those of other numbers
 pub record Fits (users : List UserRec) (files : List FileRec) (r : FileRec) : Type 0 where
   pub file : IsFile r
   pub number : r.number < 1024

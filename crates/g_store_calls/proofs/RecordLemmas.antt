@@ -242,7 +242,7 @@ module _ (s : StoreFacts) (new : OnlineFacts) (who : List ℕ) (call : StoreCall
           did = subst (λ (t : State). Did t (held_in v o) who call s after) (sym sn.state_is) (did up (held_in v o));
         }
 
-    -- what a store keeps
+    -- the invariant of a store
     open_kept : (d : DumpFacts) → IsOpen d o s.rack → IsOpen d new s.rack
     open_kept d open_is =
         let same : new.contents ≡ e = contents_are ∙ ap (λ (b : Bool). committed b e) (ap is_some open_is.pinned) in

@@ -32,7 +32,7 @@ use Rattle.g_store_calls.proofs.TellLemmas.{granted_off}
 abbrev called : List ℕ → Full → Full
 called to full = record full { local = to }
 
--- WHERE THE CALL ISN'T REFUSED
+-- IF THE CALL ISN'T REFUSED
 module _ (users : List UserRec) (files : List FileRec) (next : ℕ) (who : List ℕ) (path : Path) (to : List ℕ) (is : IsRecords users files)
     (granted : RefusesAs users files next who (Rename path to) None) where
   abbrev t : Tree

@@ -121,7 +121,7 @@ module _ (users : List UserRec) (files : List FileRec) (who : List ℕ) (path : 
     traps = ap (λ (q : FileRec). q.traps) made ∙ traps_are;
   }
 
--- where the traps were copied before
+-- if the traps were copied before
 pub trapped_of : (users : List UserRec) (files : List FileRec) (who : List ℕ) (path : Path) (user : List ℕ) (call : StoreCall) (old r : FileRec) (full : Full) (number : ℕ) (was traps : TrapList)
     → IsRecords users files → IsFileNamed users files who path old full → number < length users → name_of users number ≡ user → was ≡ old.traps
     → traps ≡ with_modes was old.owner number (modes_by call (modes_of was old.owner number)) → IsOthers traps.others → traps.owner < 32 → r ≡ record old { traps = traps }
@@ -130,7 +130,7 @@ trapped_of users files who path user call old r full number was traps is at with
     trapped_made users files who path user call old r full number traps is at within user_is
     (subst (λ (w : TrapList). traps ≡ with_modes w old.owner number (modes_by call (modes_of w old.owner number))) copied traps_are) others owner made
 
--- WHERE THE CALL ISN'T REFUSED
+-- IF THE CALL ISN'T REFUSED
 module _ (users : List UserRec) (files : List FileRec) (next : ℕ) (who : List ℕ) (path : Path) (user : List ℕ) (modes : ℕ) (is : IsRecords users files) where
   abbrev t : Tree
   t = tree_of users files zeros next

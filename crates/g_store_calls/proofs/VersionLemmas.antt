@@ -84,7 +84,7 @@ most_by n m r x one two most = omega (arith, one, two, most)
 turned : (n m b : ℕ) → n ≡ m → m + b ≡ b + n
 turned n m b same = omega (arith, same)
 
--- TOO FEW BLOCKS, also without all that may go off the disc
+-- TOO FEW BLOCKS, even without everything that may be taken off the disc
 module _ (s : StoreFacts) (unspent : s.spent ≡ false) (store : IsStore s) (keeps : KeepsPlan s.dump) (who : List ℕ) (call : StoreCall) (blocks : ℕ) (take : List ℕ) (room : ℕ)
     (plan : IsUnjamPlan blocks s.online take room) (short : room < blocks)
     (met : (v : View) → IsView s.online.disc.held (told_reels s.rack) s.online.contents v → IsMet v (told_reels s.rack) s.online s.dump who call blocks) where

@@ -1,4 +1,4 @@
--- WHAT IS AT HAND THEN, told in another way.
+-- What is at hand then, in another formulation.
 use Rattle.std.proofs.Common.{◌≡◌, ◌+◌, ◌≤◌, ℕ, List, Option, None, sym, subst}
 use Rattle.std.specs.Fn.{Shared}
 use denote.Ref.{Bor}

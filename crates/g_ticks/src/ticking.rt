@@ -22,8 +22,8 @@ use g_rules::{Charge, Standing, Usage};
 use g_tape::Tapes;
 use std::alloc::Global;
 
-/// A tick of a system that is up, where no line is due and something can step: a step of the open dump, if there is one; then, unless
-/// that stopped the system, a turn of the job that is chosen, if one can step. The count is the caller's, who raises it.
+/// A tick of a system that is up, when no line is due and something can step: a step of the open dump, if there is one;
+/// then, unless that stopped the system, a turn of the chosen job, if one can step. The caller raises the count.
 pub(crate) fn tick<K: Sink, D: Disc, T: Tapes, F: Fn(&Usage) -> Charge, U: Fn(&Standing) -> u64>(
     alloc: Global,
     up: &mut DayUp<D, T>,

@@ -28,7 +28,7 @@ use g_rules::{Charge, Standing, Tariff, Usage, WeighRule};
 use g_tape::Tapes;
 use std::alloc::Global;
 
-/// A turn of the job that is chosen among those that can step, if one can.
+/// A turn of the job chosen among those that can step, if there is one.
 pub(crate) fn take_turn<
     K: Sink,
     D: Disc,
@@ -66,7 +66,7 @@ pub(crate) fn take_turn<
     }
 }
 
-/// What the jobs weigh behind the turn of the job of this number, unless the turn failed.
+/// The weights of the jobs after the turn of the job of this number, unless the turn failed.
 fn weigh_behind<U: Fn(&Standing) -> u64>(
     crew: &Crew,
     failure: Option<Failure>,
@@ -84,7 +84,7 @@ fn weigh_behind<U: Fn(&Standing) -> u64>(
     }
 }
 
-/// That the numbers of the jobs rise.
+/// The solver learns here that the numbers of the jobs rise.
 fn rises(crew: &Crew)
     ensures { AreJobs crew.now.jobs crew.now.next_job }
 {
