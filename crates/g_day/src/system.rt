@@ -10,13 +10,8 @@ use g_disc::Disc;
 use g_known::KnownReels;
 use g_tape::Tapes;
 
-<<<<<<< HEAD
-/// The system: up, as a store over its devices, or down, when the devices stand alone. What is known of the reels stays with them.
-/// Contracts see it by `facts_of` (docs/DEFINITIONS.md, "g_day").
-=======
 /// The system: up, with a store on its devices, or down, with only the devices. What is known of the reels stays with them.
-/// Contracts see it by `facts_of` (docs/DEFINITIONS.md, "The whole run").
->>>>>>> 8fc4b54fe01d202ba07c48c4366380c31edb9563
+/// Contracts see it by `facts_of` (docs/DEFINITIONS.md, "g_day").
 #[derive(Drop)]
 pub enum System<D: Disc, T: Tapes> {
     Up(Running<D, T>),

@@ -13,15 +13,9 @@ use g_disc::Disc;
 use g_job_table::Crew;
 use g_tape::Tapes;
 
-<<<<<<< HEAD
-/// A day whose system was up as a tick began: its store, the crew and the count of ticks. A tick changes it where it lies. Where
-/// its store was stopped the system counts as down from then on (docs/DEFINITIONS.md, "g_day"), and the devices are taken
-/// out of the store behind the last tick.
-=======
 /// A day whose system was up when a tick began: its store, the crew and the count of ticks. A tick changes it in place. If
-/// its store was stopped the system counts as down from then on (docs/DEFINITIONS.md, "The whole run"), and the devices are
+/// its store was stopped the system counts as down from then on (docs/DEFINITIONS.md, "g_day"), and the devices are
 /// taken out of the store after the last tick.
->>>>>>> 8fc4b54fe01d202ba07c48c4366380c31edb9563
 #[derive(Drop)]
 pub(crate) struct DayUp<D: Disc, T: Tapes> {
     pub(crate) store: Watched<D, T>,
