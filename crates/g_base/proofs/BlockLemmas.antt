@@ -1,4 +1,5 @@
 -- What follows of blocks.
+-- serves: crates above
 use Rattle.std.proofs.Common.{◌≡◌, ℕ, replicate, get_or, arith, refl, inl, inr, ◌∙◌, sym}
 use Rattle.std.proofs.lemmas.List.{length-replicate, get_or-replicate, get_or_past}
 use Rattle.std.proofs.lemmas.Bool.{cases_lt}

@@ -1,4 +1,5 @@
 -- How risen counts add up.
+-- serves: FuseLemmas, crates above
 use Rattle.std.proofs.Common.{◌≡◌, ℕ, ◌+◌, ◌≤◌, arith}
 use Rattle.g_base.specs.Counts.{one_more, Rose, HasRisenBy, RoseBy}
 

@@ -1,4 +1,5 @@
 -- Fields of blocks: their lengths, how a writer continues, and which bytes equal fields have.
+-- serves: block, finish, put_bytes, put_u8, put_zeros, restart, take_u16 (again), take_u24 (again), take_u32 (again), take_u64 (again), crates above
 use Rattle.std.proofs.Common.{◌≡◌, ℕ, ◌+◌, ◌-◌, ◌^◌, ◌<◌, ◌≤◌, List, [], ◌∷◌, ◌++◌, length, take, drop, replicate, refl, sym, ap, ◌∙◌, arith, length-append, length-set, length-take-le, take-append-drop}
 use Rattle.std.proofs.Math.ListN.{set}
 use Rattle.std.proofs.lemmas.Slice.{drop-put_mid}

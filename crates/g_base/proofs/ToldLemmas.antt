@@ -1,4 +1,5 @@
 -- How changes of exposed content compose, and what follows from them.
+-- serves: crates above
 use Rattle.std.proofs.Common.{◌≡◌, ℕ, List, Option, Some, None, refl, sym, ◌∙◌, ap, subst}
 use Rattle.std.proofs.Math.ListN.{set}
 use Rattle.g_base.specs.Block.{with_block}

@@ -1,4 +1,5 @@
 -- Groups of flags that are noted as full: what preserves the notes, and what follows from them.
+-- serves: all_free, mark_free, mark_taken, skip_taken
 use Rattle.std.proofs.Common.{◌≡◌, ◌≢◌, ℕ, ◌+◌, ◌-◌, ◌/◌, ◌<◌, ◌≤◌, List, Bool, true, false, Some, length, slice_get, get_or, replicate, sym, ◌∙◌, ap, subst, inl, inr, arith, length-set}
 use Rattle.std.specs.Prelude.{◌⊎◌}
 use Rattle.std.proofs.Math.ListN.{set}

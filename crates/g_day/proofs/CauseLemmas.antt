@@ -1,4 +1,5 @@
 -- WHAT DEVICES COUNT in an event, by its answer.
+-- serves: UpLemmas, crates above
 use Rattle.std.proofs.Common.{◌≡◌, ◌≤◌, [], refl}
 use Rattle.std.specs.Prelude.{Result, Err}
 use Rattle.g_base.specs.Counts.{Rose}

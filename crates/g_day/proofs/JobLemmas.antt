@@ -1,4 +1,5 @@
 -- A JOB'S LINE, AND SHUT.
+-- serves: crates above
 use Rattle.std.proofs.Common.{◌≡◌, ℕ, ◌+◌, ◌++◌, Bool, true, false, List, [], ◌∷◌, Option, Some, None, refl, sym, ◌∙◌, ap, subst, inl, inr}
 use Rattle.std.specs.Prelude.{◌⊎◌, Err, Result, codes, is_some, option_map, if◌then◌else◌}
 use Rattle.std.specs.FinMap as finmap

@@ -1,4 +1,5 @@
 -- The same devices after an event: reads, writes, mounts and arming preserve the identity of disc and reels.
+-- serves: CauseLemmas, JobLemmas, LineLemmas, UpLemmas, crates above
 use Rattle.std.proofs.Common.{◌≡◌, ◌==◌, ◌≤◌, ℕ, Bool, true, false, List, [], ◌∷◌, map, refl, sym, ◌∙◌, ap, if◌then◌else◌, arith}
 use Rattle.g_script.specs.declared.operator.Operator.{Operator}
 use Rattle.g_script.specs.declared.operator.Operator.TheVariants as line

@@ -1,4 +1,5 @@
 -- What a line leaves of the crew, whether or not the devices expose their contents.
+-- serves: JobLemmas, LineLemmas, UpLemmas, crates above
 use Rattle.std.proofs.Common.{◌≡◌, ℕ, false, List, Option, sym, subst, refl, arith}
 use Rattle.std.proofs.lemmas.List.Elements.{All-nil, All-push}
 use Rattle.g_entry.specs.declared.user_rec.UserRec.{UserRec}

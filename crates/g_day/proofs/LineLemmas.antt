@@ -1,5 +1,6 @@
 -- How a line ends: it was done and reported, or memory ran out and it wasn't; and what a refusal and a stop make of the
 -- world.
+-- serves: JobLemmas, UpLemmas, crates above
 use Rattle.std.proofs.Common.{◌≡◌, ℕ, ◌++◌, true, false, List, [], ◌∷◌, Option, Some, None, refl, sym, ◌∙◌, ap, subst, arith, inl, inr}
 use Rattle.std.specs.Prelude.{◌≢◌, ◌⊎◌, Result, Err, codes}
 use Rattle.std.proofs.lemmas.List.{append_assoc}

@@ -1,4 +1,5 @@
 -- An event of a store that is up, on behalf of a line: it is granted, refused or stopped, by the step of its state.
+-- serves: JobLemmas, crates above
 use Rattle.std.proofs.Common.{◌≡◌, ℕ, ◌+◌, ◌++◌, Bool, true, false, List, [], Option, Some, None, refl, sym, ap, subst, inl, inr}
 use Rattle.std.specs.Prelude.{◌≢◌, ◌↔◌, MatchBool, Result, Ok, Err, codes}
 use Rattle.g_plain.specs.declared.faults.StoreFault.{StoreFault}

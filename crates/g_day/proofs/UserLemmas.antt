@@ -1,4 +1,5 @@
 -- The users of a store, as the state that it represents has them.
+-- serves: JobLemmas, crates above
 use Rattle.std.proofs.Common.{◌≡◌, ℕ, false, List, refl, sym, ◌∙◌, ap, subst}
 use Rattle.std.specs.Prelude.{is_some}
 use Rattle.std.specs.FinMap as finmap

@@ -1,4 +1,5 @@
 -- Lines of a script in order.
+-- serves: push_filled, push_job, push_round (lines), push_rounds
 use Rattle.std.proofs.Common.{List, [], ap, codes, append_assoc, arith, refl, replicate, subst, suc, sym, ℕ, ◌%◌, ◌*◌, ◌+◌, ◌++◌, ◌∙◌, ◌∷◌, ◌≡◌}
 use Rattle.std.specs.Fmt.{decimal}
 use Rattle.std.proofs.lemmas.List.{append-nil, replicate_more}

@@ -1,4 +1,5 @@
 -- The words of the command line, and the numbers in them.
+-- serves: asked_by, demo_by, number_in, words_have_one_reading, crates above
 use Rattle.std.proofs.Common.{Bool, List, None, Some, [], ap, arith, codes, get_or, length, refl, subst, suc, sym, true, zero, ℕ, ◌<◌, ◌∙◌, ◌∷◌, ◌≡◌, ◌≢◌, ◌≤◌, ◌⊎◌, ◌^◌, inl, inr}
 use Rattle.std.specs.Borrow.{Bor}
 use Rattle.std.specs.Fmt.{decimal}

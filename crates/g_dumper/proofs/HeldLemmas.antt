@@ -1,4 +1,5 @@
 -- The files that a dump holds: those of some users, one user after another.
+-- serves: OpeningLemmas, PlanLemmas, crates above
 use Rattle.std.proofs.Common.{◌≡◌, ◌≢◌, ℕ, zero, suc, ◌+◌, ◌<◌, ◌≤◌, Bool, true, false, List, [], ◌∷◌, ◌++◌, get_or, length, refl, sym, ◌∙◌, ap, arith, subst, inl, inr, true≢false}
 use Rattle.std.specs.Prelude.{◌⊎◌, ◌==◌, ◌||◌, All, AllPairs, Contains, map}
 use Rattle.std.specs.List.Sorted.{IsStrictlyIncreasing}

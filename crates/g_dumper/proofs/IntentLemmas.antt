@@ -1,4 +1,5 @@
 -- The commit that notes the intent of a dump, after its versions are pinned.
+-- serves: open (ok, stopped), OpeningLemmas, PlanLemmas, crates above
 use Rattle.std.proofs.Common.{◌≡◌, ℕ, ◌+◌, ◌^◌, ◌<◌, Bool, true, false, List, [], Option, Some, None, refl, sym, ◌∙◌, ap, arith, subst, inl, inr, if◌then◌else◌}
 use Rattle.std.specs.Prelude.{◌⊎◌, is_some}
 use Rattle.std.specs.Option.{ForSome}

@@ -1,4 +1,5 @@
 -- The next block of an open dump: the pins of the versions that wait, and where their bytes lie in it.
+-- serves: next_block (block), ShelfLemmas, crates above
 use Rattle.std.proofs.Common.{◌≡◌, ℕ, zero, suc, ◌+◌, ◌<◌, List, [], ◌∷◌, ◌++◌, length, take, slice_get, Option, Some, refl, sym, ◌∙◌, ap, arith, subst}
 use Rattle.std.specs.Prelude.{map}
 use Rattle.std.specs.Option.{ForSome}

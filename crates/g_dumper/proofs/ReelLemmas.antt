@@ -1,4 +1,5 @@
 -- A write of one reel, and the completed dumps of the rack after it.
+-- serves: KeepLemmas, ShelfLemmas
 use Rattle.std.proofs.Common.{◌≡◌, ℕ, zero, suc, ◌+◌, ◌<◌, ◌≤◌, ◌==◌, Bool, true, false, List, [], ◌∷◌, ◌++◌, length, map, take, Option, Some, None, refl, sym, ◌∙◌, ap, arith, subst, inl, inr, true≢false}
 use Rattle.std.specs.Prelude.{◌⊎◌, All, AllPairs, Contains, is_some, option_map}
 use Rattle.std.specs.Option.{ForSome}

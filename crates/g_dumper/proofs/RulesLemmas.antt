@@ -1,4 +1,5 @@
 -- A dump that is closed leaves contents that satisfy the rules of a directory.
+-- serves: write_next
 use Rattle.std.proofs.Common.{◌≡◌, ℕ, ◌+◌, ◌^◌, ◌<◌, Bool, true, List, [], ◌∷◌, get_or, map, Option, None, sym, arith, subst}
 use Rattle.std.specs.Prelude.{All, IfSome, is_some}
 use Rattle.std.proofs.lemmas.List.Elements.{All-cons, All-map, All-nil}

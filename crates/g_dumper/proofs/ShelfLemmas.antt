@@ -1,4 +1,5 @@
 -- The completed dumps of the rack after a write of the next block of an open dump.
+-- serves: KeepLemmas, OpeningLemmas, crates above
 use Rattle.std.proofs.Common.{◌≡◌, ◌≢◌, ℕ, zero, suc, ◌+◌, ◌<◌, ◌≤◌, ◌==◌, Bool, true, List, [], ◌∷◌, ◌++◌, get_or, length, map, take, Option, Some, None, refl, sym, ◌∙◌, ap, arith, subst, inl, inr}
 use Rattle.std.specs.Prelude.{◌⊎◌, All, Contains, is_some, option_map, slice_get}
 use Rattle.std.specs.Option.{ForSome}

@@ -1,4 +1,5 @@
 -- Reels of two racks that are compared block by block.
+-- serves: same_reel (answer), CopyLemmas
 use Rattle.std.proofs.Common.{◌≡◌, ℕ, zero, suc, ◌<◌, ◌≤◌, List, [], ◌∷◌, Bool, true, false, ◌&&◌, Option, Some, None, option_map, Ok, Err, if◌then◌else◌, length, take, refl, sym, ap, ◌∙◌, arith}
 use Rattle.std.specs.Option.{ForSome}
 use Rattle.std.specs.Prelude.{slice_get}

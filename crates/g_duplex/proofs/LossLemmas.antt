@@ -1,4 +1,5 @@
 -- A twin that is lost isn't seen.
+-- serves: a_lost_twin_is_not_seen (all, one), WriteLemmas
 use Rattle.std.proofs.Common.{◌≡◌, ℕ, List, [], ◌∷◌, Bool, true, false, ◌&&◌, Option, Some, None, refl, sym, ap, ◌∙◌, is_some, inl, inr}
 use Rattle.std.specs.Option.{ForSome}
 use Rattle.g_tape.specs.Reel.{Reel}

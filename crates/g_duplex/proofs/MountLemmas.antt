@@ -1,4 +1,5 @@
 -- What is known of paired reels without mounting them, and their mounting.
+-- serves: capacity, length, mount, mounted, read, secure, unmount, write
 use Rattle.std.proofs.Common.{◌≡◌, ℕ, List, [], ◌∷◌, Bool, true, false, ◌&&◌, ◌==◌, Option, Some, None, Result, Ok, Err, if◌then◌else◌, map, refl, sym, subst, ap, ◌∙◌, inl, inr, eq-eqb, ◌⊎◌}
 use Rattle.std.proofs.lemmas.Bool.{ne_eqb}
 use Rattle.std.proofs.lemmas.Bool.Decides.{eqb_tells}

@@ -1,4 +1,5 @@
 -- A read of paired reels.
+-- serves: read, CompareLemmas, CopyLemmas, LoseLemmas, RebuildLemmas, SecureLemmas, WriteLemmas
 use Rattle.std.proofs.Common.{◌≡◌, ℕ, zero, suc, ◌<◌, List, [], ◌∷◌, Bool, true, false, ◌&&◌, nat_lt, Option, Some, None, Result, Ok, Err, if◌then◌else◌, map, take, refl, sym, subst, ap, ◌∙◌, arith, inl, inr, ◌⊎◌}
 use Rattle.std.proofs.lemmas.Bool.{ltb-true, lt-ltb}
 use Rattle.std.specs.Option.{ForSome}

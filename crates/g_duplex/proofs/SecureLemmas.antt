@@ -1,5 +1,5 @@
 -- A pair that is made durable appears unchanged, and its reels remain twins.
--- serves: calls::DuplexTapes::secure
+-- serves: secure
 use Rattle.std.proofs.Common.{◌≡◌, ◌⊎◌, ℕ, List, Bool, true, false, not, ◌&&◌, ◌||◌, Option, Some, None, is_some, Result, Ok, Err, inl, inr, if◌then◌else◌, refl, sym, ap, subst, arith, ◌∙◌, length}
 use Rattle.std.specs.Option.{ForSome}
 use Rattle.g_base.specs.Counts.{Rose, one_more}

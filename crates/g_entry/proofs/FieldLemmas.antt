@@ -1,4 +1,5 @@
 -- The lengths of the parts of a record, and what a reader finds in them.
+-- serves: file_block, front_of, head_block, lang_comes (comes, left), pairs_of, put, put_traps (fields), take_lang (again), take_local (again), and 7 more
 use Rattle.std.proofs.Common.{◌≡◌, ℕ, ◌+◌, ◌-◌, ◌*◌, ◌<◌, ◌≤◌, true, List, [], ◌∷◌, ◌++◌, length, take, drop, get_or, Bool, false, Option, zero, suc, min, ⊎_elim, Some, None, refl, ap, ◌∙◌, sym, arith, length-append, append_assoc}
 use Rattle.std.specs.Prelude.{replicate, IsSome, IfSome, nat_le, nat_lt, ◌&&◌, ◌==◌, if◌then◌else◌}
 use Rattle.std.specs.List.{flat_map, list_all}

@@ -1,4 +1,5 @@
 -- Two records of one block are one record.
+-- serves: crates above
 use Rattle.std.proofs.Common.{◌≡◌, ℕ, ◌-◌, ◌*◌, ◌<◌, true, List, [], ◌∷◌, ◌++◌, length, take, Option, Some, None, refl, ap, ◌∙◌, sym, arith, append_assoc, subst}
 use Rattle.std.specs.Prelude.{replicate, IfSome, codes}
 use Rattle.std.specs.List.{flat_map, list_all}

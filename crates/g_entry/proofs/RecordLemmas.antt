@@ -1,4 +1,5 @@
 -- What a reader finds in the block of a record.
+-- serves: fields_of (again), take_rec (again), ComingLemmas, OneEncoding, crates above
 use Rattle.std.proofs.Common.{◌≡◌, ℕ, ◌-◌, ◌^◌, ◌<◌, ◌≤◌, true, List, ◌∷◌, ◌++◌, length, Option, Some, None, refl, ap, ◌∙◌, sym, arith, append_assoc, subst, lit<}
 use Rattle.std.specs.Prelude.{Bool, false, replicate, nat_eq, IfSome, codes}
 use Rattle.g_base.specs.Fields.{number, padded}

@@ -1,4 +1,5 @@
 -- The rules of users and of files, from those one by one.
+-- serves: files_keep, places_are_kept, users_keep, crates above
 use Rattle.std.proofs.Common.{◌≡◌, ◌≢◌, ⊎_elim, ℕ, ◌+◌, ◌^◌, ◌<◌, ◌≤◌, true, List, length, get_or, Option, Some, All, AllPairs, refl, ◌∙◌, ap, subst, arith, slice_get}
 use Rattle.std.specs.Prelude.{IfSome}
 use Rattle.std.proofs.lemmas.Bool.{cases_lt}

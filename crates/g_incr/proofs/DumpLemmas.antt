@@ -1,4 +1,5 @@
 -- A dump on a reel, composed of its header, its records and its mark, and decomposed into them.
+-- serves: read_dump (none, read, some), read_mark (again, found), read_records (found)
 use Rattle.std.proofs.Common.{◌≡◌, ℕ, zero, suc, ◌+◌, ◌-◌, ◌^◌, ◌<◌, ◌≤◌, Bool, false, List, [], ◌∷◌, ◌++◌, length, get_or, take, drop, replicate, Option, Some, None, refl, sym, ◌∙◌, ap, arith, slice_get, subst, inl, inr}
 use Rattle.std.specs.Prelude.{◌⊎◌, All, IfNone, IfSome, IsTrue, map}
 use Rattle.std.specs.Option.{ForSome}

@@ -1,4 +1,5 @@
 -- The header and the mark of a dump, as they are written and read.
+-- serves: encode_header, encode_mark, fields_of
 use Rattle.std.proofs.Common.{◌≡◌, ℕ, ◌+◌, ◌-◌, ◌^◌, ◌<◌, List, [], ◌++◌, length, replicate, refl, sym, ◌∙◌, ap, arith}
 use Rattle.std.specs.Prelude.{codes}
 use Rattle.std.proofs.lemmas.List.{append-nil, length-append, length-replicate}

@@ -1,4 +1,5 @@
 -- Lists, and the items at their positions.
+-- serves: read_blocks (fewer), read_dump (read, some), read_mark (again, found), records_in (none), DumpLemmas, PieceLemmas, RecordsLemmas, and 3 more
 use Rattle.std.specs.Prelude.{IfNone, IfSome, map}
 use Rattle.std.proofs.Common.{◌≡◌, ◌⊎◌, inl, inr, ℕ, zero, suc, ◌+◌, ◌<◌, ◌≤◌, List, [], ◌∷◌, ◌++◌, length, take, drop, get_or, Option, Some, None, refl, sym, ◌∙◌, ap, arith, slice_get, subst}
 

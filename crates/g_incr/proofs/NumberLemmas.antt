@@ -1,4 +1,5 @@
 -- Records that are numbered consecutively.
+-- serves: PlanLemmas, crates above
 use Rattle.std.proofs.Common.{◌≡◌, ℕ, zero, suc, ◌+◌, ◌<◌, List, [], ◌∷◌, ◌++◌, length, get_or, All, refl, ◌∙◌, ap, arith}
 use Rattle.std.proofs.lemmas.List.Elements.{All-cons, All-head, All-nil, All-tail}
 use Rattle.g_entry.specs.declared.file_rec.FileRec.{FileRec}

@@ -1,4 +1,5 @@
 -- Two dumps with the same blocks are one.
+-- serves: HeaderLemmas, RecordsLemmas, crates above
 use Rattle.std.proofs.Common.{◌≡◌, ◌⊎◌, ℕ, suc, ◌+◌, ◌-◌, ◌<◌, ◌≤◌, Bool, true, false, List, [], ◌∷◌, ◌++◌, length, get_or, take, drop, replicate, Some, None, refl, sym, ◌∙◌, ap, arith, slice_get, subst, inl, inr}
 use Rattle.std.specs.Prelude.{◌==◌, ◌||◌, map, codes, All, IfSome, option_map, if◌then◌else◌, slice_index}
 use Rattle.std.specs.List.Sorted.{IsStrictlyIncreasing}

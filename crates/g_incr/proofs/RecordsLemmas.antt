@@ -1,4 +1,5 @@
 -- The records of a dump, block by block.
+-- serves: files_in (none), records_in (none), users_in (none)
 use Rattle.std.proofs.Common.{◌≡◌, ◌⊎◌, ℕ, ◌+◌, ◌<◌, ◌≤◌, Bool, true, false, List, [], ◌∷◌, ◌++◌, length, get_or, take, drop, Some, refl, sym, ◌∙◌, ap, arith, slice_get, subst, inl, inr}
 use Rattle.std.specs.Prelude.{◌==◌, ◌||◌, All, map, option_map, if◌then◌else◌, slice_index}
 use Rattle.std.specs.List.Sorted.{IsStrictlyIncreasing}

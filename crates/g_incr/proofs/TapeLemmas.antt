@@ -1,4 +1,5 @@
 -- Reads of a reel, and what follows from them.
+-- serves: read_block (found, reads), read_blocks (fewer, found, reads), read_dump (reads), read_mark (again, found), DumpLemmas, crates above
 use Rattle.std.proofs.Common.{◌≡◌, ℕ, ◌+◌, ◌<◌, ◌≤◌, Bool, true, false, List, [], ◌∷◌, ◌++◌, length, take, drop, Option, Some, None, Result, Ok, Err, refl, sym, ◌∙◌, ap, arith, subst, slice_get, inl, inr}
 use Rattle.std.specs.Prelude.{◌↔◌, ◌⊎◌, nat_lt, option_map, if◌then◌else◌}
 use Rattle.std.specs.Option.{ForSome}

@@ -1,4 +1,5 @@
 -- What waits ahead of each file of a plan, and the version that has a block of content.
+-- serves: content
 use Rattle.std.proofs.Common.{◌≡◌, ◌⊎◌, inl, inr, ℕ, ◌+◌, ◌-◌, ◌*◌, ◌<◌, ◌≤◌, true, false, List, [], ◌∷◌, ◌++◌, length, take, drop, get_or, sym, ◌∙◌, ap, arith, leb, slice_get, subst, Bool}
 use denote.Ref.{Bor}
 use denote.Param.Members.{Mut}

@@ -1,4 +1,5 @@
 -- The last answer of an honest program is the reason why its work is over.
+-- serves: turns_say_why_they_are_over, TurnLemmas
 use Rattle.std.proofs.Common.{◌≡◌, ℕ, List, [], ◌∷◌, Option, Some, Err, refl, sym, ap, ◌∙◌, subst}
 use Rattle.g_turn.specs.Causes.{CauseOf, GoesOn, IsHonest, IsOther, StopsAt, last_answer}
 use Rattle.g_turn.specs.State.{Broken, Stop, Waits, Work}

@@ -1,4 +1,5 @@
 -- The result of every turn at its end.
+-- serves: turns_come_to_one_end, TurnLemmas
 use Rattle.std.proofs.Common.{◌≡◌, ◌+◌, ◌-◌, ◌<◌, ◌≤◌, min, Bool, true, false, not, Option, Some, None, IfSome, is_some, inl, inr, refl, sym, subst, arith}
 use Rattle.std.proofs.Math.Nat.{le-min}
 use Rattle.std.proofs.lemmas.Bool.{leb-false, leb-true, ltb-false, ltb-true}

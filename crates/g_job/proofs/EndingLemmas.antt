@@ -1,4 +1,5 @@
 -- The end of a turn in the code: it preserves the job's rules, and is the end that is defined.
+-- serves: charge (ok), end_by (ok), settle (ok), TurnLemmas
 use Rattle.std.proofs.Common.{◌≡◌, ℕ, ◌+◌, ◌<◌, Bool, true, false, List, ◌++◌, length, Option, Some, None, is_some, option_map, refl, sym, ap, ◌∙◌, subst}
 use Rattle.std.proofs.lemmas.Bool.{true≢false}
 use Rattle.std.specs.Fn.{FnReturnsAt, Shared}

@@ -1,4 +1,5 @@
 -- Every turn preserves the rules of a job.
+-- serves: turns_keep_the_rules, TurnLemmas
 use Rattle.std.proofs.Common.{◌≡◌, ℕ, ◌+◌, ◌-◌, ◌<◌, ◌≤◌, Bool, true, false, List, [], ◌∷◌, ◌++◌, length, length-append, decimal, codes, Option, Some, None, IfSome, is_some, refl, sym, subst, lit<, lit≤, lt_of_le_of_lt, arith}
 use Rattle.std.proofs.Math.Nat.{le-min, min-le_right}
 use Rattle.std.proofs.lemmas.Bool.{leb-false, true≢false}

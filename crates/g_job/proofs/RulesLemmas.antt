@@ -1,4 +1,5 @@
 -- The rules of a job, part by part: its number, name and allowances are unchanged, and what is charged, left and written satisfies them.
+-- serves: EndingLemmas, KeepLemmas, TerminalLemmas
 use Rattle.std.proofs.Common.{◌≡◌, ◌<◌, ◌≤◌, ℕ, Bool, false, true, IfSome, List, Option, None, is_some, length, refl}
 use Rattle.std.proofs.lemmas.Bool.{false≢true}
 use Rattle.g_job.specs.Rules.{IsJob, IsPending, most_bytes}

@@ -1,4 +1,5 @@
 -- A job at a terminal: when it is ready, and the effect of a turn on its document.
+-- serves: add_line, ready_with, turn (seat), turns_keep_the_document
 use Rattle.std.proofs.Common.{◌≡◌, ◌∙◌, ◌<◌, Bool, true, false, IfSome, List, [], ◌∷◌, Option, Some, None, ap, arith, inr, is_some, length, refl, subst, ℕ, ◌||◌}
 use Rattle.std.specs.Fn.{Shared}
 use denote.Ref.{Bor}

@@ -1,4 +1,5 @@
 -- The programs of turns are honest, and stay within the limits.
+-- serves: turns_keep_their_limits, turns_say_why_they_are_over, CauseLemmas, WellLemmas, crates above
 use Rattle.std.proofs.Common.{ℕ, ◌+◌, ◌-◌, ◌≤◌, List, length, Option, Some, None, IfSome, lit≤, arith}
 use Rattle.g_turn.specs.Bounds.{AlwaysGives, IsWithin}
 use Rattle.g_turn.specs.Causes.{IsHonest}

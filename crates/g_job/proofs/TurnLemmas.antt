@@ -1,4 +1,5 @@
 -- A turn of the code is the turn that is defined.
+-- serves: make (err, ok), make_again (err, ok), turn (ok, seat, spends, stopped, waited, waits)
 use Rattle.std.proofs.Common.{◌≡◌, ◌↔◌, ℕ, ◌+◌, ◌≤◌, Bool, false, List, length, Option, Some, None, Result, Ok, Err, IfOk, IfSome, OnErr, OnOk, is_some, refl, sym, ap, ◌∙◌, subst, arith}
 use Rattle.std.proofs.lemmas.Bool.{false≢true}
 use Rattle.std.specs.Fn.{Shared}

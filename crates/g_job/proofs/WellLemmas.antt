@@ -1,4 +1,5 @@
 -- Programs that were run on any store: consequences of how they ended.
+-- serves: turn (stopped, waits), turns_leave_their_store, TurnLemmas
 use Rattle.std.proofs.Common.{◌≡◌, ◌↔◌, ◌≤◌, length, ℕ, Bool, true, false, List, Option, Some, Ok, Err, refl, sym, ap, ◌∙◌, subst}
 use Rattle.std.proofs.lemmas.Bool.{false≢true}
 use Rattle.g_turn.specs.Bounds.{AlwaysGives, IsWithin, MayAnswer}

@@ -1,4 +1,5 @@
 -- Accounts: the place of a user's account, and what ended jobs leave of it.
+-- serves: account_for, charge, end (kept, settled), has_account, left_for, place_for, searched, NumberLemmas, OpeningLemmas, RowLemmas, and 2 more
 use Rattle.std.proofs.Common.{◌≡◌, ◌+◌, ◌-◌, ◌<◌, ◌∙◌, ◌++◌, ◌∷◌, [], Bool, List, None, Option, Some, ap, append-nil, arith, cond, drop, false, find, get_or, is_some, length, refl, slice_get, subst, suc, sum_by, sym, take, take_all, true, true≢false, unwrap_or, zero, ℕ}
 use Rattle.std.specs.Option.{option_map, option_or}
 use Rattle.std.proofs.lemmas.Bool.{cond_both, false≢true}

@@ -1,4 +1,5 @@
 -- The jobs that can step, in order.
+-- serves: choose, first_of, one_can_step
 use Rattle.std.proofs.Common.{◌≡◌, ◌+◌, ◌<◌, ◌≤◌, ◌∙◌, ◌++◌, ◌∷◌, ◌⊎◌, [], Bool, IfSome, List, None, Option, Some, ap, arith, cond, false, get_or, inl, inr, length, map, not, refl, slice_get, subst, sym, suc, take, true, zero, ℕ}
 use Rattle.std.specs.Fn.{FnReturnsAt, Shared}
 use Rattle.std.specs.Option.{option_map}

@@ -1,4 +1,5 @@
 -- Jobs by number: changes preserve the order of numbers, and a job at a place is the one of its number.
+-- serves: end (job, jobs, kept, settled), go_down, logout, push, push_at (there), push_shown, turn (err, gone, ok), type_line, ChoiceLemmas, and 2 more
 use Rattle.std.proofs.Common.{◌≡◌, ◌+◌, ◌-◌, ◌<◌, ◌≤◌, ◌∙◌, ◌==◌, ◌++◌, ◌∷◌, [], All, Bool, List, None, Some, ap, arith, cond, eq-eqb, false, filter, get_or, length, length-set, ne_eqb, not, refl, set, slice_get, subst, suc, sym, true, zero, ℕ}
 use Rattle.std.specs.List.{remove}
 use Rattle.std.proofs.lemmas.Bool.{cond_both}

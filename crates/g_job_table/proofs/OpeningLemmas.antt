@@ -1,4 +1,5 @@
 -- Accounts that open, compared with those of a world.
+-- serves: open_accounts (all, opened), open_each, crates above
 use Rattle.std.proofs.Common.{◌≡◌, ◌+◌, ◌-◌, ◌<◌, ◌∙◌, ◌++◌, ◌||◌, ◌∷◌, [], Bool, List, None, Option, Some, ap, arith, cond, false, filter, find, get_or, is_some, length, map, not, refl, sym, take, true, ℕ}
 use Rattle.std.specs.Option.{option_map, option_or}
 use Rattle.std.proofs.lemmas.Bool.{cond_both, false≢true}

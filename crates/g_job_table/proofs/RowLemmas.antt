@@ -1,4 +1,5 @@
 -- The users of a store's records, and the rows of the tree that they represent.
+-- serves: crates above
 use Rattle.std.proofs.Common.{◌≡◌, ◌∙◌, ◌||◌, ◌∷◌, [], Bool, List, None, Option, Some, ap, cond, false, find, is_some, map, refl, sym, true, ℕ}
 use Rattle.std.specs.FinMap as finmap
 use Rattle.std.specs.FinMap.{entries, get, get-entries, get-from_entries}

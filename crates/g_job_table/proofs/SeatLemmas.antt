@@ -1,4 +1,5 @@
 -- The seats of the jobs: how each change of the jobs changes them, and which job is at a terminal.
+-- serves: end, login_refusal (refusal), logout, push, push_at, push_shown, turn, type_line
 use Rattle.std.proofs.Common.{◌≡◌, ◌∙◌, ◌==◌, ◌++◌, ◌∷◌, ◌&&◌, [], Bool, List, None, Option, Some, ap, append-nil, cond, eq-eqb, eqb-true, false, filter, map, not, refl, set, slice_get, subst, suc, sym, true, zero, ℕ}
 use Rattle.std.specs.Prelude.{Err, Ok, OnOk, Result, find, is_some, if◌then◌else◌}
 use Rattle.std.proofs.lemmas.Option.{none-some, same_Some}

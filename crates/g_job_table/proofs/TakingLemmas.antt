@@ -1,4 +1,5 @@
 -- The order of the reasons for which a job is refused.
+-- serves: login_refusal (refusal), logout, refusal (refusal), room_refusal (refusal), take_in (refusal), turn (gone, ok), type_line
 use Rattle.std.proofs.Common.{◌≡◌, ◌<◌, ◌≤◌, ◌∙◌, Bool, None, Option, Some, List, ap, arith, cond, false, length, nat_lt, not, subst, sym, true, unwrap_or, codes, ℕ}
 use Rattle.std.proofs.lemmas.Bool.{le-ltb, lt-leb, lt-ltb}
 use Rattle.std.specs.Prelude.{is_some}

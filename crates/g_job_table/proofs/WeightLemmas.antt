@@ -1,4 +1,5 @@
 -- The weights of jobs, place by place.
+-- serves: first_of, weigh_again, weigh_each
 use Rattle.std.proofs.Common.{◌≡◌, ◌==◌, ◌⊎◌, ⊎_elim, ◌+◌, ◌<◌, ◌≤◌, ◌∙◌, ◌++◌, ◌∷◌, [], Bool, List, None, Option, Some, ap, arith, length, get_or, refl, set, slice_get, subst, suc, sym, true, false, eqb, eqb-true, inl, inr, zero, ℕ}
 use Rattle.std.specs.Fn.{FnReturnsAt, Shared}
 use denote.Ref.{Bor}

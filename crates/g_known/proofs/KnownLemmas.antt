@@ -1,4 +1,5 @@
 -- What is known of a reel remains known, and the dumps after it are found.
+-- serves: catalogue (lists), end, end_of (end, fits), fill, fill_anew, find_copy (fits), forget, known, least_behind, mount (known), notes_of, and 7 more
 use Rattle.std.proofs.Common.{◌≡◌, ◌⊎◌, ℕ, zero, suc, ◌+◌, ◌-◌, ◌^◌, ◌<◌, ◌≤◌, ◌==◌, Bool, true, false, List, [], ◌∷◌, ◌++◌, length, Option, Some, None, Result, Ok, Err, refl, sym, ◌∙◌, ap, arith, slice_get, subst, inl, inr, map, All, take, get_or, append_assoc, append-nil, eq-eqb}
 use Rattle.std.specs.Prelude.{OnErr, OnOk, option_map, if◌then◌else◌}
 use Rattle.std.specs.Option.{ForSome}

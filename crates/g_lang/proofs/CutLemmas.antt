@@ -1,4 +1,5 @@
 -- Lines split after their label, and parsed directly if their command is a verb or a GOTO.
+-- serves: parse, parse_command
 use Rattle.std.proofs.Common.{Err, IfOk, IfSome, List, None, Ok, Option, Result, Some, [], ap, append-nil, arith, codes, is_ok, length, refl, subst, suc, sym, true, zero, ℕ, ⊎_elim, ◌-◌, ◌==◌, ◌∙◌, ◌∷◌, ◌≡◌, ◌≢◌, ◌≤◌}
 use Rattle.std.proofs.lemmas.Bool.{cases_Bool, cond_both, false≢true}
 use Rattle.std.specs.Prelude.{if◌then◌else◌}

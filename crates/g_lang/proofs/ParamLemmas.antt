@@ -1,4 +1,5 @@
 -- Counting parameters, and the parameter at a place.
+-- serves: count_params, param_at, params
 use Rattle.std.proofs.Common.{Bool, Bor, Err, IfOk, List, MatchOption, None, Ok, Option, Result, Some, [], ap, arith, drop, drop-drop, eq-eqb, eqb-true, false, length, length-drop, refl, subst, suc, sym, true, zero, ℕ, ◌+◌, ◌-◌, ◌<◌, ◌∙◌, ◌∷◌, ◌≡◌, ◌≤◌}
 use Rattle.std.proofs.lemmas.Bool.{false≢true}
 use Rattle.std.specs.Prelude.{◌==◌}

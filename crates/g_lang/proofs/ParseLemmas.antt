@@ -1,4 +1,5 @@
 -- What the code reads from a text of the grammar.
+-- serves: +read_command, is_input_line, only_param, parse_by_steps, read_option, two_params, CutLemmas, ParamLemmas, crates above
 use Rattle.std.proofs.Common.{Bor, Err, IfOk, List, MatchOption, None, Ok, Option, Result, Some, [], ap, arith, codes, cond, false, is_some, le_refl, length, length-append, map, refl, subst, suc, sym, true, zero, ℕ, ◌+◌, ◌<◌, ◌∙◌, ◌∷◌, ◌≡◌, ◌≤◌}
 use Rattle.std.proofs.lemmas.Bool.{cond_both, false≢true}
 use Rattle.std.proofs.lemmas.List.{length-map}

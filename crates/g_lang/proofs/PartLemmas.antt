@@ -1,4 +1,5 @@
 -- A text whose brackets match is parts with commas between them, and trailing spaces.
+-- serves: ParamLemmas, ParseLemmas, RestLemmas
 use Rattle.std.proofs.Common.{Bool, List, None, Option, Some, [], ap, arith, eqb-true, false, length, pred, refl, subst, suc, sym, true, ℕ, ◌&&◌, ◌++◌, ◌+◌, ◌==◌, ◌∙◌, ◌∷◌, ◌≡◌, ◌≤◌}
 use Rattle.std.proofs.lemmas.Bool.{and_from, and_parts, cond_both, false≢true, not_from_false}
 use Rattle.std.specs.Prelude.{if◌then◌else◌}

@@ -1,4 +1,5 @@
 -- Invariants of the code's loops over texts.
+-- serves: behind, split_at_comma (before, behind, parts), without_back, without_last
 use Rattle.std.proofs.Common.{Bool, Bor, List, MatchOption, None, Option, Some, [], ap, append-nil, append_assoc, arith, drop, drop-cons, drop_of_length-le, eq-eqb, false, get_or, le_refl, length, length-drop, ne_eqb, pred, refl, subst, suc, sym, take, true, ℕ, ⊎_elim, ◌&&◌, ◌++◌, ◌+◌, ◌-◌, ◌<◌, ◌==◌, ◌∙◌, ◌∷◌, ◌≡◌, ◌≢◌, ◌≤◌}
 use Rattle.std.proofs.Math.Seq.{take-length}
 use Rattle.std.proofs.lemmas.Bool.{and_from, and_left, and_right, cases_eq, cond_both, not_from_false}

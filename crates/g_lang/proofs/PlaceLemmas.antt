@@ -1,4 +1,5 @@
 -- The place where a line goes wrong, from what the reader accepts and what completes it.
+-- serves: PartLemmas, ReadingLemmas, RestLemmas, TakeLemmas, VerbLemmas
 use Rattle.std.proofs.Common.{Bool, List, None, Option, Some, [], ap, arith, eq-eqb, false, get_or, inl, inr, is_some, length, ne_eqb, refl, subst, suc, sym, take, true, zero, ℕ, ◌++◌, ◌+◌, ◌==◌, ◌∙◌, ◌∷◌, ◌≡◌, ◌≤◌, ◌⊎◌}
 use Rattle.std.proofs.lemmas.Bool.{false≢true}
 use Rattle.std.specs.Prelude.{if◌then◌else◌, codes}

@@ -1,4 +1,5 @@
 -- A written line is read as what it says.
+-- serves: +read_command, lines_are_read_by_the_grammar, parse_by_steps, CutLemmas, ReadingLemmas, TakeLemmas, VerbLemmas
 use Rattle.std.proofs.Common.{IfSome, List, None, Option, Some, [], ap, append-nil, append_assoc, arith, codes, cond, false, is_some, leb-true, length, length-append, map, nat_le, not, option_map, refl, subst, suc, sym, true, zero, ℕ, ◌&&◌, ◌++◌, ◌+◌, ◌==◌, ◌||◌, ◌∙◌, ◌∷◌, ◌≡◌, ◌≤◌}
 use Rattle.std.proofs.lemmas.Bool.{and_from, and_parts, and_right, cond-false, cond-true, cond_both, false≢true, lt-leb, not-true, or_parts}
 use Rattle.std.proofs.lemmas.List.Elements.{recursion_from_All}

@@ -1,4 +1,5 @@
 -- The reading of a text is what the grammar says, and no other reading is.
+-- serves: lines_are_read_by_the_grammar, parse_by_steps, CutLemmas, ParseLemmas, VerbLemmas
 use Rattle.std.proofs.Common.{Bool, Err, IfSome, List, None, Ok, Option, Some, [], ap, append-nil, codes, false, option_map, refl, subst, sym, true, ℕ, ⊎_elim, ◌&&◌, ◌+◌, ◌||◌, ◌∙◌, ◌∷◌, ◌≡◌}
 use Rattle.std.proofs.lemmas.Bool.{and_parts, cases_order, cond_both, false≢true, not-false, or_cases}
 use Rattle.std.specs.Prelude.{if◌then◌else◌}

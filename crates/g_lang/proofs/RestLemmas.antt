@@ -1,5 +1,6 @@
 -- The texts that the reader accepts from a state are the rests of a line: for each state the possible rest, and for each byte how it extends that
 -- rest.
+-- serves: CutLemmas, ParseLemmas, ReadingLemmas
 use Rattle.std.proofs.Common.{All, Bool, IfSome, List, None, Option, Some, [], ap, append-nil, append_assoc, arith, codes, eqb-true, false, is_some, le-leb, length, ltb-true, nat_lt, not, pred, refl, subst, suc, sym, true, ℕ, ⊎_elim, ◌&&◌, ◌++◌, ◌+◌, ◌-◌, ◌<◌, ◌==◌, ◌||◌, ◌∙◌, ◌∷◌, ◌≡◌, ◌≤◌}
 use Rattle.std.proofs.lemmas.Bool.{and_from, and_parts, cases_Bool, cond_both, false≢true, not-true, not_from_false, or_cases, or_from, or_parts}
 use Rattle.std.proofs.lemmas.List.Elements.{All-from_recursion}

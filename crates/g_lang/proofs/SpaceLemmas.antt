@@ -1,4 +1,5 @@
 -- Spaces at the ends of texts, and the words before them.
+-- serves: CutLemmas, PartLemmas, PieceLemmas, ReadLemmas, RestLemmas, TakeLemmas, ValueLemmas, VerbLemmas
 use Rattle.std.proofs.Common.{Bool, List, [], ap, append-nil, arith, false, length, nat_le, ne_eqb, not, refl, suc, sym, true, zero, ℕ, ◌&&◌, ◌++◌, ◌+◌, ◌==◌, ◌∙◌, ◌∷◌, ◌≡◌}
 use Rattle.std.proofs.lemmas.Bool.{and_from, and_parts, false≢true, not-true, not_from_false, or_left, or_right}
 use Rattle.std.specs.List.{list_all}

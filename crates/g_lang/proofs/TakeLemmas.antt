@@ -1,4 +1,5 @@
 -- The reader accepts the text of each written line.
+-- serves: PartLemmas, ReadingLemmas, RestLemmas, VerbLemmas
 use Rattle.std.proofs.Common.{Bool, IfSome, List, None, Option, Some, [], ap, append-nil, append_assoc, arith, codes, cond, eqb-true, false, is_some, leb-true, length, length-append, lt-ltb, nat_le, nat_lt, not, pred, refl, suc, sym, true, unwrap_or, zero, ℕ, ◌&&◌, ◌++◌, ◌+◌, ◌==◌, ◌∙◌, ◌∷◌, ◌≡◌, ◌≤◌}
 use Rattle.std.proofs.lemmas.Bool.{and_left, and_parts, and_right, cond_both, false≢true, not-true, not_from_false, or_from}
 use Rattle.std.proofs.lemmas.List.Elements.{recursion_from_All}

@@ -1,4 +1,5 @@
 -- The parts of a written line are what the line says.
+-- serves: CutLemmas, ParseLemmas, PartLemmas, PieceLemmas, ReadLemmas, ReadingLemmas, RestLemmas, SameLemmas, TakeLemmas, VerbLemmas, crates above
 use Rattle.std.proofs.Common.{Bool, List, None, Option, Some, [], ap, append_assoc, arith, codes, eq-eqb, eqb-true, false, le-leb, leb-true, nat_le, ne_eqb, not, pred, refl, suc, sym, true, ℕ, ◌&&◌, ◌++◌, ◌+◌, ◌==◌, ◌∙◌, ◌∷◌, ◌≡◌, ◌≤◌}
 use Rattle.std.proofs.lemmas.Bool.{and_from, and_left, and_parts, and_right, cond_both, false≢true, not-true}
 use Rattle.std.proofs.lemmas.Slice.Eq.{bytes_eq-Decides}

@@ -1,4 +1,5 @@
 -- A line that begins with a verb goes wrong where its parameters do.
+-- serves: reader, CutLemmas
 use Rattle.std.proofs.Common.{List, None, Option, Some, [], ap, append-nil, append_assoc, arith, codes, eqb-true, false, length, length-append, lt-ltb, nat_lt, refl, subst, suc, sym, true, zero, ℕ, ◌&&◌, ◌++◌, ◌+◌, ◌-◌, ◌==◌, ◌∙◌, ◌∷◌, ◌≡◌, ◌≤◌}
 use Rattle.std.proofs.lemmas.Bool.{and_parts, and_right, cond_both, false≢true}
 use Rattle.std.specs.List.{list_all}

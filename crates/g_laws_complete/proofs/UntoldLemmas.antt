@@ -1,4 +1,5 @@
 -- The state of a store whose devices don't expose all their contents.
+-- serves: untold_have_states (real, some)
 use Rattle.std.proofs.Common.{◌≡◌, ◌≢◌, ℕ, ◌+◌, ◌*◌, ◌<◌, ◌≤◌, Bool, true, false, List, [], ◌∷◌, ◌++◌, length, get_or, map, Option, Some, None, is_some, refl, sym, ◌∙◌, ap, arith, subst}
 use Rattle.std.specs.Prelude.{◌==◌, All, AllPairs, Contains, IfSome, replicate, slice_index_or, if◌then◌else◌}
 use Rattle.std.specs.Option.{ForSome}

@@ -1,4 +1,5 @@
 -- The lines of a demonstration's script are those of its items, and each is allowed in a script.
+-- serves: the_script_is_good
 use Rattle.std.proofs.Common.{All, Bool, List, [], ap, append_assoc, arith, codes, false, get_or, length, map, refl, replicate, subst, suc, sym, true, zero, if◌then◌else◌, ℕ, ◌%◌, ◌&&◌, ◌*◌, ◌+◌, ◌++◌, ◌<◌, ◌==◌, ◌^◌, ◌||◌, ◌∙◌, ◌∷◌, ◌≡◌, ◌≢◌, ◌≤◌}
 use Rattle.std.specs.Prelude.{nat_le}
 use Rattle.std.specs.Fmt.{decimal}

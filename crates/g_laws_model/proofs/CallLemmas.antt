@@ -1,4 +1,5 @@
 -- The step of a call, and the simpler definition of it, are equivalent.
+-- serves: lib
 use Rattle.std.proofs.Common.{◌≡◌, ℕ, ◌+◌, ◌<◌, ◌≤◌, List, [], ◌∷◌, ◌++◌, Option, Some, None, refl, sym, ◌∙◌, ap, subst, inl, inr, arith}
 use Rattle.std.specs.Prelude.{◌⊎◌, ◌↔◌, Bool, true, false, nat_lt, nat_le, ◌&&◌, ◌||◌, not, Result, Ok, Err, MatchOption, is_some, option_map, unwrap_or, if◌then◌else◌}
 use Rattle.std.proofs.lemmas.Bool.{eq-eqb, false≢true, le-leb, leb-false, leb-true, lt-leb}

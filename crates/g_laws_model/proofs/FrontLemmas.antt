@@ -1,4 +1,5 @@
 -- The shortest front that is enough, of numbers that rise, is those below some number.
+-- serves: CallLemmas, TakenLemmas
 use Rattle.std.proofs.Common.{◌≡◌, ℕ, suc, ◌<◌, ◌≤◌, List, [], ◌∷◌, refl, sym, ◌∙◌, ap, inl, inr, arith}
 use Rattle.std.specs.Prelude.{◌⊎◌, Bool, true, false, cond, filter, nat_lt, ◌==◌}
 use Rattle.std.proofs.lemmas.Bool.{both_ways, cases_Bool, cases_lt, eqb-true, false≢true, le-ltb, lt-ltb, or_cases}

@@ -1,4 +1,5 @@
 -- The candidates below some stamp are what is taken offline below it.
+-- serves: CallLemmas
 use Rattle.std.proofs.Common.{◌≡◌, ℕ, suc, ◌+◌, ◌<◌, ◌≤◌, List, [], ◌∷◌, Option, Some, None, refl, sym, ◌∙◌, ap, subst, inl, inr, arith}
 use Rattle.std.specs.Prelude.{◌⊎◌, Bool, true, false, T, cond, filter, map, nat_lt, ◌==◌, ◌&&◌, ◌||◌, sum_by, unwrap_or, if◌then◌else◌}
 use Rattle.std.specs.Cmp.{unsigned_tied}

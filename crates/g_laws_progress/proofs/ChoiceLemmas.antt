@@ -1,4 +1,5 @@
 -- One of some jobs is chosen.
+-- serves: CallLemmas, GoesLemmas, ReadyLemmas
 use Rattle.std.proofs.Common.{◌≡◌, ℕ, zero, suc, ◌<◌, ◌==◌, List, [], ◌∷◌, Bool, true, false, Option, Some, None, map, slice_get, refl, sym, ◌∙◌, ap, subst, inl, inr, arith, eq-eqb}
 use Rattle.std.specs.Prelude.{◌⊎◌, filter, cond}
 use Rattle.std.specs.Fn.{FnReturnsAt, Shared}

@@ -1,4 +1,5 @@
 -- From a ready world there is a next one.
+-- serves: runs_go_on
 use Rattle.std.proofs.Common.{◌≡◌, ℕ, ◌+◌, ◌<◌, List, [], ◌∷◌, Option, Some, None, map, slice_get, refl, sym, ◌∙◌, ap, subst, inl, inr, arith}
 use Rattle.std.specs.Prelude.{◌⊎◌, ◌≢◌, ◌&&◌, not, Bool, true, false, Ok, Result, is_some}
 use Rattle.std.proofs.lemmas.Bool.{false≢true}

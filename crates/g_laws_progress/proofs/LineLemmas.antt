@@ -1,4 +1,5 @@
 -- Each line has an effect, and leaves everything else unchanged.
+-- serves: GoesLemmas, ReadyLemmas
 use Rattle.std.proofs.Common.{◌≡◌, ℕ, ◌+◌, ◌-◌, ◌^◌, ◌==◌, List, [], ◌∷◌, ◌++◌, Option, Some, None, refl, sym, ◌∙◌, subst, inl, inr}
 use Rattle.std.specs.Prelude.{◌⊎◌, Bool, true, false, not, nat_lt, Result, Ok, Err, MatchBool, MatchOption, is_some, codes, if◌then◌else◌}
 use Rattle.std.specs.Fmt.{decimal}

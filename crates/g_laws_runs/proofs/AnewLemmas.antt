@@ -1,4 +1,5 @@
 -- FORMAT on emptied reels: its state depends on nothing that the disc held before.
+-- serves: lib, crates above
 use Rattle.std.proofs.Common.{◌≡◌, ℕ, List, [], ◌∷◌, ◌++◌, Contains, map, Option, Some, None, refl, sym, ◌∙◌, ap, subst}
 use Rattle.std.specs.Prelude.{All, Bool, true, false, not, cond, nat_lt, option_map, Ok, Result}
 use Rattle.std.specs.List.{AllByRecursion}

@@ -1,4 +1,5 @@
 -- An open dump during which no device fails, move by move.
+-- serves: undisturbed_dumps_complete (going, needs), crates above
 use Rattle.std.proofs.Common.{◌≡◌, ℕ, ◌+◌, ◌<◌, List, [], ◌∷◌, Option, Some, None, refl, sym, ◌∙◌, ap, subst, inl, inr, arith}
 use Rattle.std.specs.Prelude.{◌≢◌, ◌⊎◌, ◌||◌, Bool, true, false, Result, Ok, Err, MatchOption, option_map, sum_by, if◌then◌else◌}
 use Rattle.std.specs.FinMap.{FinMap}

@@ -1,4 +1,5 @@
 -- An open dump, move by move.
+-- serves: dumps_take_their_needs, open_dumps_stay, CompleteLemmas
 use Rattle.std.proofs.Common.{◌≡◌, ℕ, ◌+◌, ◌≤◌, ◌<◌, List, [], ◌∷◌, Option, Some, None, refl, sym, ◌∙◌, ap, subst, inl, inr, arith}
 use Rattle.std.specs.Prelude.{◌⊎◌, ◌-◌, ◌^◌, ◌==◌, ◌||◌, Bool, true, false, not, nat_lt, Result, Err, MatchBool, if◌then◌else◌, is_some, option_map, sum_by, codes, ◌++◌}
 use Rattle.std.proofs.lemmas.List.Sums.{sum_by-cons}

@@ -1,4 +1,5 @@
 -- What a store holds, event by event.
+-- serves: filestores_stay (devices, states), crates above
 use Rattle.std.proofs.Common.{◌≡◌, ℕ, List, [], ◌∷◌, Option, Some, None, refl, sym, ◌∙◌, ap, subst, inl, inr}
 use Rattle.std.specs.Prelude.{◌⊎◌, ◌||◌, Bool, true, false, Result, Ok, Err, option_map, is_some, if◌then◌else◌}
 use Rattle.std.proofs.lemmas.Bool.{false≢true}

@@ -1,4 +1,5 @@
 -- Devices have a state, new ones a state without a filestore.
+-- serves: devices_have_one_state (emptied, new, some), AnewLemmas, crates above
 use Rattle.std.proofs.Common.{◌≡◌, ℕ, zero, suc, ◌+◌, List, [], ◌∷◌, Contains, map, Option, Some, None, refl, sym, ◌∙◌, ap, subst, arith}
 use Rattle.std.specs.Prelude.{All, true, IfSome, drop, is_some, option_map, replicate, slice_get, take}
 use Rattle.std.specs.List.{AllByRecursion}

@@ -1,4 +1,5 @@
 -- START after any move, and in a later run.
+-- serves: devices_have_one_state (one), later_runs_keep_the_tree, start_is_behind_any_move
 use Rattle.std.proofs.Common.{◌≡◌, ℕ, Option, Some, None, option_map, refl, ◌∙◌, ap, inl, inr}
 use Rattle.std.specs.Prelude.{◌⊎◌}
 use Rattle.std.specs.Fn.{Shared}

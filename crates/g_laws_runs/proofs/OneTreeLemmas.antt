@@ -1,4 +1,5 @@
 -- A whole run on one tree, move by move.
+-- serves: jobs_run_on_one_tree
 use Rattle.std.proofs.Common.{◌≡◌, ℕ, [], ◌∷◌, Option, Some, ap, inl, inr}
 use Rattle.std.specs.Prelude.{◌⊎◌}
 use Rattle.std.specs.Fn.{Shared}

@@ -1,4 +1,5 @@
 -- The reels of a rack, move by move.
+-- serves: completed_dumps_stay, process_leaves_lists
 use Rattle.std.proofs.Common.{◌≡◌, ℕ, ◌+◌, ◌≤◌, List, [], ◌∷◌, ◌++◌, Option, Some, None, refl, sym, ◌∙◌, ap, subst, inl, inr, arith, append-nil, append_assoc, length, length-append}
 use Rattle.std.specs.Prelude.{not, ◌==◌, ◌||◌, Bool, true, false, Result, Ok, Err, MatchBool, MatchOption, if◌then◌else◌, sum_by, codes, ◌⊎◌}
 use Rattle.std.proofs.lemmas.List.Sums.{sum_by-cons}

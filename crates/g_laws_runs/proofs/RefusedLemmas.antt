@@ -1,4 +1,5 @@
 -- What a line that is refused while the system is down leaves.
+-- serves: refused_lines_leave_the_tree, start_still_has_the_tree, CompleteLemmas, LaterLemmas
 use Rattle.std.proofs.Common.{◌≡◌, ℕ, List, [], ◌∷◌, Option, Some, None, refl, sym, ◌∙◌, ap, inl, inr}
 use Rattle.std.specs.Prelude.{not, ◌≢◌, ◌⊎◌, Bool, true, false, Result, Err, MatchBool, MatchOption, if◌then◌else◌, codes, ◌++◌}
 use Rattle.std.specs.Fmt.{decimal}

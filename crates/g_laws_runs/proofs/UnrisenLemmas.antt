@@ -1,4 +1,5 @@
 -- IF no count rose.
+-- serves: unrisen_runs_are_plain, unrisen_text_is_one, ClauseLemmas
 use Rattle.std.proofs.Common.{◌≡◌, ℕ, zero, suc, ◌+◌, ◌≤◌, List, [], ◌∷◌, refl, arith, sym}
 use Rattle.std.specs.Prelude.{◌-◌, ◌^◌, min}
 use Rattle.std.specs.List.{AllByRecursion}

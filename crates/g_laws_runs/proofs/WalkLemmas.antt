@@ -1,4 +1,5 @@
 -- What every event of the store preserves, by its outcome, every move of a run preserves.
+-- serves: CompleteLemmas, FilestoreLemmas, LostLemmas, crates above
 use Rattle.std.proofs.Common.{◌≡◌, ℕ, List, [], ◌++◌, Option, Some, None, refl, sym, ◌∙◌, ap, subst}
 use Rattle.std.specs.Prelude.{if◌then◌else◌, not, Bool, true, false, Result, MatchBool, codes}
 use Rattle.std.specs.Fmt.{decimal}

@@ -1,4 +1,5 @@
 -- The step of a call that creates a user, or sets a budget.
+-- serves: CallLemmas
 use Rattle.std.proofs.Common.{◌≡◌, ℕ, ◌<◌, Bool, true, false, cond, List, [], ◌∷◌, ◌++◌, get_or, length, set, Option, Some, None, is_some, refl, sym, ◌∙◌, ap, inl, inr}
 use Rattle.std.specs.Prelude.{◌⊎◌, ◌||◌, filter, map, not, slice_get, slice_set}
 use Rattle.std.specs.List.{list_any}

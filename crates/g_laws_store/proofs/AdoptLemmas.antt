@@ -1,4 +1,5 @@
 -- What a start would adopt, at the opening of a dump.
+-- serves: StandLemmas
 use Rattle.std.proofs.Common.{◌≡◌, ℕ, ◌<◌, ◌≤◌, Bool, true, false, List, get_or, length, Option, Some, None, is_some, unwrap_or, refl, sym, ◌∙◌, ap, arith, subst, inl, inr}
 use Rattle.std.specs.Prelude.{◌⊎◌, ◌==◌, ◌&&◌, Contains, filter, is_none, map, nat_lt, if◌then◌else◌}
 use Rattle.std.specs.List.{list_any}

@@ -1,4 +1,5 @@
 -- The step of each kind of call.
+-- serves: calls_go_by_step, crates above
 use Rattle.std.proofs.Common.{◌≡◌, ◌≢◌, ℕ, ◌<◌, Bool, true, false, List, [], ◌∷◌, ◌++◌, length, Option, Some, None, refl, sym, ◌∙◌, ap, subst}
 use Rattle.std.specs.Prelude.{◌==◌, ◌||◌, AllPairs, Contains, not, slice_set, if◌then◌else◌}
 use Rattle.std.specs.Ordering.{nat_cmp}

@@ -1,4 +1,5 @@
 -- The closing of a dump preserves the invariant of a store that is up.
+-- serves: events_stay_up (closing), AdoptLemmas, MoveLemmas, NeedsLemmas, OpeningLemmas, OwnLemmas, PlaceLemmas, TreeLemmas, UserLemmas, and 2 more
 use Rattle.std.proofs.Common.{◌≡◌, ℕ, zero, suc, ◌+◌, ◌≤◌, Bool, true, false, List, [], ◌∷◌, ◌++◌, get_or, Option, Some, sym, ◌∙◌, ap, arith, subst, inl, inr}
 use Rattle.std.specs.Prelude.{◌⊎◌, ◌==◌, All, Contains, IfSome, filter, map}
 use Rattle.std.specs.Option.{ForSome}

@@ -1,4 +1,5 @@
 -- Looking up copies by stamp.
+-- serves: AdoptLemmas, OpenedLemmas, OwnLemmas, crates above
 use Rattle.std.proofs.Common.{◌≡◌, ℕ, zero, suc, ◌+◌, ◌≤◌, Bool, cond, List, [], ◌∷◌, ◌++◌, Option, Some, None, refl, sym, ◌∙◌, ap, arith, subst, inl, inr}
 use Rattle.std.specs.Prelude.{◌⊎◌, ◌==◌, All, AllPairs, Contains}
 use Rattle.std.specs.List.{flat_map}

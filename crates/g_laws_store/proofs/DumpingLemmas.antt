@@ -1,4 +1,5 @@
 -- Events that aren't a job's preserve the invariant of a store that is up.
+-- serves: lib, crates above
 use Rattle.std.proofs.Common.{◌≡◌, ℕ, ◌≤◌, List, [], ◌∷◌, ◌++◌, Option, Some, None, refl, sym, ◌∙◌, ap, subst}
 use Rattle.std.specs.Prelude.{◌⊎◌, All, Contains, IfSome, map}
 use Rattle.std.specs.Option.{ForSome}

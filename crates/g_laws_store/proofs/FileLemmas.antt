@@ -1,4 +1,5 @@
 -- Files that are taken off, brought back, or inserted among others.
+-- serves: CallLemmas, PutLemmas, crates above
 use Rattle.std.proofs.Common.{◌≡◌, ℕ, Bool, true, false, List, [], ◌∷◌, ◌++◌, get_or, Option, None, refl, sym, ◌∙◌, ap}
 use Rattle.std.specs.Prelude.{◌==◌, All, Contains, filter, map, nat_lt, if◌then◌else◌}
 use Rattle.std.proofs.lemmas.List.{map-append}

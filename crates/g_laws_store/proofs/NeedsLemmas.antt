@@ -1,4 +1,5 @@
 -- The number of blocks that a dump needs: by the plan and by the state.
+-- serves: lib, AddLemmas, AdoptLemmas, OpenedLemmas, OwnLemmas, PartLemmas, crates above
 use Rattle.std.proofs.Common.{◌≡◌, ◌≢◌, ℕ, zero, suc, ◌+◌, ◌<◌, Bool, true, false, cond, List, [], ◌∷◌, ◌++◌, get_or, length, refl, sym, ◌∙◌, ap, arith, subst, inl, inr}
 use Rattle.std.specs.Prelude.{◌⊎◌, ◌==◌, All, AllPairs, Contains, filter, map, not, sum_by}
 use Rattle.std.specs.List.{list_any}

@@ -1,4 +1,5 @@
 -- What a dump that is opened will leave: the tree of the opening, and the places of its versions.
+-- serves: AdoptLemmas, OwnLemmas, crates above
 use Rattle.std.proofs.Common.{◌≡◌, ℕ, ◌+◌, ◌-◌, ◌<◌, ◌≤◌, Bool, true, false, List, length, Option, Some, None, is_some, unwrap_or, refl, sym, ◌∙◌, ap, arith, subst, inl, inr}
 use Rattle.std.specs.Prelude.{◌⊎◌, ◌==◌, ◌&&◌, All, Contains, is_none, map, nat_lt}
 use Rattle.std.specs.Option.{option_map}

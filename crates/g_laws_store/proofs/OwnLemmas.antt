@@ -1,4 +1,5 @@
 -- The copies that the records of a dump name at its opening, and the whole state afterwards.
+-- serves: opening_goes_by_step, AdoptLemmas, crates above
 use Rattle.std.proofs.Common.{◌≡◌, ℕ, zero, suc, ◌+◌, ◌<◌, Bool, true, false, List, [], ◌∷◌, get_or, length, Option, Some, None, refl, sym, ◌∙◌, ap, arith, subst, inl, inr}
 use Rattle.std.specs.Prelude.{◌⊎◌, ◌==◌, Contains, Ok, map, not, if◌then◌else◌}
 use Rattle.std.specs.Ordering.{nat_cmp}

@@ -1,4 +1,5 @@
 -- IF the parts of a state go by a call, the state does.
+-- serves: AddLemmas, CallLemmas, PutLemmas, SetLemmas
 use Rattle.std.proofs.Common.{◌≡◌, ℕ, ◌<◌, ◌≤◌, Bool, true, false, List, [], get_or, length, Option, Some, None, is_some, refl, sym, ◌∙◌, ap, arith}
 use Rattle.std.specs.Prelude.{◌||◌, Contains, IfSome, map, if◌then◌else◌}
 use Rattle.std.specs.Option.{option_map}

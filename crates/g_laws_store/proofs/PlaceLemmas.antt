@@ -1,4 +1,5 @@
 -- Places by stamp, after each change of contents.
+-- serves: places_go_by_change (places, taken), CallLemmas, OpenedLemmas, PutLemmas, RoomLemmas, SetLemmas, StandLemmas, StillLemmas, UnjamLemmas, and 2 more
 use Rattle.std.proofs.Common.{◌≡◌, ◌≢◌, ℕ, ◌<◌, Bool, true, false, cond, List, [], ◌∷◌, get_or, Option, Some, None, is_some, unwrap_or, refl, sym, ◌∙◌, ap, arith, subst, inl, inr}
 use Rattle.std.specs.Prelude.{◌⊎◌, ◌==◌, ◌&&◌, T, All, Contains, filter, map, nat_lt, not, if◌then◌else◌}
 use Rattle.std.specs.Option.{option_map}

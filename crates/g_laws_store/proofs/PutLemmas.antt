@@ -1,4 +1,5 @@
 -- The step of a call that creates a new version.
+-- serves: CallLemmas
 use Rattle.std.proofs.Common.{◌≡◌, ◌≢◌, ℕ, ◌+◌, ◌<◌, ◌≤◌, true, false, List, [], ◌∷◌, get_or, length, Option, Some, None, is_some, unwrap_or, refl, sym, ◌∙◌, ap, arith, subst, inl, inr}
 use Rattle.std.specs.Prelude.{◌⊎◌, ◌==◌, All, AllPairs, Contains, if◌then◌else◌}
 use Rattle.std.specs.Ordering.{nat_cmp}

@@ -1,4 +1,5 @@
 -- Records that are gathered user by user satisfy the rules that they satisfied in order of number.
+-- serves: AdoptLemmas, CopyLemmas, ForgetLemmas, NeedsLemmas, OpenedLemmas, OpeningLemmas, OwnLemmas, PlaceLemmas, ReleaseLemmas, SetLemmas, and 3 more
 use Rattle.std.proofs.Common.{◌≡◌, ◌≢◌, ℕ, zero, suc, ◌+◌, ◌<◌, ◌≤◌, Bool, true, false, List, [], ◌∷◌, ◌++◌, get_or, length, refl, sym, ◌∙◌, ap, arith, subst, inl, inr}
 use Rattle.std.specs.Prelude.{◌⊎◌, ◌==◌, All, AllPairs, Contains, filter, map}
 use Rattle.std.specs.List.{flat_map}

@@ -1,4 +1,5 @@
 -- Reels are released where one dump has all: what is gathered is gathered of that dump.
+-- serves: lib, releases_stay_up (none), crates above
 use Rattle.std.proofs.Common.{◌≡◌, ℕ, zero, suc, ◌≤◌, true, false, List, [], ◌∷◌, get_or, Option, Some, None, refl, sym, arith, subst, inl, inr}
 use Rattle.std.specs.Prelude.{◌⊎◌, ◌==◌, All, Contains, IfSome}
 use Rattle.std.specs.Option.{ForSome}

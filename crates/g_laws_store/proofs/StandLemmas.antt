@@ -1,4 +1,5 @@
 -- What a start would adopt stays while the dump is open.
+-- serves: starts_adopt_what_is_noted
 use Rattle.std.proofs.Common.{◌≡◌, ◌≢◌, ℕ, ◌+◌, ◌-◌, ◌≤◌, Bool, true, false, List, [], ◌∷◌, Option, Some, None, is_some, unwrap_or, refl, sym, ◌∙◌, ap, arith, subst, inl, inr}
 use Rattle.std.specs.Prelude.{◌⊎◌, ◌&&◌, ◌||◌, MatchOption, Result, Ok, Err, is_none, nat_lt, not, if◌then◌else◌}
 use Rattle.std.specs.Option.{option_map}

@@ -1,4 +1,5 @@
 -- What belongs together has a state.
+-- serves: lib, ClosingLemmas, OpenedLemmas, OpeningLemmas, crates above
 use Rattle.std.proofs.Common.{◌≡◌, ℕ, true, false, List, [], ◌∷◌, ◌++◌, Option, Some, None, refl, sym, ◌∙◌, arith, subst}
 use Rattle.std.specs.Prelude.{Bool, ◌==◌, All, Contains, IfSome, is_some}
 use Rattle.std.specs.Option.{ForSome}

@@ -1,5 +1,6 @@
 -- A store whose filestore is tied to its disc: its devices belong together, and its invariant depends on parts of the
 -- filestore.
+-- serves: crates above
 use Rattle.std.proofs.Common.{◌≡◌, ℕ, Bool, true, false, List, Option, Some, None, sym, ◌∙◌, ap, subst, true≢false}
 use Rattle.std.specs.Prelude.{IfSome, not}
 use Rattle.std.specs.Option.{ForSome}

@@ -1,4 +1,5 @@
 -- A store that is up and exposes its contents represents at most one state, including an open dump.
+-- serves: lib, one_state, ClosingLemmas, MoveLemmas, OpenedLemmas, OpeningLemmas, PartLemmas, ReleaseLemmas, StateLemmas, crates above
 use Rattle.std.proofs.Common.{◌≡◌, ℕ, zero, suc, ◌+◌, ◌≤◌, true, false, List, [], ◌∷◌, ◌++◌, get_or, Option, Some, None, refl, sym, ◌∙◌, ap, arith, subst, inl, inr}
 use Rattle.std.specs.Prelude.{◌⊎◌, Bool, ◌==◌, All, Contains, IfSome, map, is_some, if◌then◌else◌}
 use Rattle.std.specs.Option.{ForSome, option_map}

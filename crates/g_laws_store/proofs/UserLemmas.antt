@@ -1,4 +1,5 @@
 -- The users who are kept and touched, by name and by number.
+-- serves: dumped_texts_stay, lib, AddLemmas, AdoptLemmas, NeedsLemmas, OpenedLemmas, PartLemmas, UnjamLemmas, crates above
 use Rattle.std.proofs.Common.{◌≡◌, ◌≢◌, ℕ, zero, suc, ◌<◌, Bool, true, false, cond, List, [], ◌∷◌, Option, Some, None, is_some, refl, sym, ◌∙◌, ap, arith, inl, inr}
 use Rattle.std.specs.Prelude.{◌⊎◌, ◌==◌, ◌||◌, All, Contains, filter, map, nat_lt, not}
 use Rattle.std.specs.List.{list_any}

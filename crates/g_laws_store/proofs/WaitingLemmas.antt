@@ -1,4 +1,5 @@
 -- The versions that wait, by stamp: those of the plan are those of the state.
+-- serves: AdoptLemmas, CallLemmas, NeedsLemmas, OpenedLemmas, OwnLemmas, PutLemmas, SetLemmas, UnjamLemmas, crates above
 use Rattle.std.proofs.Common.{◌≡◌, ◌≢◌, ℕ, zero, suc, ◌+◌, ◌<◌, Bool, true, false, cond, List, [], ◌∷◌, get_or, length, Option, Some, None, unwrap_or, refl, sym, ◌∙◌, ap, arith, subst, inl, inr}
 use Rattle.std.specs.Prelude.{◌⊎◌, ◌==◌, ◌&&◌, All, Contains, filter, is_none, map, nat_lt}
 use Rattle.std.specs.Ordering.{nat_cmp, eq_by_cmp}

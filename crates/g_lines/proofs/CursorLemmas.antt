@@ -1,4 +1,5 @@
 -- The byte offset in a document after the lines that were taken.
+-- serves: has_line, left (lines, text), line, pass, take_line, crates above
 use Rattle.std.proofs.Common.{◌≡◌, ◌<◌, ◌≤◌, ◌+◌, ◌-◌, ℕ, List, [], ◌∷◌, ◌++◌, ⊎_elim, length, get_or, take, drop, take-add, take_all, le-ltb, lt-ltb, nat_lt, sym, ap, ◌∙◌, refl, arith}
 use Rattle.std.proofs.lemmas.Bool.{cases_lt}
 use Rattle.std.proofs.lemmas.List.{drop_at, drop-drop, drop_more, get_or-drop, length-append, length-drop, take-append-drop, take_more, take_rest}

@@ -1,4 +1,5 @@
 -- A text and its lines, each with its byte 10.
+-- serves: lacks_end (lacks, whole), pass, push (ok), take_line, CursorLemmas, crates above
 use Rattle.std.proofs.Common.{◌≡◌, ◌≢◌, ◌==◌, Bool, true, false, eqb, eqb-true, eq-eqb, ◌<◌, ◌≤◌, ◌+◌, ◌-◌, ℕ, List, [], ◌∷◌, ◌++◌, ◌⊎◌, inl, inr, length, get_or, take, not, suc, zero, All, if◌then◌else◌, sym, ap, subst, ◌∙◌, refl, arith}
 use Rattle.std.proofs.Common.{Err, Ok, Result}
 use Rattle.std.specs.List.{AllByRecursion}

@@ -1,4 +1,5 @@
 -- Lines and the bytes 10 between them.
+-- serves: end_last (whole), is_empty, lines_are_those_of_their_text, split_line, DocumentLemmas, crates above
 use Rattle.std.proofs.Common.{◌≡◌, ◌≢◌, ◌↔◌, ◌==◌, Bool, true, eqb, eqb-true, ◌<◌, ℕ, List, [], ◌∷◌, ◌++◌, append_assoc, length, All, sym, ap, ◌∙◌, refl, arith}
 use Rattle.std.specs.List.{AllByRecursion}
 use Rattle.std.proofs.lemmas.Bool.{ne_eqb, cond_both, false≢true}

@@ -1,4 +1,5 @@
 -- Decimal numbers in texts.
+-- serves: number, crates above
 use Rattle.std.proofs.Common.{Err, List, true, le-leb, leb-true, None, Ok, Option, Result, Some, ap, arith, get_or, length, refl, subst, suc, sym, zero, ℕ, ◌<◌, ◌≢◌, ◌≤◌, ◌^◌, ◌∙◌, ◌≡◌}
 use Rattle.std.specs.Fmt.{decimal}
 use Rattle.std.specs.Str.{IsUtf8}

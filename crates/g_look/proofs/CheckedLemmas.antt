@@ -1,4 +1,5 @@
 -- The result of a check, from what was read of disc and rack.
+-- serves: check (filestore, right), dumps (text)
 use Rattle.std.proofs.Common.{◌≡◌, ◌↔◌, ℕ, Bool, true, List, [], ◌∷◌, ◌++◌, Option, Some, None, refl, sym, ◌∙◌, ap, subst, All, IsTrue}
 use Rattle.std.specs.Prelude.{is_some}
 use Rattle.std.proofs.lemmas.List.Elements.{All-map}

@@ -1,4 +1,5 @@
 -- The texts of a version that are read and compared.
+-- serves: compare_file (none, some), compare_files, compare_texts (none, some), judge_disc, tape, tape_text (read, text), text_in, CopyLemmas
 use Rattle.std.proofs.Common.{◌≡◌, ◌⊎◌, inl, inr, ℕ, zero, suc, ◌+◌, ◌-◌, ◌<◌, ◌≤◌, Bool, true, false, cond, List, [], ◌∷◌, ◌++◌, length, map, min, take, drop, Option, Some, None, Result, Ok, Err, refl, sym, ◌∙◌, ap, arith, subst, All}
 use Rattle.std.specs.Prelude.{◌==◌, Contains, IfNone, IfOk, IfSome, get_or}
 use Rattle.std.specs.Option.{ForSome}

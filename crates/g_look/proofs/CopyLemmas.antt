@@ -1,4 +1,5 @@
 -- The bytes read at a copy on tape are those that the completed dumps of the rack hold there.
+-- serves: copy_text (bytes, lost), file_bytes (bytes), taped_text (lost)
 use Rattle.std.proofs.Common.{◌≡◌, ℕ, ◌<◌, true, List, length, Option, Some, None, Result, Ok, Err, IfOk, refl, sym, ◌∙◌, ap, subst}
 use Rattle.std.specs.Prelude.{Contains, is_some}
 use Rattle.std.specs.Option.{ForSome}

@@ -1,4 +1,5 @@
 -- The files of a disc, by the records that were read.
+-- serves: compare_file, list, see_disc (standing), see_format (format), show, CompareLemmas, NamedLemmas, ReadLemmas, RecLemmas, ShowLemmas
 use Rattle.std.proofs.Common.{◌≡◌, ◌⊎◌, inl, inr, ℕ, zero, suc, ◌<◌, List, [], ◌∷◌, length, map, Option, Some, None, refl, sym, ◌∙◌, ap, arith, subst, All}
 use Rattle.std.specs.Prelude.{◌==◌, Contains, find, IfSome, slice_get}
 use Rattle.std.specs.Option.{ForSome, option_map}

@@ -1,5 +1,5 @@
 -- The greatest number that no dump has, above a number and below that of a dump; and the newest dump that holds all directories.
--- serves: `newest_gap`, `newest_whole`, `holds_all`.
+-- serves: holds_all, newest_gap, newest_whole
 use Rattle.std.proofs.Common.{◌≡◌, ◌≢◌, Bool, true, false, ◌⊎◌, inl, inr, ℕ, ◌+◌, ◌-◌, ◌<◌, ◌≤◌, List, length, get_or, Option, Some, None, refl, sym, ◌∙◌, ap, arith, subst}
 use Rattle.std.specs.Prelude.{◌↔◌, Contains, IsTrue, max}
 use Rattle.std.specs.List.Sorted.{IsNonDecreasingBy}

@@ -1,4 +1,5 @@
 -- The verdict, from the rules that were found broken and those that weren't.
+-- serves: judge (right), judge_disc (judged)
 use Rattle.std.proofs.Common.{Global, ◌≡◌, ◌⊎◌, inl, inr, ℕ, ◌≤◌, List, Option, Some, None, Result, Ok, Err, refl, sym, ◌∙◌, arith, subst}
 use Rattle.std.specs.Prelude.{Contains, IfNone, IfOk, IfSome, Vec}
 use Rattle.std.proofs.lemmas.Option.{same_Some}

@@ -1,4 +1,5 @@
 -- Loops over a list: a property of each element visited so far, and of all elements after the last step.
+-- serves: compare_texts (none, some), other_length (none), NamedLemmas, ReadLemmas
 use Rattle.std.proofs.Common.{◌≡◌, ℕ, zero, suc, ◌+◌, ◌<◌, ◌≤◌, ◌⊎◌, inl, inr, List, length, get_or, Option, Some, None, sym, ◌∙◌, ap, arith, subst}
 use Rattle.std.specs.Prelude.{Contains, IfNone, IfSome}
 use Rattle.std.proofs.lemmas.List.{get_or_default}

@@ -1,4 +1,5 @@
 -- Of the two refusals that name what is lost, only one can occur: if a copy is lost, all directories go together.
+-- serves: RackLemmas
 use Rattle.std.proofs.Common.{◌≡◌, ℕ, ◌+◌, ◌<◌, List, ◌++◌, length, take, drop, sym, ◌∙◌, ap, arith, subst}
 use Rattle.std.proofs.lemmas.List.{take-append-drop}
 use Rattle.g_entry.specs.declared.user_rec.UserRec.{UserRec}

@@ -1,5 +1,5 @@
 -- The gap in the numbers of the dumps in memory is the missing dump.
--- serves: `missing`.
+-- serves: missing
 use Rattle.std.proofs.Common.{◌≡◌, ◌≢◌, ◌⊎◌, inl, inr, ℕ, ◌<◌, ◌≤◌, List, map, Option, Some, None, sym, ◌∙◌, ap, arith, subst}
 use Rattle.std.specs.Prelude.{Contains, IsPermutation}
 use Rattle.g_incr.specs.Layout.{Dump}

@@ -1,4 +1,5 @@
 -- A check that finds no rule broken has read each block that disc and dumps name.
+-- serves: check (read), judge (read)
 use Rattle.std.proofs.Common.{Global, ◌≡◌, ◌≢◌, ℕ, ◌+◌, ◌<◌, ◌≤◌, List, [], Option, Some, None, Result, Ok, Err, IfOk, refl, sym, ◌∙◌, ap, arith, subst, All}
 use Rattle.std.specs.Prelude.{AllPairs, Contains, IfNone, IfSome, Vec, get_or}
 use Rattle.std.proofs.lemmas.List.Elements.{All-contains, All-map, Contains-get_or}

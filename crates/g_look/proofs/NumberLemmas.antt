@@ -1,4 +1,5 @@
 -- A list visits the files by number, in the order of their names.
+-- serves: add_numbers, all_numbers, asked_user (name, no_user, user), directory_text (text), lines_of (text), list (text), push_numbered, tree_text
 use Rattle.std.proofs.Common.{◌≡◌, ℕ, suc, ◌+◌, ◌<◌, Bool, true, false, cond, List, [], ◌∷◌, ◌++◌, length, map, filter, drop, Option, Some, None, Result, Ok, Err, IfOk, refl, sym, ◌∙◌, ap, arith, subst, unwrap_or}
 use Rattle.std.specs.Prelude.{IfSome, codes, get_or}
 use Rattle.std.specs.List.{AllByRecursion, flat_map}

@@ -1,4 +1,5 @@
 -- The rules 10 to 12, for the records and texts that were read, and for the files of the disc.
+-- serves: judge_disc (judged), JudgeLemmas, ReadLemmas
 use Rattle.std.proofs.Common.{◌≡◌, ◌≢◌, ◌⊎◌, inl, inr, ℕ, ◌≤◌, List, length, Option, Some, None, refl, sym, ◌∙◌, ap, arith, subst}
 use Rattle.std.specs.Prelude.{AllPairs, Contains, IfSome, get_or}
 use Rattle.std.specs.Option.{option_map}

@@ -1,4 +1,5 @@
 -- The file that is shown is the one that the path names, and its bytes are those of disc or tape.
+-- serves: list (no_filestore), show (bytes, no_copy, no_file, no_filestore)
 use Rattle.std.proofs.Common.{◌≡◌, ℕ, false, List, Option, Some, None, Result, Ok, Err, IfOk, sym, ◌∙◌, ap, arith, subst}
 use Rattle.std.specs.Prelude.{Contains, codes}
 use Rattle.std.specs.Option.{ForSome}

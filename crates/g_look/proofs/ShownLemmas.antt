@@ -1,4 +1,5 @@
 -- The lines printed for the dumps and the directory in memory are those of the dumps and of the disc.
+-- serves: check_text, count_on, file_text, push_dirs, push_disc, push_named, push_rack, push_reel, used_blocks
 use Rattle.std.proofs.Common.{◌≡◌, ℕ, zero, suc, ◌+◌, ◌-◌, ◌*◌, ◌<◌, ◌≤◌, Bool, true, false, cond, ◌&&◌, ◌||◌, List, [], ◌∷◌, ◌++◌, length, map, filter, take, Option, Some, None, Result, Ok, Err, refl, sym, ◌∙◌, ap, arith, subst, All}
 use Rattle.std.specs.Prelude.{◌==◌, Contains, codes, get_or, nat_le, slice_get, OnOk}
 use Rattle.std.specs.List.{flat_map, list_any}

@@ -1,4 +1,5 @@
 -- Two words that request nothing.
+-- serves: asked_of
 use Rattle.std.proofs.Common.{Bool, List, [], Option, Some, None, ap, arith, codes, get_or, subst, sym, true, ℕ, ◌∙◌, ◌∷◌, ◌≡◌, ◌≢◌}
 use Rattle.std.specs.Str.{bytes_eq}
 use Rattle.std.proofs.lemmas.Slice.Eq.{bytes_eq-Decides}

@@ -1,4 +1,5 @@
 -- The first 240 bytes of a text, built byte by byte, and a line with its parameters substituted piece by piece.
+-- serves: expand, fill (filled), fill_in, push, set, HoldingLemmas
 use Rattle.std.proofs.Common.{Bool, List, [], ap, append_assoc, arith, drop, drop-drop, eq-eqb, false, get_or, le-ltb, leb-true, length, length-append, length-drop, length-take, lt-ltb, nat_le, nat_lt, ne_eqb, refl, subst, sym, take, take-add, take_all, true, ℕ, ◌++◌, ◌+◌, ◌-◌, ◌<◌, ◌==◌, ◌||◌, ◌∙◌, ◌∷◌, ◌≡◌, ◌≤◌}
 use Rattle.std.proofs.lemmas.Bool.{and_from, and_left, and_parts, and_right, cond_both, or_from, or_parts, or_right}
 use Rattle.std.proofs.lemmas.List.{take-append-le}

@@ -1,4 +1,5 @@
 -- A document that is held open: the last of the levels, which is the first in the code's list.
+-- serves: add_line, is_input, is_ready, is_ready_with, is_some_ready, ready_with, crates above
 use Rattle.std.proofs.Common.{Bool, List, [], ap, arith, drop, drop_of_length-le, false, get_or, if◌then◌else◌, le-leb, le-ltb, length, length-append, lt-ltb, not, None, Option, Some, refl, reverse, set, slice_get, subst, sym, take_all, true, ℕ, ⊎_elim, ◌&&◌, ◌||◌, ◌++◌, ◌+◌, ◌<◌, ◌∙◌, ◌∷◌, ◌≡◌, ◌≤◌, ◌==◌}
 use Rattle.std.proofs.Math.ListN.{get_or-append}
 use Rattle.std.proofs.Math.Seq.{get_or-append_seam}

@@ -1,4 +1,5 @@
 -- The search for the line with a label, line by line.
+-- serves: place_of_label
 use Rattle.std.proofs.Common.{List, ap, arith, drop, false, length, option_map, sym, take, ℕ, ◌+◌, ◌<◌, ◌∙◌, ◌∷◌, ◌≡◌, ◌≤◌}
 use Rattle.std.proofs.lemmas.List.{length-drop}
 use Rattle.g_lang.specs.Words.{has_label}

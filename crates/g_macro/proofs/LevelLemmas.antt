@@ -1,4 +1,5 @@
 -- The result of a call on one level.
+-- serves: keep
 use Rattle.std.proofs.Common.{IfSome, List, None, Option, Some, [], ap, arith, cond, false, get_or, le-leb, length, nat_le, not, option_map, refl, set, suc, sym, true, zero, ℕ, ◌++◌, ◌+◌, ◌<◌, ◌∙◌, ◌∷◌, ◌≡◌, ◌≤◌}
 use Rattle.std.proofs.lemmas.Bool.{and_from, and_left, and_right, cond_both, lt-leb, not_from_false, not_from_true, or_from, or_left, or_right}
 use Rattle.g_lang.specs.Conditions.{same_cond}

@@ -1,4 +1,5 @@
 -- The 24 parameters of a level; those after the given ones are empty.
+-- serves: fill_up, get, set
 use Rattle.std.proofs.Common.{List, [], ap, append_assoc, arith, length, length-append, length-set, refl, replicate, set, suc, sym, zero, ℕ, ◌++◌, ◌+◌, ◌-◌, ◌<◌, ◌∙◌, ◌∷◌, ◌≡◌, ◌≤◌}
 use Rattle.std.proofs.lemmas.List.{append-nil, length-replicate}
 use Rattle.std.specs.Prelude.{slice_index_or}

@@ -1,4 +1,5 @@
 -- Levels without a waiting command.
+-- serves: have_entries
 use Rattle.std.proofs.Common.{Bool, List, None, Option, Some, [], ap, arith, false, find, length, ne_eqb, not, refl, reverse, sym, true, ℕ, ◌++◌, ◌==◌, ◌||◌, ◌∙◌, ◌∷◌, ◌≡◌}
 use Rattle.std.proofs.lemmas.Bool.{false≢true}
 use Rattle.std.proofs.lemmas.List.{reverse-append}

@@ -1,4 +1,5 @@
 -- The extent of a document, line by line.
+-- serves: span_of
 use Rattle.std.proofs.Common.{List, ap, arith, drop, false, length, refl, sym, take, true, ℕ, ◌+◌, ◌<◌, ◌∙◌, ◌∷◌, ◌≡◌, ◌≤◌}
 use Rattle.std.proofs.lemmas.List.{length-drop}
 use Rattle.g_lines.proofs.CursorLemmas.{bytes_next, bytes_within}

@@ -1,4 +1,5 @@
 -- The levels in the code's order, the current one last.
+-- serves: document, goto, next_line, set_param, whenever, FrontLemmas
 use Rattle.std.proofs.Common.{Bool, Err, IfOk, IsSome, List, Ok, Option, Result, Some, [], ap, arith, cond, false, get_or, inl, inr, le-leb, le-ltb, length, length-set, length-take-le, lives, lt-ltb, refl, reverse, set, subst, sym, take, take-take, take_all, true, ℕ, ⊎_elim, ◌++◌, ◌+◌, ◌-◌, ◌<◌, ◌∙◌, ◌∷◌, ◌≡◌, ◌≤◌, ◌⊎◌}
 use Rattle.std.proofs.Math.Seq.{take-length}
 use Rattle.std.proofs.lemmas.Bool.{cases_lt, lt-leb}

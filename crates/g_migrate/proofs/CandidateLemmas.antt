@@ -1,4 +1,5 @@
 -- The candidates among records, one file after another.
+-- serves: candidates, is_candidate, plan_by_age
 use Rattle.std.proofs.Common.{◌≡◌, ℕ, zero, suc, ◌+◌, ◌<◌, ◌≤◌, Bool, true, false, ◌&&◌, cond, List, [], ◌∷◌, ◌++◌, length, get_or, map, filter, take, drop, Option, Some, None, refl, sym, ◌∙◌, ap, arith, if◌then◌else◌}
 use Rattle.std.specs.Prelude.{All, Contains, is_some, nat_lt}
 use Rattle.std.specs.Option.{option_to_list}

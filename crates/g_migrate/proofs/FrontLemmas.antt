@@ -1,4 +1,5 @@
 -- Candidates in order of stamp: those below a stamp are the first ones.
+-- serves: PlanLemmas
 use Rattle.std.proofs.Common.{◌≡◌, ℕ, zero, suc, ◌+◌, ◌<◌, ◌≤◌, List, [], ◌∷◌, length, get_or, take, sum_by, refl, sym, ◌∙◌, ap, arith, inl, inr, subst, if◌then◌else◌}
 use Rattle.std.specs.Prelude.{◌⊎◌, All, nat_lt}
 use Rattle.std.proofs.lemmas.Bool.{cases_lt, cases_order, cond-false, cond-true, le-ltb, lt-ltb}

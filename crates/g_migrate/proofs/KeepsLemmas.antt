@@ -1,4 +1,5 @@
 -- A store preserves its invariant when files of its filestore are taken off the disc.
+-- serves: MigrationLemmas
 use Rattle.std.proofs.Common.{◌≡◌, ℕ, ◌<◌, Bool, true, false, List, [], Option, Some, None, refl, sym, ◌∙◌, ap, subst, arith, inl, inr, if◌then◌else◌}
 use Rattle.std.specs.Prelude.{◌⊎◌, ◌||◌, IfSome, is_some, not}
 use Rattle.g_tape.specs.Rack.{Rack}

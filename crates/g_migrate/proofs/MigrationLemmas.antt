@@ -1,4 +1,5 @@
 -- One file that is taken off the disc: that this is permitted, and how it is answered.
+-- serves: has_copy, migrate (keeps, migrated, not_dumped, offline, only), plan_by_age (order, plan, room), refusal, crates above
 use Rattle.std.proofs.Common.{◌≡◌, ◌≢◌, ℕ, zero, suc, ◌==◌, Bool, true, false, List, [], ◌∷◌, get_or, map, Option, Some, None, Ok, Err, refl, sym, ◌∙◌, ap, subst, arith, inl, inr, if◌then◌else◌, true≢false}
 use Rattle.std.specs.Prelude.{◌⊎◌, ◌↔◌, ◌||◌, All, Contains, OnErr, Result, is_some}
 use Rattle.std.specs.FinMap.{get}

@@ -1,4 +1,5 @@
 -- Invariants of the loop over the lines of words.
+-- serves: read_words
 use Rattle.std.proofs.Common.{◌≡◌, ℕ, ◌+◌, ◌≤◌, List, length, map, ◌++◌}
 use Rattle.std.specs.List.{prefix_len}
 use Rattle.g_mill.specs.Loading.{octal, is_word_line}

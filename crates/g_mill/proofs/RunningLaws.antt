@@ -1,4 +1,5 @@
 -- Sequences of orders: one more order at the end, and what an order with another event than Ran can't be.
+-- serves: run, run_one, step (event, machine)
 use Rattle.std.proofs.Common.{◌≡◌, ℕ, zero, suc, ◌+◌, ◌/◌, ◌%◌, ◌^◌, ◌<◌, ◌≤◌, Bool, true, false, Option, Some, None, refl, sym, ap, subst, ◌∙◌, arith}
 use Rattle.std.specs.Prelude.{◌≢◌, List, nat_lt, option_and_then, unwrap_or, slice_get, ◌==◌, if◌then◌else◌, ⊤}
 use Rattle.std.specs.Option.{option_map}

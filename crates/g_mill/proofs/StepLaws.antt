@@ -1,4 +1,5 @@
 -- The program after a step, by the step's event.
+-- serves: crates above
 use Rattle.std.proofs.Common.{◌≡◌, ℕ, ◌/◌, ◌%◌, ◌^◌, ◌<◌, Bool, true, false, List, Option, Some, None, refl}
 use Rattle.std.specs.Prelude.{◌==◌, nat_lt, option_and_then, unwrap_or, if◌then◌else◌, ⊤}
 use Rattle.std.specs.Option.{option_map}

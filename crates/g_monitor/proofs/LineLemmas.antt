@@ -1,4 +1,5 @@
 -- Lines appended to lines.
+-- serves: listing, replies
 use Rattle.std.proofs.Common.{◌≡◌, ℕ, List, [], ◌∷◌, ◌++◌, append_assoc, append-nil, sym, ap, ◌∙◌}
 use Rattle.std.proofs.lemmas.Grind.{flat_map-append}
 use Rattle.g_lines.specs.Lines.{ended, text_of}

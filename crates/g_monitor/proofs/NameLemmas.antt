@@ -1,4 +1,5 @@
 -- A full name appended to a text, piece by piece.
+-- serves: text_of_full
 use Rattle.std.proofs.Common.{◌≡◌, ℕ, List, [], ◌∷◌, ◌++◌, append_assoc, ap, refl, ◌∙◌}
 use Rattle.std.specs.Prelude.{codes}
 

@@ -1,4 +1,5 @@
 -- Each text begins with its number.
+-- serves: parts, refusals_begin_with_their_numbers, text_of_full
 use Rattle.std.proofs.Common.{◌≡◌, List, [], length, ℕ, true, ◌+◌, ◌/◌, ◌%◌, ◌<◌, ◌≤◌, ◌^◌, ◌∷◌, ◌++◌, refl, sym, ap, ◌∙◌, arith}
 use Rattle.std.proofs.Math.Dec.{leb, ltb}
 use Rattle.std.proofs.lemmas.Bool.{and_parts, leb-true, ltb-true}

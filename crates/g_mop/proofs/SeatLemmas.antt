@@ -1,4 +1,5 @@
 -- Seats at the terminals 1 to 8, each at a different one: at most seven are taken if one terminal is free.
+-- serves: ended, login, logout (left), place_of
 use Rattle.std.proofs.Common.{◌≡◌, ◌∙◌, ℕ, zero, suc, ◌+◌, ◌<◌, ◌≤◌, ◌==◌, Bool, true, false, append-nil, cond, drop, drop_of_length-le, eqb-true, get_or, if◌then◌else◌, is_some, length-set, not, List, [], ◌∷◌, ◌++◌, length, set, map, filter, slice_get, slice_index_or, slice_set, Option, Some, None, refl, sym, ap, subst, take, take_all, arith, inl, inr}
 use Rattle.std.specs.List.{refill}
 use Rattle.std.proofs.lemmas.Bool.{cases_lt, false≢true, eq-eqb, ne_eqb}

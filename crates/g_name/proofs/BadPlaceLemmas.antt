@@ -1,4 +1,5 @@
 -- The place where a text goes wrong: how it is shown.
+-- serves: read_path, PathLemmas, WordLemmas, crates above
 use Rattle.std.proofs.Common.{◌≡◌, ℕ, ◌+◌, ◌-◌, ◌<◌, ◌≤◌, ◌⊎◌, List, [], ◌∷◌, ◌++◌, length, take, drop, get_or, Option, Some, None, refl, ap, ◌∙◌, subst, inl, inr, arith, append_assoc, suc}
 use Rattle.std.proofs.Math.Seq.{drop-cons, take-add}
 use Rattle.std.specs.Prelude.{is_some, option_and_then, true}

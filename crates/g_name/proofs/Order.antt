@@ -1,4 +1,5 @@
 -- The order of full names: it is total, and no two full names tie.
+-- serves: crates above
 use Rattle.std.proofs.Common.{◌≡◌, ℕ, List, ap, ◌∙◌}
 use Rattle.std.specs.Ordering.{is_eq, eq_by_cmp, nat_cmp, ordering_then}
 use Rattle.std.specs.Cmp.{IsTotalOrder, unsigned_ties, tied_then}

@@ -1,4 +1,5 @@
 -- A reader of paths has read its text, and reads the text of each name.
+-- serves: parse_path (ok, read), read_path (err, ok, read), crates above
 use Rattle.std.proofs.Common.{take, get_or, ◌≡◌, ℕ, ◌+◌, ◌*◌, ◌/◌, ◌%◌, ◌^◌, ◌<◌, ◌≤◌, ◌⊎◌, Bool, true, false, List, [], ◌∷◌, ◌++◌, length, Option, Some, None, refl, sym, ap, ◌∙◌, subst, inl, arith, append_assoc, append-nil, lit≤, ⊎_elim}
 use Rattle.std.specs.Prelude.{◌&&◌, ◌==◌, not, if◌then◌else◌, IfSome, is_some, unwrap_or, IsSome, IfOk, IfErr, IsOkAnd}
 use Rattle.std.specs.Fmt.{decimal}

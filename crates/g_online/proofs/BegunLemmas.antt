@@ -1,4 +1,5 @@
 -- What a filestore is at its beginning.
+-- serves: begin (tied), find (none), fresh (ok, stopped), load (none, ok), numbers_of
 use Rattle.std.proofs.Common.{◌≡◌, ◌≢◌, ℕ, zero, suc, ◌+◌, ◌<◌, ◌≤◌, ◌==◌, Bool, true, false, ◌||◌, List, [], ◌∷◌, ◌++◌, length, get_or, map, filter, replicate, take, Option, Some, None, Ok, All, AllPairs, refl, sym, ◌∙◌, ap, subst, inl, inr, arith, slice_get, if◌then◌else◌, is_some}
 use Rattle.std.specs.Prelude.{Contains, IfSome, nat_lt, ◌⊎◌}
 use Rattle.std.specs.Option.{ForSome}

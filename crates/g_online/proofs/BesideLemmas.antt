@@ -1,4 +1,5 @@
 -- A write into free copy blocks preserves the invariant of a filestore.
+-- serves: PinWaitLemmas, WrittenLemmas
 use Rattle.std.proofs.Common.{◌≡◌, ◌⊎◌, ℕ, zero, suc, ◌-◌, ◌||◌, Bool, true, false, not, List, [], ◌∷◌, filter, Option, Some, None, All, refl, sym, ◌∙◌, ap, subst, arith, slice_get, inl, inr}
 use Rattle.std.specs.List.{flat_map}
 use Rattle.std.specs.Prelude.{Contains, unwrap_or}

@@ -1,4 +1,5 @@
 -- What the copies in memory say of the files.
+-- serves: bytes (filled, text), file_block (block), is_online, crates above
 use Rattle.std.proofs.Common.{◌≡◌, ◌≢◌, ℕ, suc, true, List, [], ◌∷◌, ◌++◌, length, take, get_or, map, Option, Some, None, All, AllPairs, refl, sym, ◌∙◌, ap, subst, arith, option_map, slice_get}
 use Rattle.std.specs.Prelude.{◌<◌, Contains, IfSome, is_some, slice_index_or}
 use Rattle.std.specs.Option.{ForSome}

@@ -1,4 +1,5 @@
 -- The contents of the directory that memory will have after a change are those that the change makes.
+-- serves: AdoptLemmas, BringStepLemmas, EraseLemmas, PutLemmas, UnjamLemmas, UnloadLemmas
 use Rattle.std.proofs.Common.{◌≡◌, ℕ, ◌+◌, Bool, true, false, ◌||◌, List, map, Option, None, ◌∙◌, ap, is_some}
 use Rattle.std.specs.Option.{ForSome}
 use Rattle.g_copy.specs.declared.copy.DiscCopy.{DiscCopy}

@@ -1,4 +1,5 @@
 -- The noted places on tape are written into the records one by one.
+-- serves: note_copies (files), note_copy (files, marks), with_copy (none, some), CloseMarkLemmas, CopiedLemmas, FewerLemmas, PinLemmas, crates above
 use Rattle.std.proofs.Common.{◌≡◌, ◌≢◌, ◌⊎◌, ℕ, suc, ◌+◌, ◌<◌, ◌≤◌, ◌==◌, Bool, true, false, List, [], ◌∷◌, length, get_or, map, nat_lt, Option, Some, None, All, AllPairs, refl, sym, ◌∙◌, ap, subst, arith, inl, inr, if◌then◌else◌}
 use Rattle.std.specs.Prelude.{Contains}
 use Rattle.std.specs.FinMap as finmap

@@ -1,4 +1,5 @@
 -- What the files of a directory are, with their bytes, when its lists of records and of copies change.
+-- serves: BegunLemmas, BringStepLemmas, ChangeLemmas, FileLemmas, KeepLemmas, RoomLemmas, UnjamLemmas
 use Rattle.std.proofs.Common.{◌≡◌, ℕ, ◌<◌, ◌==◌, true, false, List, [], ◌∷◌, map, Option, Some, None, refl, sym, ◌∙◌, ap, inl, inr, if◌then◌else◌, option_map, not, is_some, AllPairs}
 use Rattle.std.specs.Prelude.{Contains}
 use Rattle.std.specs.Option.{ForSome}

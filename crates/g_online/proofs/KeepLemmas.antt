@@ -1,4 +1,5 @@
 -- The rules of a directory, from those of its contents and those of its blocks.
+-- serves: AdoptLemmas, BegunLemmas, BringStepLemmas, EraseLemmas, PutLemmas, PutStepLemmas, ReadyLemmas, RecordLemmas, UnjamLemmas, UnloadLemmas, and 2 more
 use Rattle.std.proofs.Common.{◌≡◌, ◌≢◌, ℕ, ◌<◌, ◌≤◌, true, List, length, get_or, map, Option, Some, None, All, AllPairs, sym, subst, arith}
 use Rattle.std.specs.Prelude.{IfSome}
 use Rattle.std.proofs.lemmas.Bool.{lt-ltb}

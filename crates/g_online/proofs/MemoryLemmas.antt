@@ -1,4 +1,5 @@
 -- What is in memory, from its parts in their order.
+-- serves: add_user, adopt, erase_file, set_file, set_user, unload, with_new_copy, NotedLemmas, PinLemmas, PinLostLemmas, UnjamLemmas
 use Rattle.std.proofs.Common.{◌≡◌, ℕ, Bool, true, List, length, Option}
 use Rattle.g_copy.specs.declared.copy.DiscCopy.{DiscCopy}
 use Rattle.g_entry.specs.declared.file_rec.FileRec.{FileRec}

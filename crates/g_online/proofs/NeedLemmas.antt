@@ -1,4 +1,5 @@
 -- How a change with new bytes is answered, from what its parts did.
+-- serves: make_ready (full, ok, only), with_new_copy, NewBytesLemmas
 use Rattle.std.proofs.Common.{◌≡◌, ◌≢◌, ◌⊎◌, ℕ, ◌+◌, ◌<◌, ◌≤◌, Bool, false, List, [], length, Result, Ok, Err, All, AllPairs, refl, sym, ◌∙◌, ap, subst, arith, inl, inr}
 use Rattle.std.specs.Prelude.{IsErrOf, OnErr, OnOk, ◌↔◌, is_some}
 use Rattle.std.specs.Option.{ForSome}

@@ -1,4 +1,5 @@
 -- New bytes are those of a new version, or of a file whose bytes are only on tape: what is known of either.
+-- serves: with_new_copy
 use Rattle.std.proofs.Common.{◌≡◌, ◌≢◌, ℕ, ◌+◌, ◌<◌, ◌≤◌, Bool, true, false, List, [], ◌∷◌, length, Option, Some, None, Result, Ok, Err, All, AllPairs, refl, sym, ◌∙◌, ap, subst, arith}
 use Rattle.std.specs.Prelude.{IfSome, OnErr, OnOk, is_some}
 use Rattle.std.specs.Option.{ForSome}

@@ -1,4 +1,5 @@
 -- One more user whose directory has changed.
+-- serves: EraseLemmas, FileLemmas, PutLemmas, PutStepLemmas, UserLemmas
 use Rattle.std.proofs.Common.{◌≡◌, ◌⊎◌, ℕ, ◌<◌, ◌≤◌, true, List, [], Option, Some, None, refl, arith, inl, inr, if◌then◌else◌}
 use Rattle.std.specs.Prelude.{All, is_some}
 use Rattle.std.proofs.lemmas.List.Elements.{All-append, All-cons, All-filter, All-weaker}

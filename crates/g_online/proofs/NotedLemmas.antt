@@ -1,5 +1,6 @@
 -- The commit that notes the copies of a dump, when nothing is pinned any more: what it leaves, for any list of users who
 -- count as changed afterwards.
+-- serves: adopt_ready, close_dump, AdoptedLemmas, CloseLemmas
 use Rattle.std.proofs.Common.{◌≡◌, ◌⊎◌, ℕ, ◌+◌, ◌<◌, Bool, true, false, List, [], length, Option, None, Result, Ok, Err, refl, sym, ◌∙◌, ap, subst, arith, inl, inr}
 use Rattle.std.specs.Prelude.{is_some, OnErr, OnOk}
 use Rattle.std.specs.Option.{ForSome}

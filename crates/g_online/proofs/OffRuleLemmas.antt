@@ -1,4 +1,5 @@
 -- Files that are taken off the disc, or brought back, leave the records unchanged, so the rules of a directory hold.
+-- serves: crates above
 use Rattle.std.proofs.Common.{◌≡◌, ◌≢◌, ℕ, Bool, true, false, List, [], ◌∷◌, get_or, map, None, is_some, refl, sym, subst, inr, if◌then◌else◌}
 use Rattle.std.specs.Prelude.{All}
 use Rattle.std.proofs.lemmas.List.Elements.{All-map}

@@ -1,4 +1,5 @@
 -- The versions that wait are pinned.
+-- serves: pin (ok, tied)
 use Rattle.std.proofs.Common.{◌≡◌, ◌≢◌, ◌⊎◌, ℕ, zero, suc, ◌+◌, ◌<◌, ◌==◌, ◌||◌, Bool, true, false, not, List, [], ◌∷◌, ◌++◌, length, get_or, filter, map, take, Option, Some, None, All, AllPairs, refl, sym, ◌∙◌, ap, subst, arith, inl, inr, cond}
 use Rattle.std.specs.Prelude.{Contains, IfSome, is_some, slice_index_or}
 use Rattle.std.specs.List.{flat_map}

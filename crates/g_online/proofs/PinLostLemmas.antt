@@ -1,4 +1,5 @@
 -- The blocks of pinned versions that no file has any more are free again when the pins are removed.
+-- serves: unpin (free, tied), AdoptedLemmas, CloseLemmas
 use Rattle.std.proofs.Common.{◌≡◌, ◌≢◌, ℕ, ◌==◌, ◌||◌, Bool, true, false, not, List, [], ◌∷◌, ◌++◌, length, filter, Option, Some, None, All, AllPairs, refl, sym, ◌∙◌, ap, subst, arith, cond, if◌then◌else◌}
 use Rattle.std.specs.List.{flat_map}
 use Rattle.std.proofs.lemmas.List.{append-nil}

@@ -1,4 +1,5 @@
 -- The blocks of files and of pinned versions, when a file is added or removed.
+-- serves: BringStepLemmas, EraseLemmas, PutLemmas, PutStepLemmas
 use Rattle.std.proofs.Common.{◌≡◌, ◌≢◌, ℕ, zero, suc, ◌+◌, ◌<◌, ◌≤◌, ◌==◌, Bool, true, false, List, [], ◌∷◌, ◌++◌, filter, not, Option, Some, None, All, AllPairs, refl, sym, ◌∙◌, ap, inl, inr, arith, if◌then◌else◌, cond, ◌||◌, get_or}
 use Rattle.std.specs.Prelude.{Contains, nat_lt, sum_by, IfSome}
 use Rattle.std.specs.List.{flat_map}

@@ -1,4 +1,5 @@
 -- Blocks of a pool are given back or taken, item by item of a list.
+-- serves: free_orphaned_pins, give_all, make_ready (same), retake_all, OffLemmas
 use Rattle.std.proofs.Common.{◌≡◌, ◌≢◌, ℕ, ◌+◌, ◌-◌, ◌<◌, ◌≤◌, Bool, true, false, List, [], ◌∷◌, ◌++◌, length, get_or, take, drop, Some, All, AllPairs, refl, sym, ◌∙◌, ap, subst, arith, length-append, take-append-drop, slice_get, ⊎_elim}
 use Rattle.std.specs.Prelude.{Contains}
 use Rattle.std.specs.List.{flat_map}

@@ -1,4 +1,5 @@
 -- A version that is inserted: its copy among the copies, and its blocks among those that are used.
+-- serves: BringStepLemmas, PutStepLemmas
 use Rattle.std.proofs.Common.{◌≡◌, ◌≢◌, ℕ, zero, suc, ◌+◌, ◌<◌, ◌==◌, Bool, true, false, List, [], ◌∷◌, ◌++◌, length, map, filter, find, Option, Some, None, All, AllPairs, refl, sym, ◌∙◌, ap, inl, inr, arith, subst, if◌then◌else◌, is_some}
 use Rattle.std.specs.Prelude.{Contains, IfSome, nat_lt, ◌⊎◌}
 use Rattle.std.specs.Option.{ForSome}

@@ -1,4 +1,5 @@
 -- What a change of records brings about in memory is ready to be written.
+-- serves: with_new_copy, AdoptLemmas, AdoptedLemmas, BringStepLemmas, BytesLemmas, CloseLemmas, CloseMarkLemmas, EraseLemmas, FileLemmas, and 8 more
 use Rattle.std.proofs.Common.{◌≡◌, ◌≢◌, ℕ, Bool, true, List, ◌++◌, length, get_or, sym, ◌∙◌, ap, subst, arith, length-append}
 use Rattle.std.specs.Prelude.{All, AllPairs, is_some}
 use Rattle.std.proofs.Math.ListN.{get_or-append}

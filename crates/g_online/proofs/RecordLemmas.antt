@@ -1,4 +1,5 @@
 -- The changes of the head and of users are ready to be written.
+-- serves: set_intent, set_user, tree (files), unjam_first (off), with_new_copy, AdoptLemmas, AdoptedLemmas, BringStepLemmas, CloseLemmas, and 8 more
 use Rattle.std.proofs.Common.{◌≡◌, ℕ, ◌+◌, ◌<◌, Bool, true, false, List, [], ◌∷◌, length, map, Option, Some, None, refl, sym, ◌∙◌, ap, subst, if◌then◌else◌}
 use Rattle.std.specs.Prelude.{All, is_some, slice_set}
 use Rattle.std.proofs.Math.ListN.{set}

@@ -1,4 +1,5 @@
 -- What is read at places that weren't written.
+-- serves: BegunLemmas, BesideLemmas, BringStepLemmas, BytesLemmas, PinLemmas, PutStepLemmas, ReadyLemmas, StepLemmas, UnjamLemmas
 use Rattle.std.proofs.Common.{◌≡◌, ℕ, true, ◌+◌, ◌-◌, ◌≤◌, List, [], ◌∷◌, ◌++◌, map, take, Option, Some, None, refl, sym, ◌∙◌, ap, arith}
 use Rattle.std.specs.Prelude.{All, Contains, slice_index_or}
 use Rattle.std.specs.List.{flat_map}

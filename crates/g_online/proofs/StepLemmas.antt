@@ -1,4 +1,5 @@
 -- A change that is one commit: what is known before it, and what it leaves.
+-- serves: add_user, adopt, adopt_ready, close_dump, erase_file, set_file, set_intent, set_user, unload, with_new_copy, AdoptLemmas, AdoptedLemmas, and 14 more
 use Rattle.std.proofs.Common.{◌≡◌, ℕ, ◌+◌, Bool, true, false, List, [], Option, Some, None, Result, Ok, Err, refl, sym, ◌∙◌, ap, subst, arith, inl, inr, if◌then◌else◌}
 use Rattle.std.specs.Prelude.{is_some, length, ◌<◌, ◌⊎◌, ◌↔◌, ◌≢◌, IsErrOf, OnErr, OnOk}
 use Rattle.std.specs.Option.{ForSome}

@@ -1,4 +1,5 @@
 -- What callers know of a filestore, from what ties its memory to the disc.
+-- serves: arm (tied), bytes (tied), file_block (tied), is_online, pin (tied), pinned_block (tied), unpin (tied), AdoptedLemmas, BegunLemmas, and 11 more
 use Rattle.std.proofs.Common.{◌≡◌, ℕ, List, [], length, map, Option, Some, None, refl, sym, ◌∙◌, subst, arith, option_map}
 use Rattle.std.specs.Prelude.{All, IfSome, is_some, slice_index_or}
 use Rattle.std.specs.Option.{ForSome}

@@ -1,4 +1,5 @@
 -- Files are taken off the disc by a commit of their own, before new bytes are written.
+-- serves: forget_all, unjam_first (off), BringStepLemmas, NeedLemmas, NewBytesLemmas, PutStepLemmas, WrittenLemmas
 use Rattle.std.proofs.Common.{◌≡◌, ◌⊎◌, ℕ, ◌+◌, ◌-◌, ◌<◌, ◌≤◌, Bool, true, false, List, [], ◌∷◌, ◌++◌, length, get_or, map, Option, None, Result, Ok, Err, All, AllPairs, refl, sym, ◌∙◌, ap, subst, arith, inl, inr, length-append, not}
 use Rattle.std.specs.Prelude.{OnErr, OnOk, is_some}
 use Rattle.std.specs.Option.{ForSome}

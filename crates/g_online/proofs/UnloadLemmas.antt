@@ -1,4 +1,5 @@
 -- Files that were taken off the disc are ready to be written.
+-- serves: unload, CloseLemmas, NeedLemmas, UnjamLemmas
 use Rattle.std.proofs.Common.{◌≡◌, ◌≢◌, ◌⊎◌, ℕ, zero, suc, ◌+◌, ◌-◌, ◌<◌, ◌==◌, ◌||◌, Bool, true, false, not, List, [], ◌∷◌, ◌++◌, length, get_or, map, filter, Option, Some, None, All, AllPairs, refl, sym, ◌∙◌, ap, subst, arith, inl, inr, slice_get, if◌then◌else◌}
 use Rattle.std.specs.Prelude.{Contains, is_some, sum_by}
 use Rattle.std.specs.List.{flat_map}

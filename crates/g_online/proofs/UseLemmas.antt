@@ -1,4 +1,5 @@
 -- Lists of blocks in use, each once and in any order; and the pool in which exactly these are taken.
+-- serves: EraseLemmas, OffLemmas, PinLostLemmas, PlaceLemmas, PoolLemmas, PutLemmas, PutStepLemmas, UnjamLemmas, UnloadLemmas, crates above
 use Rattle.std.proofs.Common.{◌≡◌, ◌≢◌, ℕ, zero, suc, ◌+◌, ◌-◌, ◌≤◌, ◌==◌, Bool, true, false, List, [], ◌∷◌, ◌++◌, length, Some, All, AllPairs, refl, sym, ◌∙◌, inl, inr, arith, if◌then◌else◌, subst, ⊎_elim, length-append}
 use Rattle.std.specs.Prelude.{Contains, slice_get, sum_by, ◌⊎◌}
 use Rattle.std.proofs.lemmas.Bool.{cases_eq, cond-false, cond-true, eq-eqb, ne_eqb}

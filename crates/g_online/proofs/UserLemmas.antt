@@ -1,4 +1,5 @@
 -- A user more is ready to be written.
+-- serves: add_user, crates above
 use Rattle.std.proofs.Common.{◌≡◌, ◌≢◌, ℕ, zero, suc, ◌+◌, ◌<◌, ◌≤◌, Bool, true, false, List, [], ◌∷◌, ◌++◌, length, Option, Some, refl, sym, ◌∙◌, ap, subst, arith, slice_get, length-append, if◌then◌else◌}
 use Rattle.std.specs.Prelude.{is_some}
 use Rattle.g_disc.specs.Disc.{DiscState}

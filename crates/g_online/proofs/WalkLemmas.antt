@@ -1,4 +1,5 @@
 -- What remains of a list after its first places.
+-- serves: PinPutLemmas, crates above
 use Rattle.std.proofs.Common.{◌≡◌, ℕ, zero, suc, ◌+◌, ◌<◌, ◌≤◌, List, [], ◌∷◌, length, get_or, drop, ◌∙◌, ap, arith}
 
 -- the item is the one at this place, followed by the others

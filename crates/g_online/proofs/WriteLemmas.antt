@@ -1,4 +1,5 @@
 -- What one commit leaves.
+-- serves: commit (ok), StepLemmas
 use Rattle.std.proofs.Common.{◌≡◌, ℕ, Bool, List, Option, sym, ◌∙◌, ap, subst, slice_get}
 use Rattle.std.specs.Option.{ForSome}
 use Rattle.g_base.specs.ToldContent.{Changes}

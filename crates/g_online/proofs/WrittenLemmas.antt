@@ -1,4 +1,5 @@
 -- New bytes are written to blocks that nothing else uses.
+-- serves: BringStepLemmas, NeedLemmas, NewBytesLemmas, PutStepLemmas
 use Rattle.std.proofs.Common.{◌≡◌, ◌≢◌, ℕ, ◌<◌, ◌≤◌, Bool, false, List, [], length, Result, Ok, Err, All, AllPairs, refl, sym, ◌∙◌, ap, subst, arith, inl}
 use Rattle.std.specs.Option.{ForSome}
 use Rattle.g_base.specs.Block.{blocks_for}

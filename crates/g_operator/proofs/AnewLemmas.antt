@@ -1,5 +1,6 @@
 -- Starting over: reels are mounted and devices armed with a new disc as with any other. FORMAT makes of devices for
 -- starting over what it makes of a new disc and the same reels, or leaves them as devices for starting over.
+-- serves: arm_disc (blank), arm_tape (blank), mount (blank), rise_line (anew), stop_disc_line (anew), stop_tape_line (anew), unmount (blank), and 2 more
 use Rattle.std.proofs.Common.{◌≡◌, ◌<◌, ℕ, true, false, Bool, List, [], ◌∷◌, Option, Some, None, map, find, nat_lt, option_map, refl, sym, ◌∙◌, ap, subst, inl, inr}
 use Rattle.std.specs.Prelude.{All, Result, Ok, Err, IfOk, codes, replicate, if◌then◌else◌}
 use Rattle.std.specs.List.{AllByRecursion}

@@ -1,4 +1,5 @@
 -- A LINE THAT CALLS THE STORE, on a system that is up or down.
+-- serves: dump_line, migrate_line, process_line
 use Rattle.std.proofs.Common.{◌≡◌, ℕ, ◌++◌, List, [], Option, Some, refl, sym, subst}
 use Rattle.std.specs.Prelude.{Result, Ok, Err, codes}
 use Rattle.g_name.specs.declared.path.Path.{Path}

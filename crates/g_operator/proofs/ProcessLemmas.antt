@@ -1,4 +1,5 @@
 -- PROCESS on a store that is up: the one line that writes tapes, so that a write that fails in it is the disc's or the rack's.
+-- serves: AskLemmas
 use Rattle.std.proofs.Common.{◌≡◌, ◌⊎◌, ◌≤◌, ◌-◌, ◌^◌, ◌==◌, ℕ, Bool, true, false, not, List, [], ◌∷◌, Option, Some, None, MatchOption, is_some, nat_lt, refl, ◌∙◌, ap, inl, inr}
 use Rattle.std.specs.Prelude.{Result, Ok, Err}
 use Rattle.std.specs.List.{AllZip}

@@ -1,4 +1,5 @@
 -- REELS under a store that is up, and under no store.
+-- serves: mount (aside, steps), unmount (aside, steps)
 use Rattle.std.proofs.Common.{◌≡◌, ℕ, ◌<◌, ◌≤◌, Bool, true, false, List, [], ◌∷◌, Option, Some, None, refl, sym, ◌∙◌, ap, subst}
 use Rattle.std.specs.Prelude.{◌⊎◌, ◌≢◌, All, Contains, IfSome, Result, Ok, Err, if◌then◌else◌, is_none, not}
 use Rattle.std.proofs.lemmas.Option.{none-some, same_Some}

@@ -1,4 +1,5 @@
 -- FORMAT, START and RESTORE on a system that is down: it is brought up, or not made, by the step of its state.
+-- serves: AnewLemmas, WayLemmas
 use Rattle.std.proofs.Common.{◌≡◌, ℕ, ◌<◌, ◌≤◌, ◌++◌, false, List, [], ◌∷◌, Option, Some, None, refl, sym, ◌∙◌, ap, subst, inl, inr}
 use Rattle.std.specs.Prelude.{not, ◌≢◌, Bool, MatchBool, MatchOption, option_map, Result, Ok, Err, codes}
 use Rattle.g_disc.specs.Disc.{Causes, DiscState}

@@ -1,4 +1,5 @@
 -- The lines of terminals: a job is accepted at one, a line is typed there, and it is logged out.
+-- serves: log_out_at (left), login_line, logout_line, seat_job (seated), type_at (typed), type_line
 use Rattle.std.proofs.Common.{◌≡◌, ℕ, ◌+◌, ◌==◌, ◌++◌, All, Bool, true, false, List, [], ◌∷◌, Option, Some, None, append-nil, cond, refl, sym, ◌∙◌, ap, subst, inl, inr, arith}
 use Rattle.std.specs.Prelude.{◌⊎◌, Err, IfOk, Ok, Result, find, if◌then◌else◌, codes}
 use Rattle.std.proofs.lemmas.List.{append_assoc}

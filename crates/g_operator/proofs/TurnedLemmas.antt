@@ -1,4 +1,5 @@
 -- A REEL'S LINE: it was mounted or unmounted, or it was refused.
+-- serves: mount_line (anew, line), unmount_line (anew, line)
 use Rattle.std.proofs.Common.{◌≡◌, ℕ, ◌<◌, ◌≤◌, ◌++◌, List, [], Option, refl, sym, ◌∙◌, ap, subst}
 use Rattle.std.specs.Prelude.{◌≢◌, Result, Ok, Err, codes}
 use Rattle.g_disc.specs.Disc.{DiscState}

@@ -1,4 +1,5 @@
 -- THE THREE LINES THAT BRING A SYSTEM UP, by which it is.
+-- serves: rise_line (line), AnewLemmas
 use Rattle.std.proofs.Common.{◌≡◌, false, ℕ, ◌++◌, List, [], Option, None, refl, sym, subst, inl, inr}
 use Rattle.std.specs.Prelude.{Result, IfOk, codes}
 use Rattle.std.specs.Fmt.{decimal}

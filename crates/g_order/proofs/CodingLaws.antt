@@ -1,4 +1,5 @@
 -- Encoding and decoding are inverse: each order has one word, and each word that has an order has one.
+-- serves: decode (found), encode (read), function_in, crates above
 use Rattle.std.proofs.Common.{◌≡◌, ℕ, ◌*◌, ◌-◌, ◌/◌, ◌<◌, ◌≤◌, ◌%◌, ◌^◌, Bool, true, false, ◌&&◌, ◌||◌, refl, ap, ◌∙◌, ◌⊎◌, inl, inr, arith}
 use Rattle.std.specs.Prelude.{Some, is_some, ◌==◌, nat_lt, nat_le, not, if◌then◌else◌}
 use Rattle.std.proofs.lemmas.Bool.{ltb-true, leb-true, eqb-true, le-leb, lt-ltb, and_from}

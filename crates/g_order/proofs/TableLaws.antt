@@ -1,4 +1,5 @@
 -- Invariants of every function number in the table.
+-- serves: function_at, CodingLaws, crates above
 use Rattle.std.proofs.Common.{◌≡◌, arith, ℕ, ◌-◌, ◌%◌, Bool, true, false, ◌&&◌, ◌||◌, List, [], ◌∷◌, refl, ap, ◌∙◌, inl, inr}
 use Rattle.std.specs.Prelude.{Some, is_some, ◌==◌, nat_lt, not, if◌then◌else◌}
 use Rattle.std.proofs.lemmas.Bool.{eqb-true}

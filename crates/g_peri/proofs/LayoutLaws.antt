@@ -1,4 +1,5 @@
 -- Invariants of the loops of the layout.
+-- serves: put_line, trimmed_len (trimmed)
 use Rattle.std.proofs.Common.{◌≡◌, ℕ, suc, ◌+◌, ◌-◌, ◌/◌, ◌%◌, ◌<◌, ◌≤◌, List, [], ◌∷◌, ◌++◌, length, map, take, get_or, refl, sym, ◌∙◌, ap, arith, false}
 use Rattle.std.specs.Prelude.{slice_index, slice_set, nat_eq}
 use Rattle.std.specs.List.{range_with_len}

@@ -1,4 +1,5 @@
 -- The state after one order; stepping forward and back is the identity.
+-- serves: one_order (illegal)
 use Rattle.std.proofs.Common.{◌≡◌, ℕ, ◌<◌, ◌^◌, Option, Some, None, Result, Ok, Err, refl, ap, subst, arith}
 use Rattle.std.specs.Prelude.{IfOk}
 use Rattle.g_base.specs.declared.memory.NoMemory.{NoMemory}

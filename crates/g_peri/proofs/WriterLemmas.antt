@@ -1,4 +1,5 @@
 -- Two lists appended, by the places of both.
+-- serves: writers
 use Rattle.std.proofs.Common.{◌≡◌, ◌-◌, ◌<◌, ◌≤◌, ◌++◌, ◌∙◌, List, None, Option, ap, arith, get_or, length, set, sym, ℕ}
 use Rattle.std.proofs.lemmas.List.{get_or-append_right, get_or_append_left, get_or_default, set-append_left, set-append_right}
 

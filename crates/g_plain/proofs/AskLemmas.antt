@@ -1,4 +1,5 @@
 -- How runs of programs are composed, and how they carry over from a store to the store that it represents.
+-- serves: runs_go_along, crates above
 use Rattle.std.proofs.Common.{◌≡◌, ℕ, Bool, true, false, List, Err, refl, sym, ap, subst, ◌∙◌, inl, inr, if◌then◌else◌}
 use Rattle.g_plain.specs.declared.calls.StoreCall.{StoreCall}
 use Rattle.g_plain.specs.declared.faults.StoreFault.TheVariants.{NoMemory}

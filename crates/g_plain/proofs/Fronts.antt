@@ -1,4 +1,5 @@
 -- Checks that precede others.
+-- serves: append, closed_to, granted_name, input, input_fault, output, rename, trap_check, trap_go, crates above
 use Rattle.std.proofs.Common.{◌≡◌, Bool, true, false, cond, not, ◌++◌, List, [], ◌∷◌, ℕ, Option, Some, None, Result, Ok, is_some, refl, sym, ap, ◌∙◌, true≢false}
 use Rattle.std.specs.List.{AllByRecursion}
 use Rattle.g_name.specs.declared.full.Full.{Full}

@@ -1,4 +1,5 @@
 -- A program that ran on a store that answers plainly is a program that ran on a plain tree.
+-- serves: runs_are_plain, crates above
 use Rattle.std.proofs.Common.{ℕ, List, refl, sym, subst}
 use Rattle.g_plain.specs.PlainTree.{Tree}
 use Rattle.g_plain.specs.declared.calls.StoreCall.{StoreCall}

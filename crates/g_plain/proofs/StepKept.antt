@@ -1,4 +1,5 @@
 -- The plain step keeps the rules of a tree, its replies are of the call's kind, and its faults are its own.
+-- serves: plain_step_keeps_rules, trap_go, Fronts, StepAnswers, crates above
 use Rattle.std.proofs.Common.{◌≡◌, ◌≢◌, ℕ, ◌<◌, ◌≤◌, ◌+◌, ◌-◌, ◌^◌, ◌==◌, zero, suc, Bool, true, false, cond, not, ◌&&◌, nat_le, nat_lt, List, [], ◌∷◌, ◌++◌, length, length-append, codes, Option, Some, None, IfSome, refl, sym, ap, subst, ◌∙◌, is_some, is_none, unwrap_or, bit_or, bit_and, arith, inl, inr, true≢false, lit≤}
 use Rattle.std.specs.List.{AllByRecursion}
 use Rattle.std.specs.FinMap.{FinMap, get, insert, remove, len, empty, get-empty, len-empty, len-insert, len-remove}

@@ -1,4 +1,5 @@
 -- Each call keeps the rules of a tree.
+-- serves: StepKept
 use Rattle.std.proofs.Common.{◌≡◌, ◌≢◌, ℕ, ◌<◌, ◌≤◌, ◌+◌, ◌^◌, ◌==◌, zero, suc, codes, unwrap_or, true, false, cond, not, ◌&&◌, List, Some, refl, sym, ap, subst, ◌∙◌, is_some, arith, ◌⊎◌, inl, inr, true≢false}
 use Rattle.std.specs.Ordering.{eq_by_cmp}
 use Rattle.std.specs.FinMap.{FinMap, get, insert, remove, len, get-insert}

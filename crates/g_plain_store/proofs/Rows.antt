@@ -1,4 +1,5 @@
 -- Rows that are found, written back and moved to another name.
+-- serves: add_user (ok), give (ok), rename (ok), renew, replace, set_budget, set_traps (err, ok), take (row), take_from
 use Rattle.std.proofs.Common.{◌≡◌, ℕ, Bool, true, false, cond, List, Option, Some, None, IsSome, is_some, unwrap_or, refl, sym, ap, subst, ◌∙◌, Result, Ok, Err, OnOk, OnErr, true≢false}
 use Rattle.std.specs.Map.{lookup}
 use Rattle.std.specs.Ordering.{eq_by_cmp, is_eq}

@@ -1,4 +1,5 @@
 -- The result of both passes is what the source is assembled to.
+-- serves: assemble (answer), fill, finished, place_line
 use Rattle.std.proofs.Common.{◌≡◌, ◌≤◌, ◌<◌, ◌+◌, ◌∙◌, ℕ, List, [], ◌∷◌, Option, Some, None, Bool, false, Result, Ok, Err, ap, get_or, length, map, refl, subst, sym}
 use Rattle.std.specs.Prelude.{unwrap_or}
 use Rattle.std.specs.List.{slice_get}

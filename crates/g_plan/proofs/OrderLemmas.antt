@@ -1,4 +1,5 @@
 -- All parts of the forms read are in range, and each order is one of the table.
+-- serves: order_for, FinishLemmas, RoundLemmas
 use Rattle.std.proofs.Common.{◌≡◌, ◌≢◌, ◌≤◌, ◌<◌, ◌+◌, ◌-◌, ◌^◌, ◌∙◌, ◌⊎◌, inl, inr, ℕ, suc, zero, List, [], ◌∷◌, ◌++◌, Bool, true, false, not, Option, Some, None, ap, arith, is_some, IsTrue, refl, subst, sym}
 use Rattle.std.specs.Prelude.{◌&&◌, ◌==◌, nat_le, nat_lt}
 use Rattle.std.specs.List.{list_all, range_with_len, slice_get}

@@ -1,4 +1,5 @@
 -- An image that is filled word by word represents its cells.
+-- serves: put, put_chars, RoundLemmas
 use Rattle.std.proofs.Common.{◌≡◌, ◌≢◌, ◌≤◌, ◌<◌, ◌+◌, ◌^◌, ◌∙◌, ◌⊎◌, inl, inr, ℕ, suc, zero, List, [], ◌∷◌, ◌++◌, Bool, true, false, not, Option, Some, None, ap, append_assoc, arith, drop, get_or, is_some, length, length-drop, max, min, refl, subst, sym}
 use Rattle.std.specs.Prelude.{◌&&◌, ◌||◌, ◌==◌, if◌then◌else◌, nat_lt, set, unwrap_or}
 use Rattle.std.specs.List.{AllByRecursion, enumerate_from, find, list_all, list_any}

@@ -1,4 +1,5 @@
 -- THE ROUND TRIP: the file of a good source is loaded, and its orders are read.
+-- serves: FinishLemmas
 use Rattle.std.proofs.Common.{◌≡◌, ◌≢◌, ◌≤◌, ◌<◌, ◌+◌, ◌-◌, ◌^◌, ◌∙◌, ℕ, suc, zero, List, [], ◌∷◌, ◌++◌, Bool, true, false, not, Option, Some, None, Result, Ok, Err, ap, append_assoc, arith, drop, fold, get_or, is_some, length, length-append, map, max, min, refl, replicate, subst, sym, take}
 use Rattle.std.specs.Prelude.{◌&&◌, ◌==◌, if◌then◌else◌, nat_le, nat_lt, unwrap_or}
 use Rattle.std.specs.List.{AllByRecursion, enumerate_from, find, flat_map, list_all, list_any, prefix_len, range_with_len, slice_get}

@@ -1,4 +1,5 @@
 -- The first pass: a source's lines in order, and the index of their labels and their size.
+-- serves: note_label, read_source, with, FinishLemmas
 use Rattle.std.proofs.Common.{◌≡◌, ◌∙◌, ℕ, List, [], ◌∷◌, ◌++◌, Bool, true, false, Option, Some, None, ap, append_assoc, is_some, refl, sym}
 use Rattle.std.specs.Prelude.{◌&&◌, if◌then◌else◌}
 use Rattle.std.specs.BTreeMap.{is_at}

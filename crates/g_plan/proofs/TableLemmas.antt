@@ -1,4 +1,5 @@
 -- Each name of the table is that of an order whose word has room for its address.
+-- serves: LineLemmas, OrderLemmas
 use Rattle.std.proofs.Common.{◌≡◌, ℕ, ◌+◌, List, [], ◌∷◌, Bool, true, not, Option, Some, None, refl}
 use Rattle.std.specs.Prelude.{◌&&◌, ◌==◌, is_some, nat_lt, if◌then◌else◌}
 use Rattle.std.specs.List.{list_all}

@@ -1,4 +1,5 @@
 -- Words of texts, and the part before a byte.
+-- serves: before (short, value), label, next_word, put_chars, without_back, FormLemmas, LineLemmas
 use Rattle.std.proofs.Common.{◌≡◌, ◌≢◌, ◌≤◌, ◌∙◌, ℕ, List, [], ◌∷◌, ◌++◌, All, Bool, IfSome, IsSome, Option, Some, None, true, false, ap, arith, drop, length, length-append, refl, sym}
 use Rattle.std.specs.Prelude.{◌&&◌, ◌==◌, filter, nat_le}
 use Rattle.std.specs.List.{AllByRecursion, list_all, slice_split}

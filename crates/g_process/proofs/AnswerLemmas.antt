@@ -1,4 +1,5 @@
 -- How PROCESS is answered, if something was written.
+-- serves: process
 use Rattle.std.proofs.Common.{◌≡◌, ◌≢◌, ℕ, zero, suc, ◌+◌, ◌-◌, ◌<◌, ◌≤◌, Bool, true, false, List, [], ◌∷◌, get_or, length, map, take, Option, Some, None, Ok, Err, refl, sym, ◌∙◌, ap, arith, subst, inl, inr, slice_get}
 use Rattle.std.specs.Prelude.{All, Contains, Result, is_some, nat_lt, not, ◌&&◌, ◌⊎◌}
 use Rattle.std.specs.List.{AllZip}

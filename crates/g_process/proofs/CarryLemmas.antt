@@ -1,4 +1,5 @@
 -- What is done with a job, from what each of its steps says.
+-- serves: carry_out (carried, tied)
 use Rattle.std.proofs.Common.{◌≡◌, ℕ, ◌+◌, ◌<◌, true, List, [], map, Option, Some, None, Ok, Err, refl, sym, ◌∙◌, ap, arith, subst, inl, inr, if◌then◌else◌}
 use Rattle.std.specs.Prelude.{◌⊎◌, All, Contains, Result, is_some}
 use Rattle.g_base.specs.Counts.{RoseBy}

@@ -1,4 +1,5 @@
 -- What became of the reels and of the disc, if something was written.
+-- serves: AnswerLemmas, EndLemmas, ExitLemmas
 use Rattle.std.proofs.Common.{◌≡◌, ◌≢◌, ℕ, zero, suc, ◌+◌, ◌<◌, ◌==◌, Bool, true, false, List, [], ◌∷◌, ◌++◌, length, map, take, Option, Some, None, refl, sym, ◌∙◌, ap, arith, subst, inl, inr, slice_get, option_map, if◌then◌else◌, eq-eqb}
 use Rattle.std.specs.Prelude.{◌⊎◌, ◌&&◌, ◌||◌, All, Contains, filter, nat_lt, not}
 use Rattle.std.specs.List.{AllZip}

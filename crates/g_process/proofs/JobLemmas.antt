@@ -1,4 +1,5 @@
 -- How the planning is answered, from the catalogue and from what is in memory.
+-- serves: first_lost (some), is_there (no, yes), lost, planned, BelongLemmas, PrepareLemmas
 use Rattle.std.proofs.Common.{◌≡◌, ◌≢◌, ℕ, zero, suc, ◌+◌, ◌<◌, ◌≤◌, Bool, true, false, List, [], ◌∷◌, get_or, length, map, take, Option, Some, None, refl, sym, ◌∙◌, ap, arith, subst, inl, inr, slice_get, option_map}
 use Rattle.std.specs.Prelude.{◌⊎◌, ◌↔◌, All, AllPairs, Contains, IsTrue, IsFalse, is_some}
 use Rattle.std.specs.Option.{ForSome}

@@ -1,4 +1,5 @@
 -- What the catalogue shows of a reel and of the files.
+-- serves: AnswerLemmas, JobLemmas, PrepareLemmas
 use Rattle.std.proofs.Common.{◌≡◌, ℕ, zero, suc, ◌==◌, true, false, List, [], ◌∷◌, map, Some, refl, sym, ◌∙◌, arith, subst, inl, inr}
 use Rattle.std.specs.Prelude.{◌⊎◌, All, Contains}
 use Rattle.std.proofs.lemmas.Bool.{cond-false, cond-true}

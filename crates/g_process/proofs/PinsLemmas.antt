@@ -1,4 +1,5 @@
 -- The versions of the dump as if they had been pinned: their blocks are those of its content, and have the texts of the versions.
+-- serves: BelongLemmas, crates above
 use Rattle.std.proofs.Common.{◌≡◌, ℕ, zero, suc, ◌+◌, ◌<◌, ◌==◌, true, false, List, [], ◌∷◌, drop, length, map, take, Option, Some, refl, sym, ◌∙◌, ap, arith, subst, inl, inr, slice_get, get_or}
 use Rattle.std.specs.Prelude.{◌⊎◌, All, Contains}
 use Rattle.std.proofs.lemmas.Bool.{cases_Bool, cond-false, cond-true, eq-eqb}

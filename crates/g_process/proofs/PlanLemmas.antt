@@ -1,5 +1,6 @@
 -- The plan of a process satisfies the rules of a plan, its versions are those that aren't empty, and their copies satisfy
 -- the rules of a directory.
+-- serves: copies_from, made_ready, writer_of, AnswerLemmas, BelongLemmas, ExitLemmas, JobLemmas, PrepareLemmas, crates above
 use Rattle.std.proofs.Common.{◌≡◌, ◌≢◌, ℕ, zero, suc, ◌+◌, ◌-◌, ◌^◌, ◌<◌, ◌≤◌, ◌==◌, Bool, true, false, List, [], ◌∷◌, ◌++◌, get_or, length, map, take, Option, Some, None, refl, sym, ◌∙◌, ap, arith, subst, inl, inr, slice_get}
 use Rattle.std.specs.Prelude.{◌⊎◌, ◌&&◌, All, AllPairs, Contains, IfOk, Result, Ok, Err, filter, is_some, nat_lt, slice_index}
 use Rattle.std.specs.List.Sorted.{IsStrictlyIncreasing}

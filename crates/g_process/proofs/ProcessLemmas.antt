@@ -1,4 +1,5 @@
 -- How PROCESS is answered, from what was prepared and from what was done.
+-- serves: AnswerLemmas
 use Rattle.std.proofs.Common.{◌≡◌, ℕ, ◌-◌, ◌^◌, ◌<◌, ◌==◌, Bool, true, false, List, [], ◌∷◌, map, Option, Some, None, Err, refl, sym, ◌∙◌, ap, arith, subst, inl, inr, option_map, if◌then◌else◌}
 use Rattle.std.specs.Prelude.{All, Result, find, is_none, is_some, not}
 use Rattle.std.specs.Option.{ForSome}

@@ -1,4 +1,5 @@
 -- A block of a version: where it is read, and what is known of it.
+-- serves: fill (fills), read_source (read), release (cut), write_block (writes)
 use Rattle.std.proofs.Common.{◌≡◌, ◌≢◌, ℕ, zero, suc, ◌+◌, ◌<◌, ◌≤◌, ◌^◌, Bool, true, false, List, [], ◌∷◌, get_or, map, option_map, Option, Some, None, Ok, Err, refl, sym, ◌∙◌, ap, arith, subst, inr, slice_get, if◌then◌else◌}
 use Rattle.std.specs.Prelude.{Contains, Result, nat_lt}
 use Rattle.std.specs.Option.{ForSome}

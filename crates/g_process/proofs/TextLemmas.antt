@@ -1,4 +1,5 @@
 -- The blocks that were read have the texts of the versions, where disc and rack belong together.
+-- serves: ExitLemmas, crates above
 use Rattle.std.proofs.Common.{◌≡◌, ℕ, zero, suc, ◌+◌, ◌-◌, ◌<◌, Bool, true, false, List, [], ◌∷◌, drop, length, map, Option, Some, None, refl, sym, ◌∙◌, ap, arith, subst, slice_get, get_or}
 use Rattle.std.specs.Prelude.{All, Contains, IfSome, is_some}
 use Rattle.std.specs.Option.{ForSome, option_map}

@@ -1,4 +1,5 @@
 -- A run by rules that answer as others may is a run by those: a run asks them, and looks at nothing else of them.
+-- serves: run_by_rules (anew, demo, ends)
 use Rattle.std.proofs.Common.{◌≡◌, ℕ, List, [], ◌∷◌, Option, Some, None, inl, inr}
 use Rattle.std.specs.Fn.{Shared, FnReturnsAt}
 use denote.Ref.{Bor}

@@ -1,4 +1,5 @@
 -- The answers of a restore, from the answers about the directory that was built.
+-- serves: rebuild (belongs, belongs_refused, found, kept, lost, none, ok, only, rose, stopped, unmounted, unread)
 use Rattle.std.proofs.Common.{◌≡◌, ◌≢◌, ◌⊎◌, ◌↔◌, ℕ, List, Option, Some, Result, Ok, Err, refl, sym, subst, inr}
 use Rattle.std.specs.Prelude.{IfErr, IfOk, is_some}
 use Rattle.g_base.specs.ToldContent.{Changes}

@@ -1,4 +1,5 @@
 -- A restore preserves the belonging of disc and rack.
+-- serves: rebuild (belongs_refused), AnswerLemmas
 use Rattle.std.proofs.Common.{◌≡◌, ◌⊎◌, ℕ, true, List, Option, Some, None, refl, sym, ◌∙◌, ap, subst, inl, inr}
 use Rattle.std.proofs.lemmas.Option.{same_Some}
 use Rattle.g_base.specs.ToldContent.{Changes}

@@ -1,4 +1,5 @@
 -- The directory that the dumps of a rack give, and why there is none.
+-- serves: dumped_directory (kept, lost, none, ok, only, rose, unmounted), AnswerLemmas, RebuildLemmas
 use Rattle.std.proofs.Common.{◌≡◌, ◌⊎◌, ◌↔◌, ℕ, List, [], Option, Some, None, Result, Ok, Err, refl, sym, ◌∙◌, ap, subst, inl, inr, map, All}
 use Rattle.std.specs.Prelude.{IfErr, IfOk}
 use Rattle.g_base.specs.Counts.{Rose}

@@ -1,4 +1,5 @@
 -- The directory that dumps give together, and what a restore names where they give none.
+-- serves: fold (lost, ok), DirectoryLemmas
 use Rattle.std.proofs.Common.{◌≡◌, ◌≢◌, ◌⊎◌, inl, inr, ℕ, ◌+◌, ◌<◌, true, List, length, get_or, take, None, Err, refl, sym, ◌∙◌, ap, arith, subst, All}
 use Rattle.std.specs.Prelude.{is_some}
 use Rattle.std.proofs.lemmas.List.Elements.{All-contains, All-weaker}

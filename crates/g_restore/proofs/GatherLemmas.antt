@@ -1,4 +1,5 @@
 -- The directories of users, gathered one after another.
+-- serves: add_directory (none, some), gather_at_once (put), gather_by_user (bad, ok), take_user (bad), NeverLemmas, crates above
 use Rattle.std.proofs.Common.{◌≡◌, ℕ, ◌+◌, ◌<◌, ◌≤◌, Bool, false, List, [], ◌∷◌, ◌++◌, length, get_or, take, Result, Some, Ok, Err, ◌↔◌, refl, sym, ◌∙◌, ap, arith, subst, below_more}
 use Rattle.std.specs.Prelude.{IfOk, IsTrue}
 use Rattle.std.proofs.lemmas.Bool.{false≢true}

@@ -1,4 +1,5 @@
 -- What is in memory and the dumps that it is known of.
+-- serves: fold (none), DirectoryLemmas, FoldLemmas, GatherLemmas, PlaceLemmas, crates above
 use Rattle.std.proofs.Common.{◌≡◌, ℕ, zero, suc, ◌<◌, ◌≤◌, Bool, true, List, [], ◌∷◌, length, get_or, Option, Some, None, refl, sym, ◌∙◌, ap, arith, map, All}
 use Rattle.std.specs.Prelude.{Contains}
 use Rattle.std.proofs.lemmas.List.{get_or-map, get_or_default, length-map}

@@ -1,4 +1,5 @@
 -- The directory put on a disc, and what is answered.
+-- serves: make, rebuild (causes, lost, none, rose), AnswerLemmas
 use Rattle.std.proofs.Common.{◌≡◌, ◌≢◌, ◌⊎◌, ℕ, Bool, true, false, List, [], ◌∷◌, Option, Some, None, Result, Ok, Err, refl, sym, ◌∙◌, ap, subst, inl, inr, map}
 use Rattle.std.specs.Prelude.{◌==◌, IfErr, is_some, if◌then◌else◌}
 use Rattle.std.specs.Option.{option_map}

@@ -1,4 +1,5 @@
 -- What was read of one reel, and of the reels so far.
+-- serves: dumps_of_reels, read_rack (found), BelongLemmas, DirectoryLemmas, crates above
 use Rattle.std.proofs.Common.{◌≡◌, ℕ, ◌+◌, ◌<◌, ◌≤◌, true, List, [], ◌∷◌, ◌++◌, length, take, Some, refl, sym, ◌∙◌, ap, arith, slice_get, subst, map, All}
 use Rattle.std.specs.Prelude.{is_some}
 use Rattle.std.proofs.lemmas.List.{append-nil, append_assoc, map-append, take_all}

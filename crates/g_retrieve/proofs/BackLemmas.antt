@@ -1,4 +1,5 @@
 -- How bringing a file back is answered: by what was read, and by what was written.
+-- serves: bring_back, file_of (value), lost, put_back, crates above
 use Rattle.std.proofs.Common.{◌≡◌, ◌≢◌, ℕ, ◌<◌, ◌≤◌, true, false, List, length, Option, Some, None, Result, Ok, Err, refl, sym, ◌∙◌, ap, arith, subst, inl, inr, true≢false}
 use Rattle.std.specs.Prelude.{◌⊎◌, ◌↔◌, Contains, IfErr, IfOk}
 use Rattle.std.specs.Option.{option_map}

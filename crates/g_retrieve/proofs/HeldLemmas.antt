@@ -1,4 +1,5 @@
 -- What the bytes of a copy are where disc and rack belong together, and that it isn't lost then.
+-- serves: BackLemmas, KeepsLemmas, crates above
 use Rattle.std.proofs.Common.{◌≡◌, ℕ, ◌-◌, ◌==◌, true, false, List, [], ◌∷◌, length, Option, Some, None, is_some, refl, sym, ◌∙◌, ap, subst, inl, inr}
 use Rattle.std.specs.Prelude.{◌⊎◌, Contains, IfSome}
 use Rattle.std.proofs.lemmas.Bool.{cases_Bool, cond-false, cond-true, eqb-true}

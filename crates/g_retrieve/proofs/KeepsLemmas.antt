@@ -1,4 +1,5 @@
 -- A store preserves its invariant when its rack is read and a file is brought back.
+-- serves: BackLemmas, crates above
 use Rattle.std.proofs.Common.{◌≡◌, ℕ, ◌<◌, Bool, true, false, List, [], ◌∷◌, map, get_or, Option, Some, None, is_some, refl, sym, ◌∙◌, ap, subst, arith, inl, inr, if◌then◌else◌}
 use Rattle.std.specs.Prelude.{◌⊎◌, ◌||◌, All, IfSome, length, not, option_map}
 use Rattle.std.specs.Option.{ForSome}

@@ -1,4 +1,5 @@
 -- The least of the standings that the pass has visited.
+-- serves: choose (chosen), crates above
 use Rattle.std.proofs.Common.{◌≡◌, ℕ, ◌+◌, ◌<◌, ◌≤◌, ◌⊎◌, List, Option, Some, None, length, MatchOption, IfSome, slice_get, inl, inr, sym, subst, ap, arith}
 use Rattle.std.proofs.lemmas.Option.{slice_get_within}
 use Rattle.std.specs.Fn.{Shared, FnReturnsAt}

@@ -1,4 +1,5 @@
 -- The text of a demonstration, and its summary put.
+-- serves: demo_run, run_demo (put)
 use Rattle.std.proofs.Common.{◌≡◌, ℕ, List, [], ◌∷◌, Option, Some, None, refl, ap, subst, inr}
 use Rattle.std.specs.Fn.{Shared}
 use denote.Ref.{Bor}

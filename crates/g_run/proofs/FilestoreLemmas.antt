@@ -1,4 +1,5 @@
 -- A disc that holds a filestore holds one behind the run, whatever cut it short.
+-- serves: george (stands)
 use Rattle.std.proofs.Common.{◌≡◌, ℕ, false, List, Option, Some, None, ap}
 use Rattle.std.specs.Fn.{Shared}
 use denote.Ref.{Bor}

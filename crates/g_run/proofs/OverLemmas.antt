@@ -1,4 +1,5 @@
 -- The end of a run, behind all its lines, and both devices behind it.
+-- serves: run_boxed, run_script, taken_down
 use Rattle.std.proofs.Common.{◌≡◌, ◌⊎◌, ◌+◌, ◌++◌, ℕ, true, false, List, [], ◌∷◌, Option, Some, None, is_some, append_assoc, append-nil, refl, sym, ◌∙◌, ap, subst, inl, inr, arith}
 use Rattle.std.specs.Fn.{Shared}
 use denote.Ref.{Bor}

@@ -1,4 +1,5 @@
 -- A run that was ended, whole or cut short, as its status tells.
+-- serves: george (anew, arms, demo, ends, enough, quiet, words), top
 use Rattle.std.proofs.Common.{◌≡◌, ◌⊎◌, ◌<◌, ◌∙◌, ℕ, List, Option, Some, None, length, refl, sym, ap, subst, inl, inr, arith}
 use Rattle.std.specs.Fn.{Shared}
 use denote.Ref.{Bor}

@@ -1,4 +1,5 @@
 -- States without the first blocks of copies on tape: no answer depends on these blocks.
+-- serves: AlikeLemmas, OneTextLemmas, OpenAlikeLemmas, ProcessAlikeLemmas, WorldAlikeLemmas
 use Rattle.std.proofs.Common.{◌≡◌, ◌⊎◌, ◌+◌, ◌-◌, ◌<◌, ◌≤◌, ◌&&◌, ◌||◌, ℕ, Bool, true, false, not, List, [], ◌∷◌, sum_by, Option, Some, None, option_map, is_some, is_none, unwrap_or, Result, Ok, Err, MatchOption, nat_lt, if◌then◌else◌, refl, sym, ◌∙◌, ap, subst, inl, inr}
 use Rattle.std.specs.Ordering.{nat_cmp}
 use Rattle.std.specs.FinMap.{FinMap, entries, get, insert, remove}

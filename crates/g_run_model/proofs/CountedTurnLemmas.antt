@@ -1,5 +1,6 @@
 -- A turn's program that was run on a store is a list of moves of the world, with as many failures as the devices counted;
 -- and so is a prefix of it, if memory ran out.
+-- serves: StoreTurnLemmas, crates above
 use Rattle.std.proofs.Common.{◌≡◌, ℕ, false, List, [], ◌∷◌, ◌++◌, map, Option, Some, None, slice_get, Err, refl, sym, ap, subst, inl, inr}
 use Rattle.std.specs.Fn.{Shared}
 use denote.Ref.{Bor}

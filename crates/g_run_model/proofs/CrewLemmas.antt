@@ -1,5 +1,6 @@
 -- Lists of jobs: each has a number of its own, new ones are added after the others, and the others remain when one is
 -- removed.
+-- serves: EndsLemmas, OneTextLemmas, PieceLemmas, PricedLemmas, PutLemmas, ReadLemmas, ShareLemmas, TakenLemmas, crates above
 use Rattle.std.proofs.Common.{◌≡◌, ◌<◌, ◌≤◌, ◌+◌, ◌==◌, ◌⊎◌, ℕ, zero, suc, Bool, true, false, cond, not, List, [], ◌∷◌, ◌++◌, filter, find, Option, Some, None, slice_get, refl, sym, ◌∙◌, ap, subst, inl, inr, if◌then◌else◌, le_trans, eq-eqb, ne_eqb, eqb-true, arith}
 use Rattle.g_job.specs.State.{JobState}
 use Rattle.g_run_model.specs.World.{with_job, without_job}

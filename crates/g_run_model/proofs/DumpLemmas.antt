@@ -1,4 +1,5 @@
 -- Each step of a dump is one of its needs.
+-- serves: dumps_come_to_an_end
 use Rattle.std.proofs.Common.{◌≡◌, ℕ, ◌+◌, ◌<◌, Option, Some, None, sym, ◌∙◌, ap, subst, inl, inr}
 use Rattle.std.specs.Prelude.{◌⊎◌, Result, Ok, Err}
 use Rattle.std.specs.Fn.{Shared}

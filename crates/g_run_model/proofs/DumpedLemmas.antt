@@ -1,4 +1,5 @@
 -- What is dumped, and which dump is open, after each move.
+-- serves: dumped_is_what_a_dump_opened_on
 use Rattle.std.proofs.Common.{◌≡◌, ℕ, List, [], ◌∷◌, ◌++◌, Option, Some, None, refl, sym, ◌∙◌, ap, subst, inl, inr}
 use Rattle.std.specs.Prelude.{◌⊎◌, Bool, true, false, nat_lt, not, ◌||◌, ◌==◌, ◌+◌, ◌-◌, ◌^◌, Result, Ok, Err, option_map, MatchBool, MatchOption, if◌then◌else◌, is_some, codes}
 use Rattle.std.specs.Fmt.{decimal}

@@ -1,5 +1,6 @@
 -- An event whose answer doesn't show its outcome is the event in which no device failed; and an answer that only a device
 -- causes occurs only with its outcome.
+-- serves: AlikeLemmas, OpenAlikeLemmas, StoreLemmas, StoreTurnLemmas, crates above
 use Rattle.std.proofs.Common.{◌≡◌, ◌⊎◌, ◌&&◌, ◌||◌, ◌==◌, ◌+◌, ◌-◌, ◌^◌, ℕ, Bool, true, false, cond, not, List, [], ◌∷◌, ◌++◌, Option, Some, None, Result, Ok, Err, MatchOption, option_map, is_some, is_none, nat_lt, unwrap_or, refl, sym, ◌∙◌, ap, subst, inl, inr}
 use Rattle.std.proofs.lemmas.Bool.{false≢true}
 use Rattle.std.specs.List.{list_all}

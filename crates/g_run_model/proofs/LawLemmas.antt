@@ -1,4 +1,5 @@
 -- Laws of the run.
+-- serves: calls_are_answered_plainly, crates above
 use Rattle.std.proofs.Common.{◌≡◌, ℕ, Option, Some, sym, ◌∙◌, ap, subst}
 use Rattle.std.specs.Fn.{Shared}
 use denote.Ref.{Bor}

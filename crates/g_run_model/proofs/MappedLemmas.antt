@@ -1,4 +1,5 @@
 -- Maps by stamp, whose values are changed each by its stamp.
+-- serves: AlikeLemmas, BareLemmas, OpenAlikeLemmas, ProcessAlikeLemmas
 use Rattle.std.proofs.Common.{◌≡◌, ◌&&◌, ℕ, Bool, true, false, T, cond, List, [], ◌∷◌, map, Option, Some, None, option_map, refl, sym, ◌∙◌, ap, subst, eqb-true}
 use Rattle.std.specs.Cmp.{nat_cmp_total, unsigned_tied}
 use Rattle.std.specs.Ordering.{eq_by_cmp, is_lt, nat_cmp}

@@ -1,5 +1,6 @@
 -- Which reels are mounted after each event: no more than before, except after MOUNT. And a call that waits, waits for a
 -- reel that isn't mounted.
+-- serves: EndsLemmas, ProcessedLemmas, ShortLemmas, TakenLemmas
 use Rattle.std.proofs.Common.{◌≡◌, ◌==◌, ◌⊎◌, ◌&&◌, ℕ, Bool, true, false, not, List, [], ◌∷◌, Option, Some, None, Result, Ok, Err, option_map, is_some, unwrap_or, refl, sym, ◌∙◌, ap, subst, inl, inr, if◌then◌else◌, ◌||◌}
 use Rattle.std.proofs.lemmas.Bool.{false≢true}
 use Rattle.g_plain.proofs.StepAnswers.{own_fault}

@@ -1,4 +1,5 @@
 -- The opening of a dump, in two states that differ only in first blocks of copies: the two dumps differ in nothing else.
+-- serves: ProcessAlikeLemmas, WorldAlikeLemmas
 use Rattle.std.proofs.Common.{◌≡◌, ◌+◌, ◌-◌, ◌^◌, ◌≤◌, ◌&&◌, ◌||◌, ◌==◌, ◌++◌, ℕ, Bool, true, false, T, cond, not, List, [], ◌∷◌, length, map, flat_map, filter, Option, Some, None, option_map, is_some, is_none, unwrap_or, Result, nat_lt, if◌then◌else◌, refl, sym, ◌∙◌, ap, subst, eqb-true, arith}
 use Rattle.std.proofs.lemmas.List.{map-append}
 use Rattle.std.proofs.lemmas.Bool.{false≢true, ltb-true, ltb-false, and_from}

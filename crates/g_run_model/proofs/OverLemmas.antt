@@ -1,4 +1,5 @@
 -- A run that is over has no further move.
+-- serves: lib, OneTextLemmas, crates above
 use Rattle.std.proofs.Common.{◌≡◌, ℕ, zero, suc, List, [], ◌∷◌, Option, Some, None, refl, sym, ◌∙◌, ap, subst, inl, inr}
 use Rattle.std.specs.Prelude.{◌⊎◌, ◌&&◌, not, slice_get, filter, codes, ◌++◌, Bool, true, false, Result, Ok, Err, MatchBool, if◌then◌else◌}
 use Rattle.std.specs.Fn.{Shared}

@@ -1,4 +1,5 @@
 -- The text that a move prints, in pieces, and how they relate to the files of jobs at terminals.
+-- serves: PutLemmas
 use Rattle.std.proofs.Common.{◌≡◌, ◌+◌, ◌==◌, ◌&&◌, ℕ, Bool, true, false, cond, List, [], ◌∷◌, ◌++◌, drop, length, Option, Some, None, IfSome, append_assoc, append-nil, refl, sym, ◌∙◌, ap, subst, inl, inr, if◌then◌else◌, eq-eqb, eqb-true, arith}
 use Rattle.std.specs.List.{AllByRecursion}
 use Rattle.g_turn.specs.State.{Broken, Done, Full, Stop, Waits, Work}

@@ -1,4 +1,5 @@
 -- Every turn satisfies its limits, and so a tariff charges at least one unit.
+-- serves: EndsLemmas, ReadLemmas
 use Rattle.std.proofs.Common.{◌&&◌, ◌≡◌, ◌⊎◌, ◌≤◌, ◌+◌, ◌==◌, ◌++◌, ℕ, Bool, true, false, not, List, [], ◌∷◌, filter, length, Option, Some, None, IfSome, slice_get, Result, Ok, Err, MatchBool, codes, if◌then◌else◌, refl, sym, ◌∙◌, ap, subst, inl, inr, eqb-true, lit≤, arith}
 use Rattle.std.proofs.lemmas.Option.{some_pair_parts}
 use Rattle.std.specs.Fmt.{decimal}

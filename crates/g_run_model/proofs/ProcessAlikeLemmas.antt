@@ -1,5 +1,6 @@
 -- PROCESS, in two states that differ only in first blocks of copies, in which no device failed: they have the same answer,
 -- and leave two such states.
+-- serves: WorldAlikeLemmas
 use Rattle.std.proofs.Common.{◌≡◌, ◌⊎◌, ◌+◌, ◌-◌, ◌^◌, ◌&&◌, ◌==◌, ℕ, Bool, true, false, not, List, [], ◌∷◌, length, map, Option, Some, None, option_map, is_some, is_none, Result, Ok, Err, MatchOption, nat_lt, nat_le, if◌then◌else◌, refl, sym, ◌∙◌, ap, subst, inl, inr}
 use Rattle.std.proofs.lemmas.Bool.{false≢true, lt-ltb, leb-false, ltb-true}
 use Rattle.std.specs.Ordering.{nat_cmp}

@@ -1,4 +1,5 @@
 -- What a PROCESS leaves, case by case: what is so of each of the states that it may leave is so of the one that it left.
+-- serves: DumpedLemmas, EndsLemmas, OneTextLemmas, PricedLemmas, TreeLemmas, crates above
 use Rattle.std.proofs.Common.{◌≡◌, ◌==◌, ◌&&◌, ◌⊎◌, ℕ, Bool, true, false, List, [], ◌∷◌, map, Option, Some, None, Result, Err, MatchOption, option_map, refl, sym, ◌∙◌, ap, subst, inl, inr, if◌then◌else◌}
 use Rattle.std.specs.List.{list_all}
 use Rattle.std.specs.Ordering.{nat_cmp}

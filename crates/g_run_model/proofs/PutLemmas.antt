@@ -1,4 +1,5 @@
 -- EVERY MOVE prints its text in pieces, and what it prints for a terminal's job is what was added to that job's file.
+-- serves: terminals_print_their_files
 use Rattle.std.proofs.Common.{◌≡◌, ◌<◌, ◌≤◌, ◌+◌, ◌==◌, ◌&&◌, ℕ, Bool, true, false, cond, nat_le, not, List, [], ◌∷◌, ◌++◌, Option, Some, None, Result, Ok, Err, MatchBool, append_assoc, append-nil, codes, refl, sym, ◌∙◌, ap, subst, inl, inr, if◌then◌else◌, eqb-true, ne_eqb, arith}
 use Rattle.std.proofs.lemmas.Bool.{leb-false, leb-true}
 use Rattle.std.specs.List.{AllByRecursion}

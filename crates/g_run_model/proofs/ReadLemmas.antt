@@ -1,4 +1,5 @@
 -- WHAT A TERMINAL'S JOB READS: at each event its document has exactly the lines that were typed for it.
+-- serves: terminals_read_what_is_typed
 use Rattle.std.proofs.Common.{not, ◌≡◌, ◌⊎◌, ◌<◌, ◌≤◌, ◌+◌, ◌==◌, ◌&&◌, ◌++◌, ℕ, Bool, true, false, List, [], ◌∷◌, filter, length, Option, Some, None, IfSome, is_some, slice_get, Result, Ok, Err, MatchBool, codes, if◌then◌else◌, append_assoc, append-nil, refl, sym, ◌∙◌, ap, subst, inl, inr, eqb-true, ne_eqb, arith}
 use Rattle.std.proofs.lemmas.Bool.{false≢true}
 use Rattle.std.proofs.lemmas.Option.{some_pair_parts}

@@ -1,4 +1,5 @@
 -- What the jobs of a run have left, as sums: after a job continues as another, is removed, or is added.
+-- serves: PieceLemmas, crates above
 use Rattle.std.proofs.Common.{◌≡◌, ◌<◌, ◌≤◌, ◌+◌, ◌-◌, ◌==◌, ℕ, Bool, true, false, cond, not, List, [], ◌∷◌, sum_by, Some, None, refl, ◌∙◌, ap, if◌then◌else◌, eqb-true, ne_eqb, arith}
 use Rattle.std.proofs.lemmas.List.Sums.{sum_by-cons}
 use Rattle.g_job.specs.State.{JobState}

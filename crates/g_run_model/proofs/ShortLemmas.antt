@@ -1,5 +1,6 @@
 -- Every file of the current trees has at most 65,536 bytes, also after each event. Therefore a store answers each call as a
 -- turn may be answered.
+-- serves: PricedLemmas, ProcessedLemmas, ReadLemmas
 use Rattle.std.proofs.Common.{◌≡◌, ◌≤◌, ◌+◌, ◌||◌, ℕ, Bool, true, false, cond, not, List, ◌∷◌, ◌++◌, length, length-append, Option, Some, None, IfSome, option_map, unwrap_or, Result, Ok, Err, MatchOption, if◌then◌else◌, refl, sym, ◌∙◌, subst, inl, inr, arith}
 use Rattle.std.proofs.lemmas.Bool.{false≢true}
 use Rattle.std.specs.FinMap.{FinMap, get, get-empty, get-insert, get-remove, insert, remove}

@@ -1,4 +1,5 @@
 -- What devices represent is what they are read as.
+-- serves: DeviceShortLemmas, crates above
 use Rattle.std.proofs.Common.{◌≡◌, ℕ, false, List, [], ◌∷◌, Contains, Option, Some, None, refl, sym, ◌∙◌, subst, arith}
 use Rattle.std.specs.Prelude.{All, IfSome, is_some, map}
 use Rattle.std.specs.Option.{option_map}

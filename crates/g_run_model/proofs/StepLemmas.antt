@@ -1,4 +1,5 @@
 -- Refusals of a step, by cases.
+-- serves: AnswerLemmas, DumpedLemmas, EventToldLemmas, KeptDumpLemmas, LawLemmas, MountLemmas, ProcessedLemmas, ShortLemmas, ToldLemmas, TreeLemmas, and 1 more
 use Rattle.std.proofs.Common.{◌≡◌, ℕ, List, Option, Some, None, refl, sym, ap, subst, inl, inr}
 use Rattle.std.specs.Prelude.{◌≢◌, ◌⊎◌, Result, Ok, Err, option_map, MatchOption}
 use Rattle.g_plain.specs.declared.calls.StoreCall.{StoreCall}

@@ -1,4 +1,5 @@
 -- How a store answers a call, as an event of a run.
+-- serves: StoreTurnLemmas
 use Rattle.std.proofs.Common.{◌≡◌, ℕ, List, Err, refl, sym, subst}
 use Rattle.std.proofs.lemmas.Bool.{false≢true}
 use Rattle.g_name.specs.declared.full.Full.{Full}

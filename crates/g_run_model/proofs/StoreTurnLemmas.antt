@@ -1,4 +1,5 @@
 -- A turn on a store whose devices expose their contents and belong together, as moves of a run.
+-- serves: crates above
 use Rattle.std.proofs.Common.{◌≡◌, ℕ, false, List, [], map, Some, None, slice_get, Err, refl}
 use Rattle.std.specs.Fn.{Shared}
 use denote.Ref.{Bor}

@@ -1,5 +1,6 @@
 -- What is known of one number's job in a run: how many free turns it may have had by the lines that were done, and that
 -- what was charged is within its allowance.
+-- serves: EndsLemmas, OneTextLemmas, PricedLemmas, ReadLemmas
 use Rattle.std.proofs.Common.{◌≡◌, ◌<◌, ◌≤◌, ◌+◌, ◌-◌, ◌==◌, ◌⊎◌, ◌&&◌, ℕ, Bool, true, false, not, List, [], ◌∷◌, ◌++◌, filter, Option, Some, None, IfSome, slice_get, refl, sym, ◌∙◌, ap, subst, inl, inr, if◌then◌else◌, eqb-true, arith}
 use Rattle.std.proofs.lemmas.Bool.{false≢true, leb-false}
 use Rattle.std.proofs.lemmas.Option.{some_pair_parts}

@@ -1,4 +1,5 @@
 -- The moves of a tick, and of a line, each with what it leaves and what it adds to the text.
+-- serves: PutLemmas, crates above
 use Rattle.std.proofs.Common.{◌≡◌, ◌⊎◌, ◌+◌, ℕ, true, false, List, [], ◌∷◌, ◌++◌, None, Result, Ok, Err, codes, append_assoc, append-nil, refl, sym}
 use Rattle.std.specs.Fmt.{decimal}
 use Rattle.std.specs.Fn.{Shared}

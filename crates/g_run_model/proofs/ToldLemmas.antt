@@ -1,4 +1,5 @@
 -- A step whose answer doesn't show its outcome is the step in which no device failed.
+-- serves: EventToldLemmas
 use Rattle.std.proofs.Common.{◌≡◌, ℕ, List, [], ◌∷◌, Option, Some, None, refl, sym, ◌∙◌, ap, subst}
 use Rattle.std.specs.Prelude.{◌≢◌, Bool, true, false, Result, Err, MatchOption, not, nat_lt, is_some, unwrap_or, ◌&&◌, ◌||◌}
 use Rattle.g_plain.specs.declared.calls.StoreCall.{StoreCall}

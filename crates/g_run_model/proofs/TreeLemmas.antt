@@ -1,4 +1,5 @@
 -- What each move does to the tree.
+-- serves: moves_change_the_tree_whole (moves, rising), start_has_the_tree, DumpLemmas, DumpedLemmas, OneTextLemmas, crates above
 use Rattle.std.proofs.Common.{◌≡◌, ℕ, List, [], ◌∷◌, Option, Some, None, refl, sym, ◌∙◌, ap, inl, inr}
 use Rattle.std.specs.Prelude.{not, ◌⊎◌, Bool, true, false, Result, Ok, Err, option_map, MatchBool, MatchOption, if◌then◌else◌}
 use Rattle.std.specs.Fn.{Shared}

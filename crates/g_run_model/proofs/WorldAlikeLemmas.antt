@@ -1,5 +1,6 @@
 -- Worlds that differ only in first blocks of copies: a line, a step of the dump and the end of a turn leave two such
 -- worlds.
+-- serves: OneTextLemmas
 use Rattle.std.proofs.Common.{◌≡◌, ◌+◌, ◌++◌, ℕ, Bool, true, false, not, List, [], ◌∷◌, length, map, filter, Option, Some, None, option_map, is_some, unwrap_or, Result, Ok, Err, MatchBool, nat_le, nat_lt, if◌then◌else◌, codes, refl, sym, ◌∙◌, ap}
 use Rattle.std.specs.FinMap.{entries}
 use Rattle.std.specs.Fmt.{decimal}

@@ -1,4 +1,5 @@
 -- The lines of a document, read one after another from a text.
+-- serves: read_document
 use Rattle.std.proofs.Common.{Bool, eqb, false, true, ◌≡◌, ◌≢◌, ◌∷◌, ◌++◌, ◌+◌, ◌≤◌, ◌∙◌, [], List, ℕ, All, ap, subst, sym, arith, length, take, codes}
 use Rattle.std.proofs.lemmas.Bool.Decides.{Decides-eqb, not_from_Decides}
 use Rattle.std.proofs.lemmas.List.{append_assoc, length-append}

@@ -1,4 +1,5 @@
 -- A first line is read as the item whose first line it is, and no other line is read.
+-- serves: ItemLemmas, ReadLemmas
 use Rattle.std.proofs.Common.{All, List, None, Option, Some, ap, arith, codes, eq-eqb, ne_eqb, refl, subst, sym, ℕ, ◌++◌, ◌<◌, ◌^◌, ◌∙◌, ◌∷◌, ◌≡◌, ◌≢◌, ◌≤◌}
 use Rattle.std.specs.Fmt.{decimal}
 use Rattle.std.specs.Option.{option_and_then, option_map}

@@ -1,4 +1,5 @@
 -- The lines of a script determine what it says.
+-- serves: one_reading, crates above
 use Rattle.std.proofs.Common.{List, None, Option, Some, [], ap, arith, inl, inr, length, refl, subst, sym, ℕ, ◌++◌, ◌+◌, ◌∙◌, ◌∷◌, ◌≡◌, ◌≤◌, ◌⊎◌}
 use Rattle.std.proofs.lemmas.List.{append_assoc, length-append}
 use Rattle.g_script.proofs.ItemLemmas.{item_unique, nil_cons, none_between, nothing_behind, same_first, same_rest}

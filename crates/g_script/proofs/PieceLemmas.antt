@@ -1,4 +1,5 @@
 -- A text and the first byte of some value in it.
+-- serves: parts_at, HeadLemmas
 use Rattle.std.proofs.Common.{All, Bor, List, MatchOption, None, Option, Some, [], ap, arith, eq-eqb, eqb-true, false, get_or, length, ne_eqb, refl, subst, suc, sym, true, ℕ, ◌++◌, ◌<◌, ◌==◌, ◌^◌, ◌∙◌, ◌∷◌, ◌≡◌, ◌≢◌}
 use Rattle.std.specs.Fmt.{decimal}
 use Rattle.std.specs.List.{AllByRecursion, list_all}

@@ -1,4 +1,5 @@
 -- What lines say is what their items say.
+-- serves: crates above
 use Rattle.std.proofs.Common.{All, List, None, Option, [], ap, arith, length, map, refl, subst, sym, ℕ, ◌++◌, ◌+◌, ◌∙◌, ◌∷◌, ◌≡◌, ◌≤◌}
 use Rattle.std.proofs.lemmas.List.{append-nil, length-append}
 use Rattle.std.proofs.lemmas.List.Elements.{All-cons, All-nil}

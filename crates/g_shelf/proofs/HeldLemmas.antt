@@ -1,4 +1,5 @@
 -- Held blocks lie in the content of one dump, whose note says so.
+-- serves: find_copy (fits), is_held, lib, crates above
 use Rattle.std.proofs.Common.{◌≡◌, ◌⊎◌, ◌↔◌, ℕ, zero, suc, ◌+◌, ◌-◌, ◌<◌, ◌≤◌, Bool, List, [], ◌∷◌, length, refl, sym, ap, arith, inl, inr, map, subst}
 use Rattle.std.specs.Prelude.{Contains, IsTrue}
 use Rattle.std.specs.Option.{ForSome}

@@ -1,4 +1,5 @@
 -- The last dump of the reels seen so far.
+-- serves: first_unmounted (all, first), last_dump (faults, none, some), crates above
 use Rattle.std.proofs.Common.{◌≡◌, ◌⊎◌, ℕ, zero, suc, ◌+◌, ◌-◌, ◌<◌, ◌≤◌, Bool, true, false, List, [], ◌∷◌, ◌++◌, length, get_or, take, Option, Some, None, Err, refl, sym, ◌∙◌, ap, arith, slice_get, subst, inl, inr, map, All}
 use Rattle.std.specs.Prelude.{Contains, IfNone, IfSome, MatchOption, find, nat_lt, not, option_map, if◌then◌else◌}
 use Rattle.std.specs.Option.{ForSome}

@@ -1,4 +1,5 @@
 -- What the readers of a reel hand on, and where the dumps that were read end.
+-- serves: end_of (end, fits), next_dump (low, none), read_reel (reads), LastLemmas, RackLemmas, WalkLemmas, crates above
 use Rattle.std.proofs.Common.{◌≡◌, ◌↔◌, ℕ, ◌+◌, ◌-◌, ◌<◌, ◌≤◌, List, length, Option, Some, None, Result, Ok, Err, refl, sym, ◌∙◌, ap, arith, slice_get, subst, map}
 use Rattle.std.specs.Prelude.{option_map}
 use Rattle.std.specs.Option.{ForSome}

@@ -1,4 +1,5 @@
 -- Consecutive dumps: where they lie, one more after them, and the last of them.
+-- serves: HeldLemmas, LastLemmas, ReadLemmas, WalkLemmas, crates above
 use Rattle.std.proofs.Common.{◌≡◌, ◌⊎◌, ℕ, zero, suc, ◌+◌, ◌-◌, ◌≤◌, List, [], ◌∷◌, ◌++◌, length, Some, None, refl, sym, ◌∙◌, ap, arith, slice_get, subst, inl, inr, All}
 use Rattle.std.specs.Prelude.{Contains}
 use Rattle.std.proofs.lemmas.List.Elements.{All-cons, All-nil}

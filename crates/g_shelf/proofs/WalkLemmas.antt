@@ -1,4 +1,5 @@
 -- The dumps of a reel that a walk has passed, and what it collects from them.
+-- serves: completed (found), read_reel (more), crates above
 use Rattle.std.proofs.Common.{◌≡◌, ℕ, ◌+◌, ◌≤◌, List, [], ◌∷◌, ◌++◌, length, Ok, refl, sym, ◌∙◌, ap, arith, subst, map, All}
 use Rattle.std.specs.Option.{ForSome}
 use Rattle.std.proofs.lemmas.List.{append-nil, append_assoc}

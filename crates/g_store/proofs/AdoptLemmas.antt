@@ -1,4 +1,5 @@
 -- The adoption of a dump is permitted, and what it leaves.
+-- serves: adopt, StartedLemmas
 use Rattle.std.proofs.Common.{◌≡◌, ◌≢◌, ℕ, ◌^◌, ◌<◌, Bool, true, false, List, get_or, Option, None, refl, sym, ap, subst}
 use Rattle.std.specs.Prelude.{All, Contains, IfSome, is_some}
 use Rattle.std.proofs.lemmas.Bool.{both_ways}

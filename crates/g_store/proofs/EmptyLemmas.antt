@@ -1,4 +1,5 @@
 -- Reels without a block: which is the first that has one, and that they have no dump.
+-- serves: first_used, FormatLemmas
 use Rattle.std.proofs.Common.{◌≡◌, ℕ, zero, suc, ◌+◌, ◌<◌, ◌≤◌, Bool, true, false, List, [], ◌∷◌, ◌++◌, get_or, length, slice_get, take, Option, Some, None, refl, sym, ◌∙◌, ap, arith, subst}
 use Rattle.std.specs.Prelude.{All, find, is_some, map, nat_lt, option_map, if◌then◌else◌}
 use Rattle.std.specs.Option.{ForSome}

@@ -1,4 +1,5 @@
 -- An event that is refused, and changes nothing.
+-- serves: MigratedLemmas, OpenedLemmas, ProcessedStepLemmas, SteppedLemmas, TurnLemmas
 use Rattle.std.proofs.Common.{◌≡◌, ◌≢◌, ℕ, false, Some, Result, Err, refl, sym, ◌∙◌, ap, arith, subst}
 use Rattle.std.proofs.lemmas.Bool.{false≢true}
 use Rattle.g_plain.specs.declared.faults.StoreFault.{StoreFault}

@@ -1,4 +1,5 @@
 -- Why a dump isn't opened, of every disc and rack.
+-- serves: open_dump (refuses)
 use Rattle.std.proofs.Common.{◌≡◌, ℕ, Some, Result, Ok, Err, ap, subst, sym, inl, inr}
 use Rattle.std.specs.Prelude.{◌⊎◌, ◌==◌, ◌^◌, ◌-◌, is_none, is_some, not}
 use Rattle.g_tape.specs.Rack.{Rack, is_mounted, reel}

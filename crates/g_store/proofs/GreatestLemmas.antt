@@ -1,4 +1,5 @@
 -- The dump of greatest number: its own records are among those that all dumps give together.
+-- serves: StartLemmas
 use Rattle.std.proofs.Common.{◌≡◌, ℕ, zero, suc, ◌+◌, List, [], ◌∷◌, get_or, sym, ◌∙◌, ap, arith, subst}
 use Rattle.std.specs.Prelude.{true, ◌==◌, All, Contains}
 use Rattle.std.proofs.lemmas.Bool.{eq-eqb}

@@ -1,4 +1,5 @@
 -- A store that is made of devices: its invariant, and its state.
+-- serves: FormatLemmas, RestoreLemmas, RestoredLemmas, StartedLemmas
 use Rattle.std.proofs.Common.{◌≡◌, ℕ, Bool, true, false, List, [], ◌∷◌, Option, Some, None, is_some, refl, sym, ◌∙◌, ap, arith, subst, inl, inr, true≢false}
 use Rattle.std.specs.Prelude.{◌⊎◌, ◌==◌, All, Contains, IfSome, filter, map, not, if◌then◌else◌}
 use Rattle.std.proofs.lemmas.Bool.{eq-eqb, false≢true, or_left, or_right}

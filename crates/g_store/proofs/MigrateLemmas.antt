@@ -1,4 +1,5 @@
 -- Taking a file off the disc is the step's.
+-- serves: MigratedLemmas
 use Rattle.std.proofs.Common.{◌≡◌, ℕ, Bool, true, false, List, [], ◌∷◌, get_or, Option, Some, None, is_some, refl, sym, ◌∙◌, ap, subst, inl, inr, true≢false}
 use Rattle.std.specs.Prelude.{◌⊎◌, ◌||◌, All, Contains, IfSome, is_none, map, not}
 use Rattle.std.specs.Option.{option_map}

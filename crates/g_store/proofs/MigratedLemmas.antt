@@ -1,4 +1,5 @@
 -- How a store answers a migration.
+-- serves: migrate
 use Rattle.std.proofs.Common.{◌≡◌, ◌≢◌, ℕ, ◌+◌, Bool, true, false, List, [], ◌∷◌, Option, Some, None, is_some, Result, Ok, Err, refl, sym, ◌∙◌, ap, arith, subst, inl, inr}
 use Rattle.std.specs.Prelude.{◌⊎◌, ◌||◌, ◌<◌, ◌↔◌, Contains, IfErr, IfSome, OnErr, is_none, not, if◌then◌else◌}
 use Rattle.std.proofs.lemmas.Bool.{false≢true}

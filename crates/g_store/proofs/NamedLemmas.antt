@@ -1,4 +1,5 @@
 -- The dump that an intent names, among those that were read on its reel.
+-- serves: find_named (none, some), StartLemmas
 use Rattle.std.proofs.Common.{◌≡◌, ℕ, zero, suc, ◌+◌, Bool, true, false, List, [], ◌∷◌, Option, Some, None, refl, sym, ◌∙◌, ap, arith, subst}
 use Rattle.std.specs.Prelude.{◌==◌, ◌&&◌, Contains, IfNone, IfSome, find, is_some, map, if◌then◌else◌}
 use Rattle.std.specs.List.{list_any}

@@ -1,4 +1,5 @@
 -- What the completion of a dump changes in the state: the places that it noted, its tree, and the users who are kept then.
+-- serves: ProcessedStepLemmas, ProcessedTreeLemmas, SteppedLemmas
 use Rattle.std.proofs.Common.{◌≡◌, ◌≢◌, ℕ, zero, suc, ◌+◌, ◌≤◌, Bool, true, false, List, [], ◌∷◌, get_or, take, Option, Some, unwrap_or, None, refl, sym, ◌∙◌, ap, arith, subst, inl, inr}
 use Rattle.std.specs.Prelude.{◌⊎◌, ◌==◌, All, AllPairs, Contains, filter, map, nat_le, nat_lt, not, slice_get, sum_by}
 use Rattle.std.specs.Option.{option_map}

@@ -1,4 +1,5 @@
 -- A file is taken off the disc: its place, and what is known of the others.
+-- serves: MigrateLemmas
 use Rattle.std.proofs.Common.{◌≡◌, ℕ, Bool, true, false, cond, List, [], ◌∷◌, get_or, Option, Some, None, is_some, unwrap_or, refl, sym, ◌∙◌, ap, subst, inl, inr}
 use Rattle.std.specs.Prelude.{◌⊎◌, ◌==◌, ◌||◌, All, Contains, if◌then◌else◌}
 use Rattle.std.specs.Option.{option_map}

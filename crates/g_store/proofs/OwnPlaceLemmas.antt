@@ -1,4 +1,5 @@
 -- Places under the copies that a dump's own records name.
+-- serves: AdoptLemmas, StartLemmas
 use Rattle.std.proofs.Common.{◌≡◌, ◌≢◌, ℕ, Bool, true, false, cond, List, [], ◌∷◌, get_or, Option, Some, None, refl, sym, ◌∙◌, ap, arith, inl, inr}
 use Rattle.std.specs.Prelude.{◌⊎◌, ◌==◌, ◌&&◌, All, AllPairs, Contains, map, if◌then◌else◌}
 use Rattle.std.specs.List.{flat_map, list_any}

@@ -1,4 +1,5 @@
 -- How a store answers a process, from how the parts of it answer.
+-- serves: process (dumps, processes, step), ProcessedStepLemmas, ProcessingLemmas
 use Rattle.std.proofs.Common.{◌≡◌, ℕ, ◌-◌, ◌^◌, ◌==◌, Bool, true, false, List, [], ◌∷◌, Option, Some, None, Ok, Err, refl, sym, ◌∙◌, ap, arith, subst}
 use Rattle.std.specs.Prelude.{Result, is_none, is_some}
 use Rattle.std.specs.List.{AllZip}

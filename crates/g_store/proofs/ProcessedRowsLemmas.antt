@@ -1,4 +1,5 @@
 -- The rows of the state after PROCESS: of the reel that was written, and of those that were released.
+-- serves: MovedLemmas, ProcessedStepLemmas
 use Rattle.std.proofs.Common.{◌≡◌, ◌≢◌, ℕ, suc, ◌+◌, ◌<◌, ◌≤◌, ◌==◌, Bool, true, false, List, [], ◌∷◌, ◌++◌, map, Option, Some, None, refl, sym, ◌∙◌, ap, arith, subst, inl, inr}
 use Rattle.std.specs.Prelude.{◌⊎◌, ◌&&◌, All, AllPairs, Contains, if◌then◌else◌, nat_lt, not}
 use Rattle.std.specs.List.{AllZip}

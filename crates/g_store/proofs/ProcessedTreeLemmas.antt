@@ -1,4 +1,5 @@
 -- The dump of all versions, as a state has it: its number, its tree, where its versions lie, and the number of its blocks.
+-- serves: MovedLemmas, ProcessedStepLemmas
 use Rattle.std.proofs.Common.{◌≡◌, ℕ, zero, suc, ◌+◌, ◌-◌, ◌≤◌, ◌==◌, Bool, true, false, List, [], ◌∷◌, ◌++◌, length, map, Option, Some, None, refl, sym, ◌∙◌, ap, arith, subst, inl, inr, unwrap_or, option_map, get_or}
 use Rattle.std.specs.Prelude.{◌⊎◌, ◌&&◌, ◌||◌, All, AllPairs, Contains, filter, is_none, is_some, nat_lt, not, sum_by}
 use Rattle.std.specs.List.{flat_map, list_any}

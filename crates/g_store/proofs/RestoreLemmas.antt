@@ -1,4 +1,5 @@
 -- RESTORE: the store that it creates, and what a refusal leaves.
+-- serves: ProcessedStepLemmas, RestoredLemmas
 use Rattle.std.proofs.Common.{◌≡◌, ℕ, ◌≤◌, Bool, true, false, List, [], ◌∷◌, ◌++◌, Option, Some, None, Result, Ok, Err, refl, sym, ◌∙◌, ap, arith, subst, get_or}
 use Rattle.std.specs.Prelude.{◌==◌, ◌&&◌, All, Contains, IfSome, MatchOption, find, length, map, not, option_map, if◌then◌else◌}
 use Rattle.std.specs.List.{list_all}

@@ -1,4 +1,5 @@
 -- RESTORE, as the filestore answered.
+-- serves: restore (ok, refused), StartedLemmas
 use Rattle.std.proofs.Common.{◌≡◌, ◌≢◌, ℕ, ◌≤◌, true, false, List, [], ◌∷◌, Option, Some, None, Result, Ok, Err, is_some, refl, sym, ◌∙◌, ap, subst, inl, inr}
 use Rattle.std.specs.Prelude.{◌⊎◌, ◌↔◌, All, Contains, IfSome, MatchOption, not}
 use Rattle.std.specs.Option.{ForSome}

@@ -1,4 +1,5 @@
 -- START: what it makes of the state that disc and rack represent.
+-- serves: StartedLemmas
 use Rattle.std.proofs.Common.{◌≡◌, ℕ, ◌+◌, ◌≤◌, Bool, true, false, List, [], ◌∷◌, length, Option, Some, None, is_some, refl, sym, ◌∙◌, ap, arith, subst, inl, inr, true≢false}
 use Rattle.std.specs.Prelude.{◌⊎◌, All, Contains, IfSome, find, map, if◌then◌else◌}
 use Rattle.std.specs.Option.{ForSome, option_map}

@@ -1,4 +1,5 @@
 -- START: the store that it creates, and what a refusal leaves.
+-- serves: start (ok, refused)
 use Rattle.std.proofs.Common.{◌≡◌, ◌≢◌, ℕ, ◌+◌, Bool, true, false, List, [], ◌∷◌, Option, Some, None, Ok, Err, is_some, refl, sym, ◌∙◌, ap, arith, subst, inl, inr}
 use Rattle.std.specs.Prelude.{◌⊎◌, ◌<◌, IfSome, map, if◌then◌else◌}
 use Rattle.std.specs.Option.{ForSome, option_map}

@@ -1,4 +1,5 @@
 -- How a store answers a step of its open dump, for any answer of the dumper.
+-- serves: dump_step (dumps, event)
 use Rattle.std.proofs.Common.{◌≡◌, ℕ, ◌+◌, Bool, true, false, List, Option, Some, None, Result, Ok, Err, refl, sym, ◌∙◌, ap, arith, subst, inl, inr}
 use Rattle.std.specs.Prelude.{◌↔◌, All, IfSome, is_some}
 use Rattle.std.proofs.lemmas.Bool.{false≢true}

@@ -1,4 +1,5 @@
 -- How a store answers a step of its open dump: the state after each answer.
+-- serves: ProcessedStepLemmas, StepLemmas
 use Rattle.std.proofs.Common.{◌≡◌, ℕ, zero, suc, ◌+◌, ◌<◌, ◌≤◌, ◌==◌, Bool, true, false, List, [], ◌∷◌, ◌++◌, map, Option, Some, None, Result, Ok, Err, refl, sym, ◌∙◌, ap, arith, subst, inl, inr}
 use Rattle.std.specs.Prelude.{◌⊎◌, AllPairs, Contains, is_some, nat_lt, option_map}
 use Rattle.std.specs.Ordering.{nat_cmp}

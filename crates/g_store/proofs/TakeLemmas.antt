@@ -1,4 +1,5 @@
 -- The dump of the intent is adopted, or isn't.
+-- serves: find_named (only), take_named
 use Rattle.std.proofs.Common.{◌≡◌, ℕ, true, List, Option, Some, None, Ok, Err, refl, ◌∙◌, ap, inl, inr}
 use Rattle.std.specs.Prelude.{◌⊎◌, Bool, if◌then◌else◌}
 use Rattle.g_disc.proofs.CallLemmas.{Causes-for}

@@ -1,4 +1,5 @@
 -- Mounting and unmounting are the step's, and a store preserves its invariant.
+-- serves: mount, unmount, crates above
 use Rattle.std.proofs.Common.{◌≡◌, ℕ, Bool, true, false, List, [], ◌∷◌, Option, Some, None, Result, Ok, Err, refl, sym, ◌∙◌, ap, arith, subst, inl, inr, true≢false}
 use Rattle.std.specs.Prelude.{◌⊎◌, ◌&&◌, IfSome, is_none, not, if◌then◌else◌}
 use Rattle.std.specs.Option.{option_map}

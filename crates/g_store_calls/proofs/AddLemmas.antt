@@ -1,4 +1,5 @@
 -- A new user.
+-- serves: made_user, new_user (answers), BroughtLemmas, BudgetLemmas, EraseLemmas, MakeLemmas, SetLemmas, VersionLemmas
 use Rattle.std.proofs.Common.{◌≡◌, ◌≢◌, ℕ, ◌<◌, ◌≤◌, ◌+◌, Bool, true, false, List, [], ◌∷◌, ◌++◌, length, Option, Some, None, is_some, refl, sym, ◌∙◌, ap, arith, inl, inr, slice_get, subst, All}
 use Rattle.std.specs.Prelude.{◌⊎◌, ◌||◌, Contains, IfSome, not}
 use Rattle.std.specs.FinMap.{len}

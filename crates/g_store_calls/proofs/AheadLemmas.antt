@@ -1,5 +1,6 @@
 -- For the state that a store represents, a view in which no dump is newer than the disc. If the devices expose their
 -- contents it is the only view; otherwise one without a dumped tree has the same names and lengths.
+-- serves: AppendedLemmas, AskedLemmas, PutLemmas, VersionLemmas
 use Rattle.std.proofs.Common.{◌≡◌, ◌≢◌, ℕ, ◌≤◌, true, false, List, [], ◌∷◌, ◌++◌, Option, Some, None, is_some, refl, sym, ◌∙◌, ap, inl, inr, subst, All}
 use Rattle.std.specs.Prelude.{◌⊎◌, ◌==◌, AllPairs, Contains, IfSome, if◌then◌else◌}
 use Rattle.std.specs.Option.{ForSome}

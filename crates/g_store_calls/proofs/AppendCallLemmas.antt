@@ -1,4 +1,5 @@
 -- Append, for any answer: what the plain step grants, and that the call is answered as the whole store answers it.
+-- serves: append (answers, kind)
 use Rattle.std.proofs.Common.{◌≡◌, ◌≢◌, ℕ, ◌+◌, ◌<◌, ◌≤◌, ◌^◌, Bool, true, false, List, ◌∷◌, ◌++◌, length, Option, Some, None, Result, Ok, Err, is_some, refl, sym, ◌∙◌, ap, arith, inl, inr, subst}
 use Rattle.std.specs.Prelude.{◌⊎◌, Contains, not}
 use Rattle.std.specs.Option.{ForSome}

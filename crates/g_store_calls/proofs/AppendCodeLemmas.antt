@@ -1,4 +1,5 @@
 -- What the functions of Append show in turn, by the record of the file that they have.
+-- serves: append_from_tape, append_here
 use Rattle.std.proofs.Common.{◌≡◌, ℕ, ◌+◌, ◌<◌, Bool, true, false, List, ◌++◌, length, Some, None, Result, Ok, Err, is_some, refl, sym, ◌∙◌, ap, inl, inr, subst, true≢false}
 use Rattle.std.specs.Prelude.{◌⊎◌, Contains}
 use Rattle.std.specs.Option.{ForSome}

@@ -1,4 +1,5 @@
 -- How an append is answered once it writes: the new version is the step's, whether it was written or a write failed.
+-- serves: AppendCallLemmas
 use Rattle.std.proofs.Common.{◌≡◌, ℕ, ◌+◌, ◌<◌, ◌≤◌, Bool, true, false, List, ◌++◌, get_or, length, length-append, Option, Some, None, Ok, Err, is_some, refl, sym, ◌∙◌, ap, inl, inr, subst, true≢false, All}
 use Rattle.std.specs.Prelude.{◌⊎◌, Contains, IfSome, not, Result}
 use Rattle.std.specs.Option.{ForSome}

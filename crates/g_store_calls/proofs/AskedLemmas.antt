@@ -1,6 +1,7 @@
 -- What is known of a store when a call that adds or brings bytes arrives, whether or not its devices expose their contents.
 -- If they do, disc and rack belong together, and the state is that of the store's own view. Otherwise any bytes of a
 -- version's length will do.
+-- serves: AppendLemmas, AppendedLemmas, BroughtLemmas, HereLemmas, TapeLemmas
 use Rattle.std.proofs.Common.{◌≡◌, ◌≢◌, ℕ, Bool, true, false, List, [], ◌∷◌, get_or, length, Option, Some, None, refl, sym, ◌∙◌, ap, inl, inr, subst}
 use Rattle.std.specs.Prelude.{◌⊎◌, ◌==◌, ◌≤◌, All, AllPairs, Contains, IfSome, is_some, if◌then◌else◌}
 use Rattle.std.specs.Option.{ForSome}

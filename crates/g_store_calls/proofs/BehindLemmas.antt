@@ -1,5 +1,6 @@
 -- A view of a disc stays right where files are taken off, and where a new version is inserted, whose text is the one of its
 -- stamp from then on.
+-- serves: VersionLemmas, crates above
 use Rattle.std.proofs.Common.{◌≡◌, ℕ, ◌<◌, ◌≤◌, Bool, true, false, List, ◌∷◌, get_or, length, Option, Some, None, is_some, refl, sym, ◌∙◌, arith, inl, inr, subst, true≢false, All}
 use Rattle.std.specs.Prelude.{◌⊎◌, ◌==◌, Contains, IfSome, filter, nat_lt, if◌then◌else◌}
 use Rattle.std.specs.Option.{ForSome}

@@ -1,5 +1,6 @@
 -- A file is brought back to the disc from its copy on tape, and others are taken off the disc for it: the answer of the
 -- store, done and stopped.
+-- serves: FetchLemmas
 use Rattle.std.proofs.Common.{◌≡◌, ℕ, ◌<◌, ◌≤◌, ◌+◌, Bool, true, false, List, [], get_or, length, Option, Some, None, Ok, Err, refl, sym, ◌∙◌, ap, arith, inl, inr, subst, true≢false}
 use Rattle.std.specs.Prelude.{◌⊎◌, ◌==◌, All, IfSome, is_some, map, nat_lt, not, if◌then◌else◌, Result}
 use Rattle.std.specs.Option.{ForSome, option_map}

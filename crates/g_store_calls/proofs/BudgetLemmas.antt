@@ -1,4 +1,5 @@
 -- A user's other budget.
+-- serves: budget (answers), budgeted_user
 use Rattle.std.proofs.Common.{◌≡◌, ℕ, ◌<◌, ◌≤◌, Bool, true, List, [], get_or, length, Option, Some, None, is_some, refl, sym, ◌∙◌, ap, arith, inl, inr, slice_get, subst, All}
 use Rattle.std.specs.Prelude.{◌⊎◌, Contains, IfSome, codes, slice_set}
 use Rattle.std.specs.FinMap.{get, get-from_entries}

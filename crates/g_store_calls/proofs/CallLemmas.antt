@@ -1,4 +1,5 @@
 -- A call of a job: from what is answered for disc and rack to what the store answers.
+-- serves: crates above
 use Rattle.std.proofs.Common.{◌≡◌, ℕ, Bool, true, false, List, [], ◌∷◌, map, Option, Some, Result, Err, refl, sym, ◌∙◌, ap, subst}
 use Rattle.std.specs.Prelude.{◌==◌, ◌↔◌, if◌then◌else◌, not}
 use Rattle.std.proofs.lemmas.Bool.{false≢true}

@@ -1,4 +1,5 @@
 -- An answer that changes nothing, for any store that the filestore belongs to.
+-- serves: answer (answers, kind), list (answers), BackLemmas, FetchLemmas, HereLemmas, PutLemmas, RecordLemmas, TellLemmas, VersionLemmas, WantLemmas
 use Rattle.std.proofs.Common.{◌≡◌, ℕ, Bool, true, false, List, [], ◌∷◌, length, Option, Some, None, Result, Ok, Err, refl, sym, ◌∙◌, ap, arith, inl, subst, All}
 use Rattle.std.specs.Prelude.{◌&&◌, not, if◌then◌else◌, OnOk, is_some, unwrap_or}
 use Rattle.std.proofs.lemmas.Bool.{false≢true}

@@ -1,4 +1,5 @@
 -- The answers of Fetch and Retrieve, for any store that disc and rack belong to.
+-- serves: brought_bytes (back), fetch (answers, kind), retrieve (answers, kind)
 use Rattle.std.proofs.Common.{◌≡◌, ℕ, ◌<◌, ◌≤◌, Bool, true, false, List, [], length, Option, Some, None, Result, Ok, Err, refl, sym, ◌∙◌, ap, arith, inl, inr, subst}
 use Rattle.std.specs.Prelude.{◌⊎◌, Contains}
 use Rattle.std.proofs.lemmas.Bool.{true_from_ne_false}

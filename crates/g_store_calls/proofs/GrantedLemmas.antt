@@ -1,4 +1,5 @@
 -- What a call is granted, of the records of the filestore, and how it is answered by a change of them.
+-- serves: answer, append (answers, kind), budget (answers, kind), closed_file, erase (answers, kind), fetch (answers, kind), and 11 more
 use Rattle.std.proofs.Common.{◌≡◌, ℕ, true, List, Option, Some, None, Result, Ok, Err, IfErr, IfOk, refl, sym, ap, subst, ◌∙◌}
 use Rattle.std.specs.List.{Contains}
 use Rattle.std.specs.Result.{result_err}

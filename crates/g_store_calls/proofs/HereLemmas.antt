@@ -1,4 +1,5 @@
 -- A call that needs a file which is on the disc: its bytes are read there, or no device is used.
+-- serves: FetchLemmas
 use Rattle.std.proofs.Common.{◌≡◌, ℕ, ◌<◌, Bool, true, false, List, length, None, Ok, Err, refl, sym, ◌∙◌, ap, arith, inl, subst}
 use Rattle.std.specs.Prelude.{◌||◌, not, if◌then◌else◌}
 use Rattle.std.specs.Option.{ForSome}

@@ -1,4 +1,5 @@
 -- Answers are of their call's kind; and an answer that concerns only the disc is one that concerns disc and rack.
+-- serves: answer (answers, kind), list (kind), of_file (answers, kind), trap_check (kind), GrantedLemmas, RecordLemmas, SetLemmas, TellLemmas, TrapLemmas
 use Rattle.std.proofs.Common.{◌≡◌, ℕ, true, List, Some, Result, Ok, Err, refl, sym, inl, inr, subst}
 use Rattle.std.specs.Prelude.{◌⊎◌, not}
 use Rattle.std.proofs.lemmas.Bool.{false≢true}

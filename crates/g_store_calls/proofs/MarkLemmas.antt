@@ -1,4 +1,5 @@
 -- Marked users stay marked.
+-- serves: AddLemmas, BudgetLemmas, EraseLemmas, SetLemmas, VersionLemmas
 use Rattle.std.proofs.Common.{◌≡◌, ℕ, true, List, [], ◌∷◌, Option, Some, None, sym, ◌∙◌, ap, inl, inr, subst}
 use Rattle.std.specs.Prelude.{◌⊎◌, IfSome}
 use Rattle.std.proofs.lemmas.Bool.{cases_eq}

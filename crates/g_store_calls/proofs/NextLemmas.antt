@@ -1,4 +1,5 @@
 -- The record of a new version: in the place of the file of its number, or of a new file, the records satisfy their rules.
+-- serves: first_of (version), next_of (version), version_of (next), AppendCallLemmas, AppendPartLemmas
 use Rattle.std.proofs.Common.{◌≡◌, ◌≢◌, ℕ, zero, suc, ◌<◌, ◌≤◌, ◌^◌, Bool, true, List, [], ◌∷◌, get_or, length, Option, Some, None, is_some, refl, sym, ◌∙◌, ap, arith, inl, inr, subst, All}
 use Rattle.std.specs.Prelude.{◌⊎◌, AllPairs, Contains, IfSome, filter, nat_lt}
 use Rattle.std.specs.FinMap.{get, get-from_entries, len, nat_cmp-IsAntisymmetric}

@@ -1,4 +1,5 @@
 -- Put: what the path names for output, that the record is one of a new version, and that the call is answered as the whole store answers it.
+-- serves: first_of, put (answers, kind), version_of (next, version)
 use Rattle.std.proofs.Common.{◌≡◌, ℕ, ◌<◌, ◌≤◌, ◌+◌, ◌^◌, Bool, true, false, List, ◌∷◌, length, Option, Some, None, Result, Ok, Err, is_some, unwrap_or, refl, sym, ◌∙◌, ap, arith, subst}
 use Rattle.std.specs.Prelude.{◌==◌, ◌&&◌, IfSome, is_none, nat_le, not}
 use Rattle.std.specs.FinMap.{len}

@@ -1,4 +1,5 @@
 -- A store whose devices were only read represents what it represented, and preserves its invariant.
+-- serves: AppendLemmas, AppendPartLemmas, AppendedLemmas, HereLemmas
 use Rattle.std.proofs.Common.{◌≡◌, ℕ, Bool, true, false, List, Result, Err, refl, sym, ◌∙◌, ap, subst}
 use Rattle.std.specs.Prelude.{OnOk, not}
 use Rattle.std.proofs.lemmas.Bool.{false≢true}

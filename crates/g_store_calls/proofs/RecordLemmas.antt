@@ -1,4 +1,5 @@
 -- A call that changes records by one commit, for any store that the filestore belongs to.
+-- serves: AddLemmas, BudgetLemmas, EraseLemmas, GrantedLemmas, RenameLemmas, SetLemmas, TrapLemmas, VersionLemmas, crates above
 use Rattle.std.proofs.Common.{◌≡◌, ◌≢◌, ℕ, ◌<◌, ◌≤◌, ◌+◌, Bool, true, false, List, [], ◌∷◌, length, Option, Some, None, Result, Ok, Err, refl, sym, ◌∙◌, ap, arith, inl, inr, subst, true≢false, All}
 use Rattle.std.specs.Prelude.{◌⊎◌, ◌||◌, ◌&&◌, IfSome, if◌then◌else◌, is_some, nat_lt, not, Contains}
 use Rattle.std.proofs.lemmas.Bool.{false≢true, le-ltb}

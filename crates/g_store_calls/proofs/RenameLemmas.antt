@@ -1,4 +1,5 @@
 -- A file's other name.
+-- serves: rename (answers), renamed_file
 use Rattle.std.proofs.Common.{◌≡◌, ℕ, ◌<◌, true, List, [], ◌∷◌, length, Option, None, is_some, refl, sym, ◌∙◌, ap, subst, All}
 use Rattle.std.specs.Prelude.{Contains, not}
 use Rattle.std.specs.Option.{option_map}

@@ -1,4 +1,5 @@
 -- There is enough room: what a change needs is free, so it can only be stopped or run out of memory.
+-- serves: append_from_tape, append_here, applied, drop_record, make_version, put_behind, put_record, put_version
 use Rattle.std.proofs.Common.{◌≡◌, ℕ, ◌+◌, ◌-◌, ◌<◌, ◌≤◌, List, ◌++◌, length, length-append, Result, Err, refl, sym, ◌∙◌, ap, arith, inl, inr, subst}
 use Rattle.std.specs.Prelude.{◌⊎◌, ◌↔◌, IsErrOf}
 use Rattle.g_base.specs.Block.{blocks_for}

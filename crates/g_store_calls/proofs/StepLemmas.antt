@@ -1,4 +1,5 @@
 -- The step of a call, from what its tests say: a refusal before room is computed, a later one, or the call is done.
+-- serves: AppendLemmas, BackLemmas, CalmLemmas, RecordLemmas, RoomSteps
 use Rattle.std.proofs.Common.{◌≡◌, ℕ, Bool, true, false, List, [], ◌∷◌, Option, Some, None, Result, Ok, Err, refl, sym, ap, arith, subst}
 use Rattle.std.specs.Prelude.{◌&&◌, ◌||◌, MatchOption, is_some, nat_lt, not, unwrap_or}
 use Rattle.std.proofs.lemmas.Bool.{le-ltb}

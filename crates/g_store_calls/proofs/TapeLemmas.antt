@@ -1,5 +1,6 @@
 -- A store whose tapes were read, and in which nothing else has changed; and a call that needs a file whose bytes are only
 -- on tape: it waits, its reel can't be read, its copy is lost, or the disc has no room for it.
+-- serves: BroughtLemmas, FetchLemmas, HereLemmas
 use Rattle.std.proofs.Common.{◌≡◌, ℕ, ◌<◌, ◌≤◌, Bool, true, false, List, Some, None, Result, Err, refl, sym, ◌∙◌, ap, arith, inl, inr, subst}
 use Rattle.std.specs.Prelude.{◌⊎◌, not, if◌then◌else◌}
 use Rattle.std.proofs.lemmas.Bool.{and_from, false≢true}

@@ -1,4 +1,5 @@
 -- What is reported of records.
+-- serves: budget, list (answers), listing, made_user, modes_of, new_user, number_of_user, trap_check (answers), AddLemmas, AppendCallLemmas, and 5 more
 use Rattle.std.proofs.Common.{◌≡◌, ℕ, Bool, true, false, List, [], ◌∷◌, length, map, filter, Option, Some, None, Result, Ok, Err, is_some, unwrap_or, refl, sym, ◌∙◌, ap, arith, inl, inr, subst, ◌<◌, ◌≤◌, All}
 use Rattle.std.specs.Prelude.{◌||◌, Contains, IfOk, IfSome, if◌then◌else◌, not, ◌⊎◌, nat_le, nat_lt}
 use Rattle.std.specs.FinMap.{entries, get, get-from_entries}

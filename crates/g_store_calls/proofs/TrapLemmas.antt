@@ -1,4 +1,5 @@
 -- A file's other traps.
+-- serves: closed_file, opened_file, trap_go (answers), trap_stop (answers)
 use Rattle.std.proofs.Common.{◌≡◌, ℕ, ◌<◌, ◌==◌, Bool, true, false, List, [], ◌∷◌, length, filter, None, is_none, nat_le, refl, sym, ◌∙◌, ap, arith, subst, All, Some}
 use Rattle.std.specs.Prelude.{◌&&◌, Contains, if◌then◌else◌, not}
 use Rattle.std.specs.Ordering.{nat_cmp}

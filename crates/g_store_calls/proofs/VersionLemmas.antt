@@ -1,5 +1,6 @@
 -- A call that creates a new version, by one commit or two, for any such call: the state afterwards, what was written, and
 -- that disc and rack still belong together.
+-- serves: AppendedLemmas, PutLemmas
 use Rattle.std.proofs.Common.{◌≡◌, ℕ, ◌<◌, ◌≤◌, ◌+◌, Bool, true, false, List, [], ◌∷◌, get_or, length, map, Option, Some, None, Ok, Err, is_some, refl, sym, ◌∙◌, ap, arith, inl, inr, subst, true≢false, All}
 use Rattle.std.specs.Prelude.{◌⊎◌, ◌||◌, ◌&&◌, Contains, IfSome, if◌then◌else◌, nat_lt, not}
 use Rattle.std.specs.Option.{option_map}

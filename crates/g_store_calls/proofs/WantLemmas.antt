@@ -1,4 +1,5 @@
 -- The file that a call reads, as the state of a store has it: where its bytes lie, how many they are, and whether its reel is mounted.
+-- serves: AppendCallLemmas, AppendLemmas, AppendedLemmas, BroughtLemmas, FetchLemmas, HereLemmas, TapeLemmas
 use Rattle.std.proofs.Common.{◌≡◌, ℕ, Bool, true, false, List, [], ◌∷◌, length, map, Option, Some, None, unwrap_or, refl, sym, ◌∙◌, ap}
 use Rattle.std.specs.Prelude.{◌==◌, Contains, not, if◌then◌else◌}
 use Rattle.std.specs.Option.{option_map}

@@ -1,4 +1,5 @@
 -- Changes of files, of the intent and of the last dump's number, and what a restore and a format make.
+-- serves: changes_belong (closing, restore), lib, StayLemmas, crates above
 use Rattle.std.proofs.Common.{◌≡◌, ℕ, ◌≤◌, List, [], ◌∷◌, Option, Some, None, length, refl, sym, ◌∙◌, ap, subst, inl, inr, arith}
 use Rattle.std.specs.Prelude.{◌⊎◌, Bool, true, false, ◌==◌, not, All, Contains, map, IfSome, if◌then◌else◌}
 use Rattle.std.specs.Option.{ForSome, option_map}

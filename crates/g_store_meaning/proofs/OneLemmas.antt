@@ -1,4 +1,5 @@
 -- Devices that expose their contents and belong together represent one state.
+-- serves: one_state, crates above
 use Rattle.std.proofs.Common.{◌≡◌, ◌≢◌, ◌⊎◌, ℕ, zero, suc, ◌+◌, ◌-◌, ◌≤◌, true, false, List, [], ◌∷◌, ◌++◌, length, get_or, take, drop, Option, Some, None, refl, sym, ◌∙◌, ap, arith, subst, inl, inr}
 use Rattle.std.specs.Prelude.{◌==◌, All, Contains, IfSome, map, is_some}
 use Rattle.std.specs.Option.{ForSome, option_map}

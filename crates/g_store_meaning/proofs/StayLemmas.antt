@@ -1,4 +1,5 @@
 -- A change of a file keeps what a store that is up keeps.
+-- serves: changes_stay_up, crates above
 use Rattle.std.proofs.Common.{◌≡◌, ℕ, ◌+◌, ◌≤◌, List, Option, Some, None, sym, ◌∙◌, ap, subst}
 use Rattle.std.specs.Prelude.{IfSome}
 use Rattle.std.specs.Option.{ForSome}

@@ -1,4 +1,5 @@
 -- Reads don't change the meaning of a rack.
+-- serves: reads_change_nothing (belong, state), crates above
 use Rattle.std.proofs.Common.{◌≡◌, List, Option, sym, subst}
 use Rattle.std.specs.Prelude.{Bool, true, false}
 use Rattle.g_tape.specs.Reel.{Reel}

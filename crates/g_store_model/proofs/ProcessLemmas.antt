@@ -1,4 +1,5 @@
 -- What follows of the step of PROCESS.
+-- serves: lib, StartLemmas
 use Rattle.std.proofs.Common.{◌≡◌, ◌≢◌, ℕ, ◌+◌, List, [], ◌∷◌, ◌++◌, Option, Some, None, refl, sym, ◌∙◌, ap, subst, inl, inr}
 use Rattle.std.specs.Prelude.{◌⊎◌, ◌==◌, Bool, true, false, not, ◌&&◌, map, nat_lt, Result, Ok, Err, MatchOption, option_map, if◌then◌else◌}
 use Rattle.std.specs.FinMap.{FinMap}

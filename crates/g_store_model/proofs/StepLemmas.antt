@@ -1,4 +1,5 @@
 -- What follows of the step by cases on its refusals.
+-- serves: lib, EventLemmas, ProcessLemmas
 use Rattle.std.proofs.Common.{◌≡◌, ℕ, List, [], ◌∷◌, Option, Some, None, refl, sym, ◌∙◌, ap, subst, inl, inr}
 use Rattle.std.specs.Prelude.{◌≢◌, ◌⊎◌, Bool, true, false, not, Result, Ok, Err, option_map, MatchOption, is_some, unwrap_or, ◌||◌, ◌&&◌, if◌then◌else◌}
 use Rattle.g_plain.specs.declared.calls.StoreCall.{StoreCall}

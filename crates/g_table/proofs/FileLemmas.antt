@@ -1,4 +1,5 @@
 -- Records with their numbers, and without them.
+-- serves: free (least, unused), get, of, put (files, was), set, take (files, was)
 use Rattle.std.proofs.Common.{◌≡◌, ℕ, zero, suc, ◌+◌, ◌<◌, ◌==◌, not, List, [], ◌∷◌, ◌++◌, length, filter, find, map, take, get_or, AllPairs, Bool, Option, Some, None, option_map, refl, sym, ◌∙◌, ap, arith, subst, cond, true, false}
 use Rattle.std.specs.Prelude.{IfSome, is_some, nat_lt}
 use Rattle.std.specs.List.{AllByRecursion}

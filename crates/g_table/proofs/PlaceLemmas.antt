@@ -1,4 +1,5 @@
 -- How many items a list of places holds, and each group of 32 of them.
+-- serves: free (least, none, unused), iter, new, next_back (goes, steps), put, set_rec, take
 use Rattle.std.proofs.Common.{◌≡◌, ℕ, zero, suc, ◌+◌, ◌*◌, ◌-◌, ◌/◌, ◌<◌, ◌≤◌, ◌⊎◌, inl, inr, List, [], ◌∷◌, ◌++◌, length, length-append, drop, take, Option, Some, None, get_or, slice_get, replicate, false, true, refl, sym, ◌∙◌, ap, subst, arith}
 use Rattle.std.specs.Prelude.{is_some, slice_set}
 use Rattle.std.proofs.Math.Seq.{take-set-lt}

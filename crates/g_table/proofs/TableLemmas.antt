@@ -1,4 +1,5 @@
 -- Items at places by number: which is that of a number, and what the list is when a place changes.
+-- serves: free (least, none, unused), get, iter, len, new, put (items, was), set_rec, take (items, was), PlaceLemmas, crates above
 use Rattle.std.proofs.Common.{◌≡◌, ◌≢◌, ℕ, zero, suc, ◌+◌, ◌<◌, ◌≤◌, ◌==◌, not, List, [], ◌∷◌, ◌++◌, length, filter, find, map, drop, take, Option, Some, None, get_or, slice_get, replicate, option_map, refl, sym, ◌∙◌, ap, subst, arith, cond}
 use Rattle.std.specs.Prelude.{nat_lt, slice_set}
 use Rattle.std.specs.List.{AllByRecursion}

@@ -1,4 +1,5 @@
 -- What is done to one reel of a rack.
+-- serves: mount (mounting), read, unmount (mounting), write, MemoryLemmas, crates above
 use Rattle.std.proofs.Common.{◌≡◌, ℕ, ◌<◌, List, Bool, Option, Some, None, Ok, length, get_or, map, subst, sym, ap, ◌∙◌, arith, length-set}
 use Rattle.std.specs.List.Sorted.{IsStrictlyIncreasing}
 use Rattle.std.proofs.Math.ListN.{set}

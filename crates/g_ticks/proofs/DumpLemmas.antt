@@ -1,4 +1,5 @@
 -- The step of the open dump, from each world that matches what is at hand, and what holds of all devices after it.
+-- serves: dump_step (did), step (did), TickLemmas
 use Rattle.std.proofs.Common.{◌≡◌, ◌+◌, ◌-◌, ◌≤◌, ◌++◌, codes, is_some, ℕ, Bool, true, false, List, [], Option, Some, None, Result, Ok, Err, sum_by, refl, sym, ◌∙◌, ap, subst, inl, inr, arith, if◌then◌else◌}
 use Rattle.std.proofs.lemmas.Bool.{false≢true}
 use Rattle.std.specs.Option.{option_map}

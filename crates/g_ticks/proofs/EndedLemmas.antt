@@ -1,4 +1,5 @@
 -- What a turn's end requires and leaves: the job is still there, its reel isn't mounted.
+-- serves: end_shown (ends), end_turn, end_untold (ends), open_each (opens), turn_of (turn)
 use Rattle.std.proofs.Common.{◌≡◌, ℕ, ◌==◌, Bool, true, false, cond, not, List, [], ◌∷◌, Option, None, Some, drop, length, refl, sym, ◌∙◌, ap, subst, inl, inr, if◌then◌else◌, eq-eqb}
 use Rattle.std.specs.Prelude.{◌↔◌, Err, IfOk, Ok, Result}
 use Rattle.g_base.specs.declared.memory.NoMemory.{NoMemory}

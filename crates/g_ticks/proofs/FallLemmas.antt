@@ -1,4 +1,5 @@
 -- A turn leaves less to do, whether or not the devices expose their contents.
+-- serves: job_steps, RestLemmas, TakenLemmas
 use Rattle.std.proofs.Common.{◌&&◌, ◌≡◌, ◌≤◌, ◌+◌, ◌-◌, ℕ, Bool, true, false, cond, not, List, [], ◌∷◌, filter, sum_by, Option, Some, None, refl, sym, ◌∙◌, ap, subst, if◌then◌else◌, arith}
 use Rattle.std.proofs.lemmas.List.Sums.{sum_by-cons}
 use Rattle.std.specs.Fn.{Shared}

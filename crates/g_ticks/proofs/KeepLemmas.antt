@@ -1,4 +1,5 @@
 -- What happens to completed dumps in the parts of a run, one after another.
+-- serves: PartLemmas, TickedLemmas, UntilLemmas, crates above
 use Rattle.std.proofs.Common.{◌≡◌, ◌++◌, ℕ, Bool, true, false, List, [], ◌∷◌, Option, refl, sym, ap, subst}
 use Rattle.std.proofs.lemmas.List.Elements.{All-head}
 use Rattle.g_tape.specs.Rack.{Rack}

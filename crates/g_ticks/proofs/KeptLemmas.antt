@@ -1,4 +1,5 @@
 -- What holds of every device after a turn.
+-- serves: DumpLemmas, TakenLemmas
 use Rattle.std.proofs.Common.{◌≡◌, ℕ, true, List, Option, Some, None, refl, sym, ◌∙◌, ap, subst, inl, inr}
 use Rattle.std.specs.Prelude.{◌↔◌}
 use Rattle.g_job.specs.Spending.{SpendsBy}

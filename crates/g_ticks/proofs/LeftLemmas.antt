@@ -1,4 +1,5 @@
 -- The system after a tick, from a store that was stopped or wasn't.
+-- serves: dump_step (did), something_steps (no), step (did), stops (ends), take_turn (did), tick (did), tick_on, turn_of (turn), until_up, and 2 more
 use Rattle.std.proofs.Common.{◌≡◌, ◌↔◌, ℕ, Bool, true, false, Err, Result, refl, sym, ◌∙◌, ap, inl, inr}
 use Rattle.g_plain.specs.declared.faults.StoreFault.{StoreFault}
 use Rattle.g_plain.specs.declared.faults.StoreFault.TheVariants.{Stopped}

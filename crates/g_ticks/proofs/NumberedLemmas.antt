@@ -1,4 +1,5 @@
 -- Lists of jobs after a turn: the job of a number continues as another, or is removed.
+-- serves: EndedLemmas, FallLemmas, TurningLemmas, WeighedLemmas
 use Rattle.std.proofs.Common.{◌≡◌, ℕ, ◌==◌, Bool, true, false, cond, not, List, [], ◌∷◌, Some, refl, sym, ◌∙◌, ap, if◌then◌else◌, eqb-true, eq-eqb}
 use Rattle.std.proofs.lemmas.List.Elements.{All-cons, All-filter, All-head, All-tail}
 use Rattle.g_job_table.specs.Numbers.{AreOpen, job_in}

@@ -1,4 +1,5 @@
 -- Parts of a run, one after another.
+-- serves: TickedLemmas, UntilLemmas, crates above
 use Rattle.std.proofs.Common.{◌≡◌, ◌+◌, ◌≤◌, ◌++◌, ℕ, List, [], ◌∷◌, Option, Some, None, length, append_assoc, append-nil, refl, sym, ◌∙◌, ap, subst, arith}
 use Rattle.std.proofs.lemmas.List.{length-append}
 use Rattle.std.specs.Fn.{Shared}

@@ -1,4 +1,5 @@
 -- A write to a reel mounts and unmounts none, so what jobs have left to do is unchanged.
+-- serves: DumpLemmas
 use Rattle.std.proofs.Common.{◌≡◌, ◌+◌, ◌-◌, ◌==◌, ◌&&◌, ℕ, Bool, true, false, List, [], ◌∷◌, Option, Some, None, sum_by, refl, ◌∙◌, ap, if◌then◌else◌, arith}
 use Rattle.std.proofs.lemmas.List.Sums.{sum_by-cons}
 use Rattle.g_job.specs.State.{JobState}

@@ -1,4 +1,5 @@
 -- Whether a tick may begin, by what is at hand and by the world.
+-- serves: something_steps (no, yes), tick_until_due, TickedLemmas, UntilLemmas
 use Rattle.std.proofs.Common.{◌≡◌, ℕ, Bool, true, false, not, List, [], ◌∷◌, Option, Some, None, filter, is_some, refl, sym, ◌∙◌, ap}
 use Rattle.std.specs.Prelude.{◌&&◌, ◌||◌, option_map}
 use Rattle.g_job.specs.State.{JobState}

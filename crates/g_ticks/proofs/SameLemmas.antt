@@ -1,4 +1,5 @@
 -- What is at hand then, in another formulation.
+-- serves: dump_step (did), step (did), take_turn (did), tick (did), TickedLemmas, UntilLemmas
 use Rattle.std.proofs.Common.{◌≡◌, ◌+◌, ◌≤◌, ℕ, List, Option, None, sym, subst}
 use Rattle.std.specs.Fn.{Shared}
 use denote.Ref.{Bor}

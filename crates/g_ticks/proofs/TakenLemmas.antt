@@ -1,4 +1,5 @@
 -- A TURN'S PART of a tick, from the choice and from how the turn was taken.
+-- serves: take_turn (did)
 use Rattle.std.proofs.Common.{◌≡◌, ℕ, List, Option, Some, None, refl, sym, subst, inl, inr}
 use Rattle.std.specs.Fn.{Shared}
 use denote.Ref.{Bor}

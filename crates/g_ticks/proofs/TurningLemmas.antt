@@ -1,4 +1,5 @@
 -- A TURN, as moves of a run, from every world that matches what is at hand; and what holds of every device.
+-- serves: end_shown, end_untold, KeptLemmas, TakenLemmas
 use Rattle.std.proofs.Common.{◌≡◌, ◌⊎◌, ◌<◌, ◌≤◌, ℕ, Bool, true, false, List, [], ◌++◌, map, Option, Some, None, slice_get, refl, sym, ◌∙◌, ap, subst, inl, inr, append-nil, arith}
 use Rattle.std.specs.Prelude.{◌↔◌, ◌&&◌, codes, not}
 use Rattle.std.specs.Fmt.{decimal}

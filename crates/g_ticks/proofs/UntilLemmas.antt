@@ -1,4 +1,5 @@
 -- Ticks, one after another, until a line is due or nothing steps.
+-- serves: tick_on, tick_until_due, until_up, crates above
 use Rattle.std.proofs.Common.{◌≡◌, ◌⊎◌, ◌+◌, ◌<◌, ◌≤◌, ℕ, Bool, true, false, not, List, [], Option, Some, None, refl, sym, ◌∙◌, ap, subst, inl, inr, arith}
 use Rattle.std.specs.Fn.{Shared}
 use Rattle.std.proofs.lemmas.Bool.{leb-false}

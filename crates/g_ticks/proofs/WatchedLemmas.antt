@@ -1,4 +1,5 @@
 -- A turn on a store that remembers whether it was used is one on the store; if it wasn't used the store is unchanged.
+-- serves: goes_on (goes), open_accounts (opens), put_file (goes), turn_of (turn), waits (goes)
 use Rattle.std.proofs.Common.{◌≡◌, ◌⊎◌, List, [], ◌∷◌, None, Option, Some, append-nil, arith, false, true, true≢false, inl, inr, refl, sym, ◌∙◌, ap, subst, ℕ}
 use Rattle.std.specs.Fn.{Shared}
 use denote.Ref.{Bor}

@@ -1,4 +1,5 @@
 -- The weights of jobs after a turn of one of them.
+-- serves: take_turn
 use Rattle.std.proofs.Common.{◌≡◌, ◌==◌, ◌<◌, ◌≤◌, ◌∙◌, ◌∷◌, [], ℕ, Bool, List, Option, Some, None, ap, arith, cond, false, inl, inr, length, map, not, refl, slice_get, sym, true, if◌then◌else◌}
 use Rattle.std.specs.Fn.{FnReturnsAt, Shared}
 use Rattle.std.specs.Option.{option_map}

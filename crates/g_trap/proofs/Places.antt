@@ -1,4 +1,5 @@
 -- The place of a user's pair among pairs sorted by user number, and the effect of inserting or removing it there.
+-- serves: give (full, kept, ok), is_rising, other_modes, place_of (absent, found)
 use Rattle.std.proofs.Common.{◌≡◌, ℕ, zero, suc, ◌+◌, ◌<◌, ◌≤◌, ◌==◌, Bool, true, false, cond, not, nat_lt, List, [], ◌∷◌, ◌++◌, take, drop, length, length-set, get_or, set, insert, remove, filter, None, Some, Result, Ok, Err, IfOk, IfErr, refl, sym, ap, subst, ◌∙◌, arith, T, inl, inr}
 use Rattle.std.specs.Ordering.{nat_cmp, ordering_index}
 use Rattle.std.proofs.Math.Seq.{take-length, drop-length}

@@ -1,4 +1,5 @@
 -- How records and the tree change together.
+-- serves: erase (records), lower (newest), newest_but (generation), rename, take_later (topped), take_out (index, newest), CountLemmas, EntryLemmas, LawLemmas
 use Rattle.std.proofs.Common.{◌≡◌, ◌≢◌, ℕ, suc, ◌+◌, ◌<◌, ◌≤◌, ◌==◌, true, false, cond, not, List, [], ◌∷◌, ◌++◌, length, map, filter, take, drop, get_or, Some, None, sym, ap, ◌∙◌, arith}
 use Rattle.std.specs.List.{All, remove as remove_at}
 use Rattle.std.proofs.lemmas.Bool.Decides.{nat_tests}

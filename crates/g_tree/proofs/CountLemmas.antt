@@ -1,4 +1,5 @@
 -- What is remembered of files: the greatest generations by name, and the blocks by owner.
+-- serves: counts_of, erase, lower (newest), newest_but (generation), put, rename, renew, take_later (topped), take_out (newest, topped), used (few), and 1 more
 use Rattle.std.proofs.Common.{◌≡◌, ◌≢◌, ℕ, zero, suc, ◌+◌, ◌-◌, ◌<◌, ◌≤◌, ◌==◌, Bool, true, false, cond, List, [], ◌∷◌, ◌++◌, length, max, take, drop, get_or, replicate, Option, Some, None, is_some, inl, inr, refl, sym, ap, subst, ◌∙◌, arith, true≢false}
 use Rattle.std.proofs.Math.ListN.{set}
 use Rattle.std.specs.List.{All, Contains}

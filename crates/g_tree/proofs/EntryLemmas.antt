@@ -1,4 +1,5 @@
 -- What is known by full name, and how it changes.
+-- serves: close (entries), counts_of, fall (entries), lower (newest, numbers, topped), newest (generation, number), and 14 more
 use Rattle.std.proofs.Common.{◌≡◌, ◌≢◌, ℕ, suc, ◌+◌, ◌<◌, ◌≤◌, ◌==◌, Bool, true, false, cond, ◌&&◌, List, [], length, max, take, drop, nat_lt, get_or, Option, Some, None, is_some, inl, inr, refl, sym, ap, subst, ◌∙◌, arith, true≢false}
 use Rattle.std.proofs.Math.ListN.{set}
 use Rattle.std.specs.List as list

@@ -1,4 +1,5 @@
 -- How the tree changes with its records, and what users' numbers are.
+-- serves: bytes_go_by_record, erase (tree), is_superior, put (tree), records_change_the_tree, space_left, user_number (named), users_go_by_name, crates above
 use Rattle.std.proofs.Common.{◌≡◌, ◌≢◌, ℕ, ◌<◌, ◌==◌, true, false, cond, List, length, get_or, Option, Some, None, unwrap_or, not, refl, sym, ap, subst, ◌∙◌, arith, inl, inr, true≢false}
 use Rattle.std.specs.List.{Contains}
 use Rattle.std.specs.Option.{option_map}

@@ -1,4 +1,5 @@
 -- Lists: what holds of pairs, what is kept and mapped, and the greatest of what is kept.
+-- serves: ChangeLemmas, CountLemmas, FaultLemmas, InUserLemmas, LawLemmas, MapLemmas, PlaceLemmas, PutLemmas, RecordLemmas, RuleLemmas, TrapLemmas, and 2 more
 use Rattle.std.proofs.Common.{◌≡◌, ℕ, zero, suc, ◌+◌, ◌<◌, ◌≤◌, Bool, true, false, cond, ◌&&◌, List, [], ◌∷◌, ◌++◌, length, map, filter, fold, max, sum_by, take, drop, get_or, refl, sym, ap, ◌∙◌, arith, ◌⊎◌, inl, inr, true≢false}
 use Rattle.std.specs.List.{AllPairs, All, AllByRecursion, Contains}
 use Rattle.std.proofs.Math.Seq.{drop-cons}

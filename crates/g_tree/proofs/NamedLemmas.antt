@@ -1,4 +1,5 @@
 -- The rows of users and files by their names and by their numbers.
+-- serves: is_ninth, len (len), modes_of, number, number_of (named), space_left, FaultLemmas, GrantLemmas, crates above
 use Rattle.std.proofs.Common.{◌≡◌, ℕ, true, List, Option, Some, None, IfSome, is_some, unwrap_or, refl, sym, ap, ◌∙◌, true≢false}
 use Rattle.std.proofs.lemmas.List.{length-replicate}
 use Rattle.std.specs.Option.{option_map}

@@ -1,4 +1,5 @@
 -- The place of a number among files sorted by number, and what is found there.
+-- serves: erase (records), file_at (value), free_file (least, unused), lower (newest), newest_but (generation), put (same_name), rename, renew, and 7 more
 use Rattle.std.proofs.Common.{◌≡◌, ℕ, zero, suc, ◌<◌, ◌≤◌, ◌⊎◌, List, [], ◌∷◌, cond, length, get_or, Some, None, is_some, false, refl, sym, ap, subst, ◌∙◌, arith, inl, inr, true≢false}
 use Rattle.std.specs.List.{AllWithin}
 use Rattle.std.specs.Option.{option_map}

@@ -1,4 +1,5 @@
 -- How a changed record changes the maps that records represent.
+-- serves: put (same_name), rename, renew, replace (same_name), CountLemmas, EntryLemmas, LawLemmas, UserLemmas, crates above
 use Rattle.std.proofs.Common.{◌≡◌, ◌≢◌, ℕ, suc, ◌+◌, ◌<◌, ◌≤◌, Bool, true, false, cond, List, [], ◌∷◌, ◌++◌, length, map, filter, take, drop, nat_eq, nat_lt, ◌&&◌, get_or, Option, Some, None, refl, sym, ap, subst, ◌∙◌, arith, is_some, true≢false, ◌⊎◌, inl, inr, not}
 use Rattle.std.proofs.Math.ListN.{set}
 use Rattle.std.specs.List.{All, AllWithin, Contains}

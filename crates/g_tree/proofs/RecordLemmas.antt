@@ -1,4 +1,5 @@
 -- From numbered records to the tree of names.
+-- serves: by_number, find (there), find_user (there), input (there), len (len), listing, newest_file (few), number, and 18 more
 use Rattle.std.proofs.Common.{◌≡◌, ◌≢◌, ◌⊎◌, ℕ, zero, suc, ◌<◌, ◌≤◌, ◌==◌, true, false, cond, ◌&&◌, List, [], ◌∷◌, length, map, filter, fold, max, sum_by, Option, Some, None, is_some, unwrap_or, refl, sym, ap, ◌∙◌, arith, inl, inr, true≢false, get_or}
 use Rattle.std.specs.List.{All, AllPairs}
 use Rattle.std.specs.Option.{option_map}

@@ -1,4 +1,5 @@
 -- The row of the file of a number, and what users may do with it.
+-- serves: erase, full_name (number, there), is_ninth, len_of (few, len), modes_of, replace, users_go_by_name, crates above
 use Rattle.std.proofs.Common.{◌≡◌, ℕ, ◌<◌, ◌==◌, cond, bit_or, codes, List, length, Some, IfSome, unwrap_or, is_some, true, sym, ap, subst, ◌∙◌, arith, inr}
 use Rattle.std.specs.List.{Contains}
 use Rattle.std.specs.Option.{option_map}

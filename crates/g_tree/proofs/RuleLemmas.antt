@@ -1,4 +1,5 @@
 -- Records that satisfy their rules represent a tree that satisfies its rules.
+-- serves: files, records_make_a_tree, rows_are_of_records, users, FaultLemmas, LawLemmas, NamedLemmas, crates above
 use Rattle.std.proofs.Common.{◌≡◌, ℕ, zero, suc, ◌^◌, ◌<◌, ◌≤◌, ◌==◌, true, false, cond, not, nat_lt, codes, List, [], ◌∷◌, length, map, get_or, Option, Some, None, is_some, unwrap_or, refl, sym, ap, subst, ◌∙◌, arith, true≢false}
 use Rattle.std.specs.List.{All, Contains, list_all}
 use Rattle.std.specs.Option.{option_map}

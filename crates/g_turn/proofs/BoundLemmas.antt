@@ -1,4 +1,5 @@
 -- Works within limits, and programs that keep to them: closure under the ways to build them.
+-- serves: CommandBounds, DocumentLemmas, KeptLemmas, RunBounds, UnitsLemmas, VerbBounds, crates above
 use Rattle.std.proofs.Common.{◌≡◌, ℕ, ◌+◌, ◌≤◌, Bool, true, false, List, [], ◌∷◌, ◌++◌, length, length-append, nat_lt, Option, Some, None, Err, IfSome, is_some, if◌then◌else◌, refl, sym, subst, le_trans, arith}
 use Rattle.std.proofs.lemmas.Bool.{ltb-false}
 use Rattle.g_base.specs.Block.{blocks_for}

@@ -1,4 +1,5 @@
 -- The programs of commands, lines and turns stay within the limits.
+-- serves: crates above
 use Rattle.std.proofs.Common.{ℕ, ◌+◌, ◌≤◌, Bool, true, false, List, Option, Some, None, Result, Ok, Err, codes, refl, le_refl, lit≤, arith}
 use Rattle.g_turn.specs.Bounds.{AlwaysGives}
 use Rattle.g_turn.specs.Commands.{acted, command, done_if, gone, kept, passes_document}

@@ -1,4 +1,5 @@
 -- No turn changes the lines of a job's document, or whether it is held open. A turn may drop the document once it isn't held open.
+-- serves: crates above
 use Rattle.std.proofs.Common.{◌≡◌, ◌⊎◌, ℕ, ◌<◌, Bool, true, false, List, [], ◌∷◌, length, nat_le, Option, Some, None, Result, Ok, Err, IfSome, is_some, refl, sym, ◌∙◌, ap, subst, inl, inr, if◌then◌else◌, ◌||◌, ◌&&◌, take, arith}
 use Rattle.std.proofs.lemmas.Bool.{false≢true}
 use Rattle.g_turn.specs.Bounds.{AlwaysGives}

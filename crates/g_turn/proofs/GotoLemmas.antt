@@ -1,4 +1,5 @@
 -- A line that is a GOTO.
+-- serves: run_document_line (err, ok)
 use Rattle.std.proofs.Common.{Bool, Err, List, Ok, Option, Result, Some, ap, false, refl, subst, sym, ℕ, ◌∙◌, ◌≡◌}
 use Rattle.g_lang.specs.LineReader.{reading}
 use Rattle.g_lang.specs.Lines.{Reading, Said}

@@ -1,4 +1,5 @@
 -- Works that continue, and honest programs: closure under the ways to build them.
+-- serves: CommandLemmas, RunLemmas, VerbLemmas
 use Rattle.std.proofs.Common.{◌≡◌, ℕ, Bool, true, false, List, [], ◌∷◌, ◌++◌, ◌+◌, length, nat_lt, Option, Some, None, Err, is_some, if◌then◌else◌, refl, sym, ap, subst}
 use Rattle.g_turn.specs.Causes.{GoesOn, IsHonest, IsOther, StopsAt}
 use Rattle.g_turn.specs.Outcomes.{set_outcome, in_error, is_over, refused, say, say_all, stopped}

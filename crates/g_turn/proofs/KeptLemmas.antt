@@ -1,5 +1,6 @@
 -- No verb and no command changes what a turn resumes with. Each preserves any property of the levels that is preserved by replacing the current level
 -- by one with the same lines and by pushing a macro's level.
+-- serves: DocumentLemmas, ReadyLemmas
 use Rattle.std.proofs.Common.{◌≡◌, ℕ, suc, zero, ◌+◌, ◌-◌, Bool, true, false, List, [], ◌∷◌, ◌++◌, length, nat_lt, Option, Some, None, Result, Ok, Err, unwrap_or, codes, if◌then◌else◌, refl}
 use Rattle.g_turn.specs.Actions.{act}
 use Rattle.g_turn.specs.Asking.{append, append_told, by_answer, one_call, put, put_told}

@@ -1,4 +1,5 @@
 -- A run of the program, order by order.
+-- serves: go_on (ok), step (ok), PlainLemmas
 use Rattle.std.proofs.Common.{◌≡◌, ◌+◌, ◌-◌, ◌<◌, ◌≤◌, ℕ, suc, Bool, true, false, List, Option, Some, None, if◌then◌else◌, length, nat_lt, refl, sym, ap, ◌∙◌, subst, arith}
 use Rattle.g_turn.specs.Runs.{Ends, Goes, behind_event, behind_order, by_event, goes_on, next_order, order_of, run_orders}
 use Rattle.g_turn.specs.Outcomes.{is_over, say}

@@ -1,4 +1,5 @@
 -- Orders whose event is Ran, many at once: a run continues after them as after each of them.
+-- serves: run_plain (same)
 use Rattle.std.proofs.Common.{◌≡◌, ◌+◌, ◌<◌, ◌≤◌, ℕ, zero, suc, Bool, true, false, Option, Some, None, refl, sym, ap, ◌∙◌, arith}
 use Rattle.g_turn.specs.Runs.{Goes, behind_order, by_event, goes_on, next_order}
 use Rattle.g_turn.specs.Outcomes.{is_over}

@@ -1,4 +1,5 @@
 -- The outcome of a part of a turn.
+-- serves: any_verb, command, display_line, erase_line, input_line, list_line
 use Rattle.std.proofs.Common.{◌≡◌, ℕ, ◌+◌, ◌≤◌, Bool, false, List, Ok, Result, OnOk, arith, refl, subst, sym}
 use Rattle.std.proofs.lemmas.Result.{on_ok_weaker}
 use Rattle.g_base.specs.declared.memory.NoMemory.{NoMemory}

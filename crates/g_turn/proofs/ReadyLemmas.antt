@@ -1,4 +1,5 @@
 -- Invariants of the code of a line: what the turn resumes with, and its level.
+-- serves: append, behind_echo (err), drop_again, drop_program (err), fire_first (err, ok), fires (err), goes (err, ready), long_line (err), put, and 11 more
 use Rattle.std.proofs.Common.{◌≡◌, ℕ, ◌<◌, ◌≤◌, Bool, true, false, List, [], ◌∷◌, length, Option, Some, None, Result, Ok, Err, IfSome, OnErr, is_some, refl, sym, ap, ◌∙◌, subst, arith}
 use Rattle.std.proofs.lemmas.Bool.{false≢true}
 use Rattle.g_base.specs.declared.memory.NoMemory.{NoMemory}

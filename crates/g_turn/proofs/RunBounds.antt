@@ -1,4 +1,5 @@
 -- A run of the program stays within its orders and all other limits.
+-- serves: CommandBounds, VerbBounds
 use Rattle.std.proofs.Common.{ℕ, zero, suc, ◌+◌, ◌-◌, ◌≤◌, Bool, true, false, List, Option, Some, None, le_refl, sym, subst, arith}
 use Rattle.g_turn.specs.Runs.{Ends, Goes, Order, behind_event, behind_order, by_event, entered, goes_on, one_order, order_of, resumed, run_orders, run_over, running_by, without_program}
 use Rattle.g_turn.specs.Outcomes.{set_outcome, in_error, is_over}

@@ -1,4 +1,5 @@
 -- Appending a line to the text and then ending it is printing the line.
+-- serves: end_line (ok), list_bytes (ok), refuse, say_reply (ok)
 use Rattle.std.proofs.Common.{◌≡◌, ℕ, ◌+◌, ◌≤◌, Bool, true, false, true≢false, List, [], ◌∷◌, ◌++◌, length, length-append, take, drop, append_assoc, nat_lt, if◌then◌else◌, refl, sym, ap, subst, ◌∙◌}
 use Rattle.std.proofs.lemmas.List.{take-append-drop, take-append-le}
 use Rattle.g_turn.specs.Outcomes.{error_said, is_over, refused, say, say_all, stopped}

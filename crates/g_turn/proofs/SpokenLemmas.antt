@@ -1,4 +1,5 @@
 -- What the lines read say, and the effect of a command after conditions.
+-- serves: +behind_conditions (met), any_verb, read_line (reading, well)
 use Rattle.std.proofs.Common.{◌≡◌, ◌∙◌, ℕ, Bool, true, false, List, [], ◌∷◌, Option, Some, None, Result, Ok, Err, IfSome, option_map, if◌then◌else◌, refl, sym, ap, subst}
 use Rattle.std.proofs.lemmas.Bool.{false≢true}
 use Rattle.g_turn.specs.Commands.{command, done_if}

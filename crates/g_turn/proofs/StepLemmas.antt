@@ -1,4 +1,5 @@
 -- The contract of a store for one call.
+-- serves: ask_any (granted, refused)
 use Rattle.std.proofs.Common.{◌≡◌, ◌↔◌, ℕ, Bool, true, false, List, Ok, Err, IfErr, IfOk, true≢false, refl}
 use Rattle.g_turn.specs.Bounds.{MayAnswer}
 use Rattle.g_turn.specs.Steps.{IsStep}

@@ -1,4 +1,5 @@
 -- One order of a program preserves the number of outputs.
+-- serves: RunBounds
 use Rattle.std.proofs.Common.{◌≡◌, ℕ, ◌+◌, ◌-◌, Bool, true, false, List, [], ◌∷◌, ◌++◌, length, length-set, nat_le, nat_lt, Option, Some, None, option_map, if◌then◌else◌, refl}
 use Rattle.g_mill.specs.Effect.{order}
 use Rattle.g_mill.specs.Machine.{Machine}

@@ -1,4 +1,5 @@
 -- The use of a file's bytes, by what they were fetched for.
+-- serves: append (err), assign (err), one_call (err), put (err), use_fetched (err, ok)
 use Rattle.std.proofs.Common.{◌≡◌, ℕ, Bool, true, false, true≢false, if◌then◌else◌, List, OnErr, Result, Ok, Err, inr, length, refl, sym, subst}
 use Rattle.g_turn.specs.Asking.{append, one_call, put}
 use Rattle.g_turn.specs.Outcomes.{in_error, is_over, refused, with_bytes}

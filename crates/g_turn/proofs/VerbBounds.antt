@@ -1,4 +1,5 @@
 -- The programs of verbs stay within the limits: at most 2,048 blocks, those of 16 outputs.
+-- serves: CommandBounds, crates above
 use Rattle.std.proofs.Common.{ℕ, ◌+◌, ◌*◌, ◌≤◌, Bool, true, false, List, [], ◌∷◌, length, Option, Some, None, Result, Ok, Err, unwrap_or, codes, if◌then◌else◌, length-set, suc, le_refl, sym, subst, arith}
 use Rattle.std.proofs.lemmas.Bool.{false≢true}
 use Rattle.g_turn.specs.Actions.{act}

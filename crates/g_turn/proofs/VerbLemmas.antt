@@ -1,4 +1,5 @@
 -- The programs of verbs are honest.
+-- serves: CommandLemmas
 use Rattle.std.proofs.Common.{ℕ, ◌+◌, Bool, true, false, List, [], ◌∷◌, length, Option, Some, None, Result, Ok, Err, unwrap_or, if◌then◌else◌, refl}
 use Rattle.g_turn.specs.Actions.{act}
 use Rattle.g_turn.specs.Asking.{append, append_told, by_answer, one_call, put, put_told}

@@ -1,4 +1,5 @@
 -- Programs built from others, run on any store.
+-- serves: behind_echo (err, ok), goes (err, ok), GotoLemmas, ReadyLemmas, ReleaseLemmas, UnitsLemmas, crates above
 use Rattle.std.proofs.Common.{◌≡◌, ℕ, Bool, true, false, List, Ok, Err, refl, sym, ap, ◌∙◌, subst, inr, if◌then◌else◌}
 use Rattle.g_turn.specs.Bounds.{AlwaysGives, MayAnswer}
 use Rattle.g_turn.specs.Outcomes.{is_over}

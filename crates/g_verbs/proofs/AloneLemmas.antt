@@ -1,4 +1,5 @@
 -- Verbs that are read without building their list of parameters: those of one file and of two, RENAME, and DISPLAY.
+-- serves: file_and_local, only_file, read_by, read_file, read_files, read_known (grammar, sound), read_rename, two_files, crates above
 use Rattle.std.proofs.Common.{Err, IfOk, List, MatchOption, None, Ok, Option, Result, Some, [], ap, arith, length, refl, subst, suc, sym, true, zero, ℕ, ◌-◌, ◌≤◌, ◌∙◌, ◌∷◌, ◌≡◌, ◌≢◌}
 use Rattle.std.specs.List.{slice_get}
 use Rattle.g_lang.proofs.ParseLemmas.{params-some}

@@ -1,4 +1,5 @@
 -- The values of parameters.
+-- serves: digit_unit, file, parameter, short_file, ReadLemmas, SaidLemmas, WalkLemmas, crates above
 use Rattle.std.proofs.Common.{Bool, Err, IfOk, List, None, Ok, Option, Result, Some, [], ap, arith, codes, drop, eqb-true, get_or, le-leb, leb-true, length, min, refl, subst, sym, true, ℕ, ◌+◌, ◌-◌, ◌<◌, ◌≤◌, ◌∙◌, ◌∷◌, ◌++◌, ◌^◌, ◌≡◌}
 use Rattle.std.specs.Prelude.{if◌then◌else◌, is_some, nat_le, ◌&&◌, ◌==◌}
 use Rattle.std.specs.Fmt.{decimal}

@@ -1,4 +1,5 @@
 -- A verb is read as the action it says, and as no other.
+-- serves: read_from, verbs_are_read_by_their_forms (one, reads), AloneLemmas
 use Rattle.std.proofs.Common.{Err, List, None, Ok, Option, Result, Some, [], ap, arith, codes, false, length, map, refl, subst, suc, sym, true, zero, ℕ, ◌<◌, ◌≤◌, ◌∙◌, ◌∷◌, ◌≡◌}
 use Rattle.std.specs.Fmt.{decimal}
 use Rattle.std.specs.Prelude.{replicate}

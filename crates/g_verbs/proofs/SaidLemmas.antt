@@ -1,4 +1,5 @@
 -- A verb with good parameters says its action.
+-- serves: ReadLemmas
 use Rattle.std.proofs.Common.{List, Option, Some, [], ap, arith, drop, false, length, map, refl, subst, suc, sym, zero, ℕ, ◌<◌, ◌≤◌, ◌∙◌, ◌∷◌, ◌≡◌}
 use Rattle.std.specs.Fmt.{decimal}
 use Rattle.std.specs.Prelude.{unwrap_or}

@@ -1,4 +1,5 @@
 -- The first wrong parameter is found, and there is at most one.
+-- serves: assign, budget, enter, file_and_local, file_user_modes, first_wrong, new_user, only_file, release, set_param, trap_check, two_files, and 2 more
 use Rattle.std.proofs.Common.{Bool, List, None, Option, Some, [], ap, arith, drop, false, get_or, length, pred, refl, subst, suc, sym, true, zero, ℕ, ◌+◌, ◌-◌, ◌<◌, ◌≤◌, ◌∙◌, ◌∷◌, ◌≡◌, ⊎_elim}
 use Rattle.std.specs.Prelude.{if◌then◌else◌, ◌==◌}
 use Rattle.std.specs.List.{slice_get}

@@ -1,4 +1,5 @@
 -- Facts about shifting and rotating the bits of a word, over plain numbers.
+-- serves: rotate, shift
 use Rattle.std.proofs.Common.{◌≡◌, ℕ, ◌+◌, ◌-◌, ◌*◌, ◌/◌, ◌%◌, ◌^◌, ◌<◌, ◌≤◌, sym, ◌∙◌, ap, subst, arith, add-zero}
 use Rattle.std.proofs.lemmas.Nat.{pow_pos, pow-add, mod-pow-add, div-mul-add, mul-add-lt}
 use Rattle.std.proofs.Math.Nat.{mul-mod_left, div-eq_of_lt, div-lt_iff_lt-mul, mod-lt, mul_comm, mul_assoc, pow-le-pow_right}
