@@ -27,9 +27,11 @@ pub data Posting : Type 0 where
   Reserve : ℕ → Posting
   Settle : ℕ → ℕ → Posting
 
+-- The jobs after one more began with this allowance.
 abbrev pub begun : Jobs → ℕ → Jobs
 begun jobs ask = record { charges = jobs.charges; allowances = ask ∷ jobs.allowances }
 
+-- The jobs after the one at this place ended with this charge.
 abbrev pub ended : Jobs → ℕ → ℕ → Jobs
 ended jobs place used = record { charges = used ∷ jobs.charges; allowances = remove jobs.allowances place }
 

@@ -31,6 +31,7 @@ abbrev pub IsAccumulator : Option ℕ → ℕ → List (List ℕ) → Type 0
 IsAccumulator None x texts = (x < 8) × (texts ≡ ((48 + x) ∷ []) ∷ [])
 IsAccumulator (Some y) x texts = (x ≡ y) × (texts ≡ [])
 
+-- The words for the address, if the name has one: a value and its modifier.
 abbrev pub IsAddressOf : Option ℕ → Bool → ℕ → Value → List (List ℕ) → Type 0
 IsAddressOf None may m v texts = (m ≡ 0) × (v ≡ Number 0) × (texts ≡ [])
 IsAddressOf (Some most) may m v texts =
