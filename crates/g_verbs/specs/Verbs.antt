@@ -24,6 +24,7 @@ verbs =
     ∷ verb.TrapCheck ∷ verb.NewUser ∷ verb.Budget ∷ verb.Retrieve ∷ verb.Load ∷ verb.Plan ∷ verb.Enter ∷ verb.Resume
     ∷ verb.Assign ∷ verb.Release ∷ verb.Delete ∷ verb.SetParam ∷ verb.Display ∷ verb.EndJob ∷ []
 
+-- The name of a verb.
 abbrev pub verb_word : Verb → List ℕ
 verb_word verb.Input = codes "INPUT"
 verb_word verb.Copy = codes "COPY"
@@ -79,13 +80,16 @@ verb_forms verb.SetParam = at_least 1 (form.Letter ∷ form.Text ∷ [])
 verb_forms verb.Display = record { all = form.Text ∷ []; least = 1; any_more = true }
 verb_forms verb.EndJob = just []
 
+-- The parameters of a macro: up to 24 texts.
 abbrev pub macro_forms : Forms
 macro_forms = at_least 0 (replicate 24 form.Text)
 
+-- The parameters of a verb, or of a macro.
 abbrev pub forms_with : Option Verb → Forms
 forms_with None = macro_forms
 forms_with (Some verb) = verb_forms verb
 
+-- The parameters that a name requires.
 abbrev pub forms_of : List ℕ → Forms
 forms_of name = forms_with (verb_of name)
 
@@ -94,10 +98,12 @@ abbrev pub MayBeUser : Option (List ℕ) → List (List ℕ) → Type 0
 MayBeUser None texts = texts ≡ []
 MayBeUser (Some user) texts = (text : List ℕ) × IsUser user text × (texts ≡ text ∷ [])
 
+-- An amount of MONEY, or no parameter.
 abbrev pub MayBeMoney : Option ℕ → List (List ℕ) → Type 0
 MayBeMoney None texts = texts ≡ []
 MayBeMoney (Some n) texts = (text : List ℕ) × IsAmount kind.Money n text × (texts ≡ text ∷ [])
 
+-- A text, or no parameter.
 abbrev pub MayBeText : Option (List ℕ) → List (List ℕ) → Type 0
 MayBeText None texts = texts ≡ []
 MayBeText (Some text) texts = texts ≡ text ∷ []
@@ -106,6 +112,7 @@ MayBeText (Some text) texts = texts ≡ text ∷ []
 abbrev pub FileVerb : List ℕ → Path → List ℕ → List (List ℕ) → Type 0
 FileVerb word file name params = (name ≡ word) × ((a : List ℕ) × IsFile file a × (params ≡ a ∷ []))
 
+-- A verb with exactly two files.
 abbrev pub TwoFiles : List ℕ → Path → Path → List ℕ → List (List ℕ) → Type 0
 TwoFiles word from to name params =
     (name ≡ word) × ((a : List ℕ) × (b : List ℕ) × IsFile from a × IsFile to b × (params ≡ a ∷ b ∷ []))
