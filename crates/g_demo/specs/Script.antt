@@ -7,6 +7,7 @@ use Rattle.g_lines.specs.Lines.{text_of}
 abbrev pub next : ℕ → ℕ
 next state = (1664525 * state + 1013904223) % 2 ^ 32
 
+-- The number below a bound that is drawn in a state.
 abbrev pub drawn : ℕ → ℕ → ℕ
 drawn below state = state / 65536 % below
 
@@ -53,6 +54,7 @@ behind_job i state =
     else if i % 50 == 0 then at_turn (4 * i) (codes "DUMP 1") ∷ []
     else []
 
+-- The lines of round i.
 abbrev pub round_lines : ℕ → ℕ → List (List ℕ)
 round_lines i state = drawn_job i state ++ behind_job i state
 
@@ -61,6 +63,7 @@ unfoldable pub rounds_lines : ℕ → ℕ → List (List ℕ)
 rounds_lines number zero = []
 rounds_lines number (suc i) = rounds_lines number i ++ round_lines (suc i) (behind_rounds number i)
 
+-- The first lines.
 abbrev pub opening : List (List ℕ)
 opening = codes "0 FORMAT" ∷ codes "0 MOUNT 1" ∷ []
 
@@ -74,5 +77,6 @@ closing =
 abbrev pub script_lines : ℕ → ℕ → List (List ℕ)
 script_lines number rounds = opening ++ (rounds_lines number rounds ++ closing)
 
+-- The text of the script.
 abbrev pub script_text : ℕ → ℕ → List ℕ
 script_text number rounds = text_of (script_lines number rounds)

@@ -37,6 +37,7 @@ charged j (a ∷ kept) = if same_text a.user j.user then less j a ∷ kept else 
 abbrev pub row_budgets : List ℕ × UserRow → ℕ × ℕ
 row_budgets e = (e.1.time, e.1.money)
 
+-- The budgets of TIME and MONEY in a user's record.
 abbrev pub record_budgets : UserRec → ℕ × ℕ
 record_budgets r = (r.time, r.money)
 

@@ -36,6 +36,7 @@ abbrev pub said_seat : NotSeated → Option (List ℕ)
 said_seat (TerminalBusy t) = Some (busy_text t)
 said_seat (NotTaken why) = said why
 
+-- The text of a LOGIN's result, if it is refused.
 abbrev pub printed_login : {A : Type 0} → Result A NotSeated → Option (List ℕ)
 printed_login (Ok number) = None
 printed_login (Err reason) = said_seat reason

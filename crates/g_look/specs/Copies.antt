@@ -15,6 +15,7 @@ pub record IsHeldAt (dumps : List Dump) (copy : TapeCopy) (len : ℕ) (text : Li
   pub long : length text ≡ len
   pub content : 0 < len → IsContent dumps copy text
 
+-- No text of this length is content of the dumps at this copy.
 abbrev pub IsHeldNowhere : List Dump → TapeCopy → ℕ → Type 0
 IsHeldNowhere dumps copy len = (text : List ℕ) → length text ≡ len → IsContent dumps copy text → ⊥
 
@@ -24,6 +25,7 @@ pub record IsHeldBy (dumps : List Dump) (r : FileRec) (text : List ℕ) : Type 0
   pub copy_is : r.tape ≡ Some copy
   pub held : IsHeldAt dumps copy r.len text
 
+-- The text is that of the file's copy on the disc, if it has one, otherwise that of its copy on tape, if the devices expose their blocks.
 abbrev pub AreBytesAt : Option (List (List ℕ)) → Rack → FileRec → Option DiscCopy → List ℕ → Type 0
 AreBytesAt held rack r None text = OfDumps rack (λ dumps. IsHeldBy dumps r text)
 AreBytesAt held rack r (Some copy) text = ForSome held (λ blocks. text ≡ bytes_at copy.blocks copy.len blocks)

@@ -23,10 +23,12 @@ file_front full users r =
 abbrev pub place_text : ℕ → List ℕ
 place_text k = told (codes " ") k
 
+-- The blocks of a file's copy on the disc.
 abbrev pub blocks_text : Option DiscCopy → List ℕ
 blocks_text None = []
 blocks_text (Some copy) = codes " DISC" ++ flat_map place_text copy.blocks
 
+-- The place of a file's copy on tape.
 abbrev pub taped_text : Option TapeCopy → List ℕ
 taped_text None = []
 taped_text (Some c) = copy_text c
@@ -39,5 +41,6 @@ empty_text len = if len == 0 then codes " DISC" else []
 abbrev pub disc_file_line : Full → List UserRec → Option DiscCopy → FileRec → List ℕ
 disc_file_line full users copy r = file_front full users r ++ blocks_text copy ++ taped_text r.tape
 
+-- The line of a file that a restore gives.
 abbrev pub dumped_file_line : Full → List UserRec → FileRec → List ℕ
 dumped_file_line full users r = file_front full users r ++ empty_text r.len ++ taped_text r.tape

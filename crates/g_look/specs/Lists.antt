@@ -24,6 +24,7 @@ use Rattle.g_look.specs.Text.{told}
 abbrev pub by_full : {X : Type 0} → (X → FileRec) → List UserRec → List X → List (Full × X)
 by_full rec users files = entries (from_entries {R = full_cmp} (map (λ f. (full_of users (rec f), f)) files))
 
+-- The files of one user, with their full names, in order of these.
 abbrev pub files_named : {X : Type 0} → (X → FileRec) → List UserRec → List X → List ℕ → List (Full × X)
 files_named rec users files user = filter (λ e. same_text e.0.user user) (by_full rec users files)
 
@@ -31,6 +32,7 @@ files_named rec users files user = filter (λ e. same_text e.0.user user) (by_fu
 abbrev pub user_lines : Directory → List ℕ → List (List ℕ)
 user_lines d user = map (λ e. disc_file_line e.0 d.users e.1.1 e.1.0) (files_named (λ f. f.0) d.users d.files user)
 
+-- The lines of the files of all users, or of one.
 abbrev pub file_lines : Directory → Option (List ℕ) → List (List ℕ)
 file_lines d None = flat_map (λ u. user_lines d u.user) d.users
 file_lines d (Some user) = user_lines d user
@@ -39,6 +41,7 @@ file_lines d (Some user) = user_lines d user
 abbrev pub list_lines : Directory → Option (List ℕ) → List (List ℕ)
 list_lines d only = file_lines d only ++ told (codes "LISTED ") (length (file_lines d only)) ∷ []
 
+-- One of the users has this name.
 abbrev pub HasUser : List UserRec → List ℕ → Type 0
 HasUser users name = (u : UserRec) × Contains users u × (u.user ≡ name)
 
@@ -61,6 +64,7 @@ pub record IsNobody (blocks : List (List ℕ)) (only : Option (List ℕ)) : Type
 abbrev pub dumped_user_lines : List UserRec → List FileRec → List ℕ → List (List ℕ)
 dumped_user_lines users files user = map (λ e. dumped_file_line e.0 users e.1) (files_named (λ r. r) users files user)
 
+-- The lines of the files that a restore gives, and the last line.
 abbrev pub dumped_lines : List UserRec → List FileRec → ℕ → List (List ℕ)
 dumped_lines users files number = flat_map (λ u. dumped_user_lines users files u.user) users ++ told (codes "RESTORABLE FROM DUMP ") number ∷ []
 
@@ -71,6 +75,7 @@ IsRefusal dumps (LostDirectory user) = IsLostDirectory dumps user
 IsRefusal dumps (LostCopy full serial) = IsFirstLost dumps full serial
 IsRefusal dumps fault = ⊥
 
+-- The line of a refusal.
 abbrev pub refused_text : StoreFault → List ℕ
 refused_text fault = ended (codes "REFUSED " ++ fault_line fault)
 
