@@ -47,7 +47,7 @@ IsCond cond = IsTest cond.test
 abbrev pub cond_text : Cond → List ℕ
 cond_text cond = (if cond.negated then codes "NOT " else []) ++ test_text cond.test
 
--- The two conditions are the same.
+-- Two tests are the same: of the same kind, with the same letter and the same text.
 abbrev pub same_test : Test → Test → Bool
 same_test CommandError CommandError = true
 same_test Failed Failed = true

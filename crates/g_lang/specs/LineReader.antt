@@ -142,7 +142,7 @@ parts_of depth [] = [] ∷ []
 parts_of depth (c ∷ cs) =
     if c == 44 && depth == 0 then [] ∷ parts_of 0 cs else onto_first c (parts_of (depth_behind c depth) cs)
 
--- The text before the first comma outside of brackets, and the text after it.
+-- The text before the first comma outside of brackets.
 abbrev pub before_comma : ℕ → List ℕ → List ℕ
 before_comma depth [] = []
 before_comma depth (c ∷ cs) = if c == 44 && depth == 0 then [] else c ∷ before_comma (depth_behind c depth) cs

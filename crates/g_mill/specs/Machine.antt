@@ -22,7 +22,7 @@ size s = length s.words
 abbrev pub word_at : Machine → ℕ → ℕ
 word_at s a = slice_index s.words a
 
--- The accumulator that the X of an order names, and the next one; X0 follows X7.
+-- The accumulator that the X of an order names.
 abbrev pub accumulator : Machine → Fields → ℕ
 accumulator s o = word_at s o.x
 

@@ -35,7 +35,8 @@ abbrev pub is_among : List (List ℕ) → Option (List ℕ) → Bool
 is_among earlier None = false
 is_among earlier (Some label) = list_any (has_label label) earlier
 
--- The first line that isn't blank is PROGRAM, and no other line is.
+-- The form, if it is allowed at its place. The flag says whether all earlier lines are blank; then only PROGRAM is allowed, otherwise every form but
+-- PROGRAM.
 abbrev pub in_place : Bool → Form → Option Form
 in_place true (Program n) = Some (Program n)
 in_place true other = None
@@ -94,11 +95,11 @@ address all row v = option_and_then (at_most row.most) (resolved all v)
 abbrev pub fields_with : Row → ℕ → ℕ → ℕ → Fields
 fields_with row x m a = record { x = x; f = row.f; m = m; n = a + row.adds }
 
--- Four characters in a word, filled up with spaces after the last.
+-- The word of four characters.
 abbrev pub four : ℕ → ℕ → ℕ → ℕ → ℕ
 four a b c d = ((code_of a * 64 + code_of b) * 64 + code_of c) * 64 + code_of d
 
--- The words of characters, four in each.
+-- The words of characters, four in each; the last word is filled up with spaces.
 abbrev pub char_words : List ℕ → List ℕ
 char_words [] = []
 char_words (a ∷ []) = four a 32 32 32 ∷ []
@@ -113,7 +114,7 @@ given all (Chars text) = Some (char_words text)
 given all (Order name x m v) = option_map (λ a. word_of (fields_with (row_of name) x m a) ∷ []) (address all (row_of name) v)
 given all other = Some []
 
--- The words of a line, each with its place; together they are its cells.
+-- The cells of a line: its words, each with its place.
 abbrev pub cells : List Line → Line → Option (List (ℕ × ℕ))
 cells all line = option_map (enumerate_from line.place) (option_and_then (given all) line.form)
 
@@ -159,7 +160,7 @@ bad_behind all size earlier [] = None
 bad_behind all size earlier (line ∷ lines) =
     if is_good all size earlier line then bad_behind all size (earlier ++ line ∷ []) lines else Some (length earlier + 1)
 
--- A source of blank lines has the bad line 1.
+-- The first bad line; 1 if there is none and the source has no size, as a source of blank lines.
 abbrev pub bad_or_first : Option ℕ → Option ℕ → Option ℕ
 bad_or_first None None = Some 1
 bad_or_first size bad = bad
@@ -168,7 +169,7 @@ bad_or_first size bad = bad
 abbrev pub first_bad : List Line → Option ℕ
 first_bad all = bad_or_first (size_in all) (bad_behind all (unwrap_or (size_in all) 0) [] all)
 
--- THE WORDS of a program up to the last one that a line fills; words that no line fills are 0.
+-- The word at a place: that of the first cell there, or 0 if no line fills it.
 abbrev pub word_at : List (ℕ × ℕ) → ℕ → ℕ
 word_at filled place = unwrap_or (option_map (λ cell. cell.1) (find (is_at place) filled)) 0
 
@@ -180,7 +181,7 @@ end_of filled = fold (λ last cell. max last (cell.0 + 1)) 0 filled
 abbrev pub words_up_to : List (ℕ × ℕ) → ℕ → List ℕ
 words_up_to filled end = map (word_at filled) (range_with_len 0 end)
 
--- The words of a program up to the last one that a line fills.
+-- THE WORDS of a program up to the last one that a line fills.
 abbrev pub program_words : List Line → List ℕ
 program_words all = words_up_to (all_cells all all) (end_of (all_cells all all))
 

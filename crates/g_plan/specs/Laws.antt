@@ -23,7 +23,7 @@ Assembles text (Ok file) = assembled text ≡ Ok file
 Assembles text (Err (BadPlan line)) = assembled text ≡ Err line
 Assembles text (Err NoMemory) = Unit {0}
 
--- The size of the program, and its words up to that size: those of the lines, otherwise 0.
+-- The size of the program, 0 if no line says it.
 abbrev pub size_or_none : List Line → ℕ
 size_or_none all = unwrap_or (size_in all) 0
 

@@ -24,7 +24,7 @@ only (w ∷ v ∷ ws) = None
 abbrev pub from_least : ℕ → ℕ → Option ℕ
 from_least least n = if nat_le least n then Some n else None
 
--- A label, otherwise a number.
+-- The number up to `most` that a text is, if it is one.
 abbrev pub number_value : ℕ → List ℕ → Option Value
 number_value most text = option_map Number (number_read most text)
 
@@ -37,7 +37,7 @@ named_or None number = number
 abbrev pub value_read : ℕ → List ℕ → Option Value
 value_read most text = named_or (label_read text) (number_value most text)
 
--- The word of a WORD line, which may be negative.
+-- The negative number -n as a word, modulo 2^24.
 abbrev pub negative : ℕ → Value
 negative n = Number (2 ^ 24 - n)
 
@@ -50,7 +50,7 @@ abbrev pub word_read : List ℕ → Option Value
 word_read [] = None
 word_read (c ∷ cs) = if c == 45 then negative_read cs else value_read (2 ^ 24 - 1) (c ∷ cs)
 
--- The modifier after an address.
+-- The digit from 1 to 3 in brackets, if the three bytes are that.
 abbrev pub in_brackets : ℕ → ℕ → ℕ → Option ℕ
 in_brackets c d e = if (c == 40) && (nat_le 49 d && (nat_le d 51 && (e == 41))) then Some (d - 48) else None
 
@@ -68,7 +68,7 @@ accumulator_read [] = None
 accumulator_read (c ∷ []) = if nat_le 48 c && nat_le c 55 then Some (c - 48) else None
 accumulator_read (c ∷ d ∷ cs) = None
 
--- The word of an address, with its modifier.
+-- The order with this modifier and address, if there is an address.
 abbrev pub with_modifier : Mnemonic → ℕ → Option Value → ℕ → Option Form
 with_modifier name x v m = option_map (Order name x m) v
 
@@ -78,7 +78,7 @@ address_read name x word =
     option_and_then (with_modifier name x (value_read (2 ^ 24) (before 40 word)))
     (modifier_read (row_of name).modified (drop (length (before 40 word)) word))
 
--- An order after its name, and after its accumulator.
+-- The order without an address, if no word follows.
 abbrev pub alone_read : Mnemonic → ℕ → List (List ℕ) → Option Form
 alone_read name x [] = Some (Order name x 0 (Number 0))
 alone_read name x (w ∷ ws) = None
@@ -115,7 +115,7 @@ abbrev pub order_line_read : List (List ℕ) → Option Mnemonic → Option Form
 order_line_read ws None = None
 order_line_read ws (Some name) = order_read name ws
 
--- The rest of a line after its label, by its words.
+-- The form of a CHARS line: its 1 to 40 characters.
 abbrev pub chars_read : List ℕ → Option Form
 chars_read text = if nat_le 7 (length text) && nat_le (length text) 46 then Some (Chars (drop 6 text)) else None
 

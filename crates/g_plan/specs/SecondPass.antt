@@ -12,7 +12,7 @@ use Rattle.g_plan.specs.declared.image.Image.{Image}
 use Rattle.g_plan.specs.declared.mnemonic.Row.{Row}
 use Rattle.g_plan.specs.declared.source.Line.{Line}
 
--- The parts of a form that was read are in range: the size, the number of a word, the accumulator, the modifier.
+-- The number of a WORD line is a word; a label has no such limit.
 abbrev pub IsWordValue : Value → Type 0
 IsWordValue (Number n) = n < 2 ^ 24
 IsWordValue (Named label) = Unit {0}

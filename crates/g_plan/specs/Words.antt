@@ -29,7 +29,7 @@ before stop (c ∷ cs) = if c == stop then [] else c ∷ before stop cs
 abbrev pub front_of : List ℕ → List ℕ
 front_of text = before 32 text
 
--- The text without its leading spaces, and without its trailing ones.
+-- The text without its leading spaces.
 abbrev pub without_front : List ℕ → List ℕ
 without_front [] = []
 without_front (c ∷ cs) = if c == 32 then without_front cs else c ∷ cs
@@ -44,7 +44,7 @@ abbrev pub without_back : List ℕ → List ℕ
 without_back [] = []
 without_back (c ∷ cs) = before_rest c (without_back cs)
 
--- A label is a letter and up to 7 of A to Z and 0 to 9.
+-- The byte is a capital letter or a digit.
 abbrev pub is_label_byte : ℕ → Bool
 is_label_byte c = is_letter c || is_digit c
 
