@@ -8,7 +8,7 @@ use Rattle.g_job.specs.declared.turn.Turn.TheVariants as turn
 use Rattle.g_monitor.specs.JobLines.{job_line}
 use Rattle.g_monitor.specs.declared.job_lines.JobLine.TheVariants as line
 
--- Nothing is pending.
+-- Nothing is pending, and no reel is wanted.
 abbrev pub IsClear : JobState → Type 0
 IsClear j = (j.pending ≡ None) × (j.wants ≡ None)
 

@@ -17,7 +17,7 @@ held j = with_stack held_open j
 abbrev pub seated : ℕ → JobState → JobState
 seated t j = record j { terminal = Some t }
 
--- A LINE IS TYPED; the terminal is logged out.
+-- A LINE IS TYPED: it is appended to the document.
 abbrev pub typed_to : List ℕ → JobState → JobState
 typed_to line j = with_stack (with_typed line) j
 

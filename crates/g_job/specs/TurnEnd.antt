@@ -12,7 +12,7 @@ use Rattle.g_lines.specs.Lines.{ended}
 use Rattle.g_monitor.specs.JobLines.{job_line}
 use Rattle.g_monitor.specs.declared.job_lines.JobLine.TheVariants as line
 
--- What is left of the allowances.
+-- The units of TIME that are left.
 abbrev pub units_left : JobState → ℕ
 units_left j = j.allowance - j.used
 
@@ -20,11 +20,11 @@ units_left j = j.allowance - j.used
 abbrev pub money_left : JobState → ℕ
 money_left j = j.money - j.used_money
 
--- The charge of each kind: that of the tariff, limited to what is left.
+-- The units of TIME that are charged: those of the tariff, limited to what is left.
 abbrev pub units_of : JobState → Charge → ℕ
 units_of j charge = min charge.units (units_left j)
 
--- The MONEY that is charged.
+-- The MONEY that is charged: that of the tariff, limited to what is left.
 abbrev pub money_of : JobState → Charge → ℕ
 money_of j charge = min charge.money (money_left j)
 
@@ -40,7 +40,7 @@ charged j w charge = record j {
   monitor = j.monitor ++ w.text;
 }
 
--- The charge uses up the TIME; the turn's MONEY is more than the job has left.
+-- The charge uses up the TIME.
 abbrev pub is_time_up : JobState → Charge → Bool
 is_time_up j charge = nat_le (units_left j) charge.units
 
@@ -48,13 +48,13 @@ is_time_up j charge = nat_le (units_left j) charge.units
 abbrev pub is_money_up : JobState → Charge → Bool
 is_money_up j charge = nat_lt (money_left j) charge.money
 
--- THE LAST LINE of a job that ends: its file is full, it is done, its TIME is used up, or its MONEY is.
+-- The last line of a job whose TIME or MONEY is used up; TIME comes first.
 abbrev pub up_line : Bool → Bool → JobState → Option (List ℕ)
 up_line true money_up new = Some (job_line (line.TimeUp new.used))
 up_line false true new = Some (job_line (line.MoneyUp new.used_money))
 up_line false false new = None
 
--- The last line of the job after a turn, if it ends.
+-- THE LAST LINE of a job that ends after this turn: its file is full, it is done, its TIME is used up, or its MONEY is.
 abbrev pub last_line : Option Stop → JobState → Charge → JobState → Option (List ℕ)
 last_line (Some Full) old charge new = Some (job_line line.Full)
 last_line (Some stop) old charge new = Some (job_line (line.End new.used))

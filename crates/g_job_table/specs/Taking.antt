@@ -23,7 +23,7 @@ abbrev pub IsPrinted : NotTaken → Type 0
 IsPrinted why.NoMemory = ⊥
 IsPrinted other = Unit {0}
 
--- The text of a reason, and of a result.
+-- The text of a refusal, if it is printed.
 abbrev pub said : NotTaken → Option (List ℕ)
 said why.NoMemory = None
 said other = Some (refusal_line other)

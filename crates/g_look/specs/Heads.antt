@@ -43,7 +43,7 @@ abbrev pub IsTooFar : List Found → ℕ → Broken → Type 0
 IsTooFar found next (TooFar a n) = (f : Found) × Contains found f × (at_found f ≡ a) × (n ≡ next) × (next < f.dir.note.next_stamp)
 IsTooFar found next broken = ⊥
 
--- The block after a dump in memory, which is a 32-bit number.
+-- The block after a dump in memory.
 abbrev pub found_ends : Found → ℕ
 found_ends f = f.dir.note.place + f.dir.note.count + 2
 
@@ -51,7 +51,7 @@ found_ends f = f.dir.note.place + f.dir.note.count + 2
 abbrev pub EndsLow : Found → Type 0
 EndsLow f = found_ends f < 2 ^ 32
 
--- The block after a reel's dumps up to the one of a number, among those in memory.
+-- The block after this dump, if it is on the reel and its number is at most `last`; otherwise `end`.
 abbrev pub end_with : ℕ → ℕ → ℕ → Found → ℕ
 end_with serial last end f = if (f.serial == serial) && nat_le f.dir.note.number last then found_ends f else end
 

@@ -24,7 +24,7 @@ IsOfList DiscUnread = Unit {0}
 IsOfList NoMemory = Unit {0}
 IsOfList fault = ⊥
 
--- The faults of reading a copy on tape, and a file.
+-- The faults of reading a copy on tape.
 abbrev pub IsOfCopy : LookFault → Type 0
 IsOfCopy NoCopy = Unit {0}
 IsOfCopy TapeUnread = Unit {0}

@@ -43,7 +43,7 @@ tape_text serial capacity len count end =
 abbrev pub names_found : Intent → Found → Bool
 names_found i f = (f.dir.note.number == i.number) && ((f.serial == i.serial) && (f.dir.note.place == i.place))
 
--- Whether the intent's dump is completed.
+-- The text that says whether the intent's dump is completed.
 abbrev pub state_text : Bool → List ℕ
 state_text there = if there then codes " COMPLETED" else codes " NOT COMPLETED"
 
@@ -56,7 +56,7 @@ abbrev pub copy_blocks : Option DiscCopy → List ℕ
 copy_blocks None = []
 copy_blocks (Some copy) = copy.blocks
 
--- The text of a directory: its counts, and everything after the beginning of the first line.
+-- The line of a directory's counts.
 abbrev pub counts_text : ℕ → Dirs → List ℕ
 counts_text size dirs =
     ended (told (codes "USERS ") (length dirs.users.items) ++ told (codes " FILES ") (length dirs.files.items) ++ told (codes " BLOCKS ") (used_by dirs.files.items dirs.online.items)

@@ -32,7 +32,7 @@ pub record IsSeen (reels : List Reel) (shelf : ℕ → List Dump) (found : List 
   pub shelved : AreShelved shelf reels
   pub known : AreKnown found (all_dumps shelf reels)
 
--- For any reels that expose their blocks, and their shelf, if these are their dumps.
+-- The property holds for any reels with this shelf, if these are their dumps.
 abbrev pub WhereSeen : List Found → (List Reel → (ℕ → List Dump) → Type 0) → Type 0
 WhereSeen found P = (reels : List Reel) (shelf : ℕ → List Dump) → IsSeen reels shelf found → P reels shelf
 

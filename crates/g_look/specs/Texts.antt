@@ -34,7 +34,7 @@ IsDumpedPlace dumped stamp (Some copy) = (of : FileRec) × Contains dumped of ×
 abbrev pub IsSecond : Option TapeCopy → Option TapeCopy → Option TapeCopy → Type 0
 IsSecond tape place second = (second ≡ place) ⊎ ((second ≡ None) × (place ≡ tape))
 
--- ALL TEXTS AGREE.
+-- ALL TEXTS of a version AGREE, as far as there are any.
 pub record AgreeAt (reels : List Reel) (len : ℕ) (there : Option (List ℕ)) (first second : Option TapeCopy) : Type 0 where
   pub x : List ℕ
   pub y : List ℕ
@@ -49,7 +49,7 @@ abbrev pub WasReadAt : List Reel → ℕ → Option (List ℕ) → Option TapeCo
 WasReadAt reels len there first second Disc text = there ≡ Some text
 WasReadAt reels len there first second (Tape copy) text = ((first ≡ Some copy) ⊎ (second ≡ Some copy)) × IsTapeText reels copy len text
 
--- OR TWO DON'T.
+-- TWO TEXTS of a version DIFFER.
 pub record DifferAt (reels : List Reel) (len : ℕ) (there : Option (List ℕ)) (first second : Option TapeCopy) (one other : Lie) : Type 0 where
   pub x : List ℕ
   pub y : List ℕ
@@ -57,7 +57,7 @@ pub record DifferAt (reels : List Reel) (len : ℕ) (there : Option (List ℕ)) 
   pub other_is : WasReadAt reels len there first second other y
   pub differ : x ≢ y
 
--- The same for texts in memory.
+-- All texts in memory agree, as far as there are any.
 pub record AllAgree (there : Option (List ℕ)) (first : Option TapeCopy) (x : List ℕ) (second : Option TapeCopy) (y : List ℕ) : Type 0 where
   pub disc_first : IfSome there (λ b. IfSome first (λ c. b ≡ x))
   pub disc_second : IfSome there (λ b. IfSome second (λ c. b ≡ y))

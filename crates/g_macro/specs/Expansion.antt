@@ -39,7 +39,7 @@ expand params done (c ∷ d ∷ rest) =
 abbrev pub substituted : List (List ℕ) → List ℕ → List ℕ
 substituted params line = expand params [] line
 
--- The first piece of the rest of a line after substitution, and its length in the line.
+-- The first piece of the rest of a line after substitution.
 abbrev pub first_filled : List (List ℕ) → List ℕ → List ℕ → List ℕ
 first_filled params done [] = []
 first_filled params done (c ∷ []) = c ∷ []

@@ -75,7 +75,7 @@ take_line held (level ∷ below) =
     then (as_taken (substituted level.params (line_at level)), record { levels = line_taken level ∷ below; held = held })
     else (Nothing, record { levels = level ∷ below; held = held })
 
--- THE NEXT LINE
+-- THE NEXT LINE: what is taken, and the levels afterwards.
 abbrev pub next_line : Stack → Taken × Stack
 next_line s = take_line s.held (live s.held s.levels)
 
@@ -97,7 +97,7 @@ first_level (level ∷ below) = level
 abbrev pub current : Stack → Level
 current s = first_level s.levels
 
--- The lines of a document up to `////`, or to the end, and the number of lines that this passes.
+-- The line is `////`.
 abbrev pub is_closing : List ℕ → Bool
 is_closing line = same_text line (codes "////")
 
@@ -127,11 +127,11 @@ past_document level = record level { taken = level.taken + passed (lines_left le
 abbrev pub document_passed : Stack → Stack
 document_passed s = with_current past_document s
 
--- A macro's level becomes the current one; there are at most 8 levels.
+-- There are 8 levels already.
 abbrev pub is_deepest : Stack → Bool
 is_deepest s = nat_le 8 (length s.levels)
 
--- The levels after a macro with these lines and parameters was called.
+-- The levels after a macro with these lines and parameters was called; its level is the current one.
 abbrev pub called : List (List ℕ) → List (List ℕ) → Stack → Stack
 called lines params s = record s { levels = level_of lines params ∷ s.levels }
 
@@ -148,7 +148,7 @@ at_line place level = record level { taken = place }
 abbrev pub gone_to : ℕ → Stack → Stack
 gone_to place s = with_current (at_line place) s
 
--- The command replaces that of an equal condition, or is appended.
+-- One of the entries has an equal condition.
 abbrev pub has_cond : Cond → List Entry → Bool
 has_cond cond [] = false
 has_cond cond (entry ∷ entries) = same_cond entry.cond cond || has_cond cond entries

@@ -28,7 +28,7 @@ unfoldable pub modes_text : ℕ → List ℕ
 modes_text modes =
     shown_mode modes Read 82 ∷ shown_mode modes Write 87 ∷ shown_mode modes Append 65 ∷ shown_mode modes Execute 88 ∷ shown_mode modes Erase 69 ∷ []
 
--- Words and a number, or two numbers with a space between them.
+-- Words and a number.
 abbrev pub with_number : List ℕ → ℕ → List ℕ
 with_number words n = words ++ decimal n
 

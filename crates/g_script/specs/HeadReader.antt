@@ -12,7 +12,7 @@ use Rattle.g_script.specs.declared.operator.Operator.{Operator}
 use Rattle.g_script.specs.declared.operator.Operator.TheVariants as line
 use Rattle.g_verbs.specs.VerbReader.{file_read, local_read, user_read}
 
--- The parts before and after the first byte of this value.
+-- The parts with one more byte before the first of them.
 abbrev pub onto_before : ℕ → List ℕ × List ℕ → List ℕ × List ℕ
 onto_before c parts = (c ∷ parts.0, parts.1)
 
@@ -21,7 +21,7 @@ abbrev pub split_at : ℕ → List ℕ → Option (List ℕ × List ℕ)
 split_at byte [] = None
 split_at byte (c ∷ cs) = if c == byte then Some ([], cs) else option_map (onto_before c) (split_at byte cs)
 
--- A number from 1 to `most`.
+-- The number, if it isn't 0.
 abbrev pub positive : ℕ → Option ℕ
 positive n = if n == 0 then None else Some n
 
@@ -29,11 +29,11 @@ positive n = if n == 0 then None else Some n
 abbrev pub from_one_read : ℕ → List ℕ → Option ℕ
 from_one_read most digits = option_and_then positive (number_read most digits)
 
--- Such a number after a word.
+-- A number from 1 to `most` after a word.
 abbrev pub number_behind : ℕ → List ℕ → List ℕ → Option ℕ
 number_behind most word text = option_and_then (from_one_read most) (behind word text)
 
--- An operator line that is only a word.
+-- This operator line if the flag is set, otherwise the other.
 abbrev pub word_or : Operator → Bool → Option Operator → Option Operator
 word_or operator true others = Some operator
 word_or operator false others = others
@@ -44,7 +44,7 @@ word_read text =
     word_or line.Format (same_text text (codes "FORMAT"))
     (word_or line.Start (same_text text (codes "START")) (word_or line.Restore (same_text text (codes "RESTORE")) (word_or line.Shut (same_text text (codes "SHUT")) None)))
 
--- An operator line that is a word and a number.
+-- This operator line with the number, if there is one, otherwise the other.
 abbrev pub number_or : (ℕ → Operator) → Option ℕ → Option Operator → Option Operator
 number_or operator (Some n) others = Some (operator n)
 number_or operator None others = others
@@ -70,7 +70,7 @@ dump_read text = number_or line.Dump (number_behind 999999 (codes "DUMP ") text)
 abbrev pub unmount_read : List ℕ → Option Operator
 unmount_read text = number_or line.Unmount (number_behind 999999 (codes "UNMOUNT ") text) (dump_read text)
 
--- An operator line that is a word and a number.
+-- MOUNT and a serial, otherwise another operator line that is a word and a number.
 abbrev pub numbered_read : List ℕ → Option Operator
 numbered_read text = number_or line.Mount (number_behind 999999 (codes "MOUNT ") text) (unmount_read text)
 
@@ -78,7 +78,7 @@ numbered_read text = number_or line.Mount (number_behind 999999 (codes "MOUNT ")
 abbrev pub migration_read : List ℕ → Option Operator
 migration_read text = option_map line.Migrate (option_and_then file_read (behind (codes "MIGRATE ") text))
 
--- A job's name, its user, and the allowances.
+-- A job's name and the rest, if the first of two parts is a name.
 abbrev pub named : List ℕ × List ℕ → Option (List ℕ × List ℕ)
 named parts = option_map (λ name. (name, parts.1)) (local_read parts.0)
 
@@ -144,7 +144,7 @@ job_behind text = job_named (name_read text)
 abbrev pub job_read : List ℕ → Option What
 job_read text = option_and_then job_behind (behind (codes "JOB ") text)
 
--- A terminal, and the text after its comma.
+-- The first of two parts as a terminal.
 abbrev pub at_terminal : List ℕ × List ℕ → Option (ℕ × List ℕ)
 at_terminal parts = option_map (λ t. (t, parts.1)) (from_one_read 8 parts.0)
 
@@ -183,7 +183,7 @@ login_behind text = login_at (terminal_read text)
 abbrev pub login_read : List ℕ → Option Operator
 login_read text = option_and_then login_behind (behind (codes "LOGIN ") text)
 
--- The operator line after the turn.
+-- The operator line, if there is one, otherwise the other request.
 abbrev pub bare_or : Option Operator → Option What → Option What
 bare_or (Some operator) others = Some (what.Bare operator)
 bare_or None others = others

@@ -11,7 +11,7 @@ use Rattle.g_plain.specs.declared.calls.StoreReply.TheVariants.{Appended, Made}
 
 -- No store gives an answer of another kind than the call's; the work is then unchanged.
 module _ (room : ℕ) where
-  -- A verb of one call that has no bytes.
+  -- The use of the answer to a verb's only call: its reply is printed, or its refusal.
   abbrev pub by_answer : StoreCall → Work → Answer → Asks Work
   by_answer asked w (Ok reply) = Gives (say_all room (reply_lines asked reply) (done w))
   by_answer asked w (Err fault) = Gives (refused room fault w)

@@ -58,11 +58,11 @@ module _ (room : ℕ) (who : List ℕ) where
   abbrev pub line : List ℕ → Work → Asks Work
   line text w = and_then is_over (Gives (says_line room text w)) (behind_echo text)
 
-  -- A line above 240 bytes is bad; its first 240 bytes are printed unchanged.
+  -- The error of a line above 240 bytes, and the WHENEVER after it.
   abbrev pub too_long : Work → Asks Work
   too_long w = and_then is_over (Gives (in_error room (errors.BadLine 240) w)) may_fire
 
-  -- Executes a line above 240 bytes, of which these are the first 240.
+  -- A line above 240 bytes is bad: its first 240 bytes are printed unchanged, followed by the error.
   abbrev pub long_line : List ℕ → Work → Asks Work
   long_line front w = and_then is_over (Gives (say room (marked mark.Taken front) w)) too_long
 

@@ -23,7 +23,7 @@ module _ (room : ℕ) where
       if is_deepest w.desk.levels then in_error room errors.TooDeep w
       else done (with_levels (called (lines_of bytes) params w.desk.levels) w)
 
-  -- The answer of the second search. Any refusal except NoFile is the result; if neither directory has the file, the verb is unknown.
+  -- The use of the second search's answer. Any refusal except NoFile is the result; if neither directory has the file, the verb is unknown.
   abbrev pub second_looked : List (List ℕ) → Work → Answer → Asks Work
   second_looked params w (Ok (Bytes full bytes)) = Gives (macro_called params bytes (with_bytes (length bytes) w))
   second_looked params w (Ok reply) = Gives w

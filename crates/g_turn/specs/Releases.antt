@@ -55,15 +55,15 @@ module _ (room : ℕ) where
   abbrev pub end_job : Work → Asks Work
   end_job w = and_then is_over (release_all (done w)) finished
 
-  -- DELETE: the program is dropped, the units are released, and then DELETED is printed; without a program nothing is released.
+  -- DELETED is printed.
   abbrev pub deleted : Work → Asks Work
   deleted w = Gives (say room (job_line line.Deleted) w)
 
-  -- Drops the program, releases all units, and prints DELETED.
+  -- DELETE: the program is dropped, the units are released, and then DELETED is printed.
   abbrev pub drop_program : Work → Asks Work
   drop_program w = and_then is_over (release_all (done (dropped w))) deleted
 
-  -- DELETE; it is an error without a program.
+  -- DELETE; without a program it is an error, and no unit is released.
   abbrev pub delete : Option Machine → Work → Asks Work
   delete None w = Gives (in_error room errors.NoProgram w)
   delete (Some p) w = drop_program w

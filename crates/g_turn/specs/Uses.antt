@@ -81,7 +81,7 @@ module _ (room : ℕ) where
   abbrev pub fetch : Path → Mode → Use → Work → Asks Work
   fetch path m use_for w = Call (call.Fetch path m) (fetched path m use_for w)
 
-  -- ASSIGN: the file of a card reader is fetched; the path of a printer or a punch is stored for its output.
+  -- ASSIGN of a printer or a punch: the path is stored for its output.
   abbrev pub output_kept : unit.Unit → Path → Work → Work
   output_kept u path w =
       say room (job_line line.Assigned) (done (with_units (with_writer w.desk.units (place_of u.kind u.number) (Some (path, []))) w))

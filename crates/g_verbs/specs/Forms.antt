@@ -39,7 +39,7 @@ just all = record { all = all; least = length all; any_more = false }
 abbrev pub at_least : ℕ → List Form → Forms
 at_least least all = record { all = all; least = least; any_more = false }
 
--- The form required at a place, if a parameter is allowed there.
+-- The form, if there is one; otherwise any text, if others may follow.
 abbrev pub or_any : Bool → Option Form → Option Form
 or_any any_more (Some form) = Some form
 or_any any_more None = if any_more then Some form.Text else None

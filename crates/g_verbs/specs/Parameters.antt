@@ -13,7 +13,7 @@ use Rattle.g_plain.specs.declared.calls.BudgetKind.TheVariants.{Money, Space, Ti
 use Rattle.g_trap.specs.ModeSet.{mode_bit}
 use Rattle.g_trap.specs.declared.mode_set.Mode.{Mode}
 
--- A parameter that names a file, a user, a local name.
+-- The text is the name of this path.
 abbrev pub IsFile : Path → List ℕ → Type 0
 IsFile path text = IsName (path_name path) × (text ≡ name_text (path_name path))
 
@@ -25,7 +25,7 @@ IsUser user text = (is_word user ≡ true) × (text ≡ 58 ∷ user)
 abbrev pub IsLocal : List ℕ → List ℕ → Type 0
 IsLocal local text = (is_word local ≡ true) × (text ≡ local)
 
--- The word of a budget, and its maximum.
+-- The word of a budget.
 abbrev pub kind_word : BudgetKind → List ℕ
 kind_word Space = codes "SPACE"
 kind_word Time = codes "TIME"
@@ -41,7 +41,7 @@ most_of Money = 1000000000
 abbrev pub IsAmount : BudgetKind → ℕ → List ℕ → Type 0
 IsAmount kind n text = (n ≤ most_of kind) × (text ≡ kind_word kind ++ (32 ∷ decimal n))
 
--- A unit: its kind and a digit.
+-- The word of a unit's kind.
 abbrev pub unit_word : Kind → List ℕ
 unit_word Cr = codes "*CR"
 unit_word Lp = codes "*LP"

@@ -126,7 +126,7 @@ wrong_in (text ∷ texts) forms least any_more =
 abbrev pub first_wrong : Forms → List (List ℕ) → Option ℕ
 first_wrong f params = wrong_in params f.all f.least f.any_more
 
--- The values of parameters that have their forms.
+-- The parameter at a place, empty if there are fewer.
 abbrev pub param : List (List ℕ) → ℕ → List ℕ
 param params place = slice_index_or params place []
 

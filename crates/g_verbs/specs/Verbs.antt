@@ -17,7 +17,7 @@ use Rattle.g_verbs.specs.declared.form.Form.TheVariants as form
 use Rattle.g_verbs.specs.declared.verb.Verb.{Verb}
 use Rattle.g_verbs.specs.declared.verb.Verb.TheVariants as verb
 
--- The verbs that are no macros, and their names.
+-- The verbs that are no macros.
 abbrev pub verbs : List Verb
 verbs =
     verb.Input ∷ verb.Copy ∷ verb.Append ∷ verb.Erase ∷ verb.Rename ∷ verb.ListFile ∷ verb.ListDir ∷ verb.TrapGo ∷ verb.TrapStop
@@ -54,7 +54,7 @@ verb_word verb.EndJob = codes "ENDJOB"
 abbrev pub verb_of : List ℕ → Option Verb
 verb_of name = find (λ verb. same_text (verb_word verb) name) verbs
 
--- THE PARAMETERS OF EACH VERB, and those of a macro.
+-- THE PARAMETERS OF EACH VERB.
 abbrev pub verb_forms : Verb → Forms
 verb_forms verb.Input = just (form.File ∷ [])
 verb_forms verb.Copy = just (form.File ∷ form.File ∷ [])
@@ -93,7 +93,7 @@ forms_with (Some verb) = verb_forms verb
 abbrev pub forms_of : List ℕ → Forms
 forms_of name = forms_with (verb_of name)
 
--- A user, an amount of MONEY, a text: each may be omitted.
+-- A user, or no parameter.
 abbrev pub MayBeUser : Option (List ℕ) → List (List ℕ) → Type 0
 MayBeUser None texts = texts ≡ []
 MayBeUser (Some user) texts = (text : List ℕ) × IsUser user text × (texts ≡ text ∷ [])
@@ -108,7 +108,7 @@ abbrev pub MayBeText : Option (List ℕ) → List (List ℕ) → Type 0
 MayBeText None texts = texts ≡ []
 MayBeText (Some text) texts = texts ≡ text ∷ []
 
--- A verb with one file, and one with two.
+-- A verb with exactly one file.
 abbrev pub FileVerb : List ℕ → Path → List ℕ → List (List ℕ) → Type 0
 FileVerb word file name params = (name ≡ word) × ((a : List ℕ) × IsFile file a × (params ≡ a ∷ []))
 
