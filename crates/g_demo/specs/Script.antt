@@ -3,10 +3,11 @@ use Rattle.std.specs.Prelude.{List, codes, if◌then◌else◌, replicate, suc, 
 use Rattle.std.specs.Fmt.{decimal}
 use Rattle.g_lines.specs.Lines.{text_of}
 
--- A DRAW: the state after it, and the number below a bound that it returns from a state.
+-- A DRAW: the state after it.
 abbrev pub next : ℕ → ℕ
 next state = (1664525 * state + 1013904223) % 2 ^ 32
 
+-- The number below a bound that is drawn in a state.
 abbrev pub drawn : ℕ → ℕ → ℕ
 drawn below state = state / 65536 % below
 
@@ -23,7 +24,7 @@ unfoldable pub behind_rounds : ℕ → ℕ → ℕ
 behind_rounds number zero = number
 behind_rounds number (suc i) = behind_round (suc i) (behind_rounds number i)
 
--- A ROUND: a job, then a migration, a dump or nothing.
+-- The name of file k.
 abbrev pub file_name : ℕ → List ℕ
 file_name k = codes "F" ++ decimal k ++ codes "(1)"
 
@@ -53,6 +54,7 @@ behind_job i state =
     else if i % 50 == 0 then at_turn (4 * i) (codes "DUMP 1") ∷ []
     else []
 
+-- A ROUND: a job, followed by a migration, a dump or nothing.
 abbrev pub round_lines : ℕ → ℕ → List (List ℕ)
 round_lines i state = drawn_job i state ++ behind_job i state
 
@@ -61,6 +63,7 @@ unfoldable pub rounds_lines : ℕ → ℕ → List (List ℕ)
 rounds_lines number zero = []
 rounds_lines number (suc i) = rounds_lines number i ++ round_lines (suc i) (behind_rounds number i)
 
+-- The first lines.
 abbrev pub opening : List (List ℕ)
 opening = codes "0 FORMAT" ∷ codes "0 MOUNT 1" ∷ []
 
@@ -70,9 +73,10 @@ closing =
     codes "1000000000 DUMP 1" ∷ codes "1000000000 SHUT" ∷ codes "1000000000 RESTORE"
     ∷ codes "1000000000 JOB END,:MASTER,TIME 100" ∷ codes "LISTDIR" ∷ codes "ENDJOB" ∷ codes "****" ∷ []
 
--- THE SCRIPT of `demo NUMBER N`: its lines, and its text, in which each has its byte 10.
+-- THE SCRIPT of `demo NUMBER N`: its lines.
 abbrev pub script_lines : ℕ → ℕ → List (List ℕ)
 script_lines number rounds = opening ++ (rounds_lines number rounds ++ closing)
 
+-- The text of the script, in which each line has its byte 10.
 abbrev pub script_text : ℕ → ℕ → List ℕ
 script_text number rounds = text_of (script_lines number rounds)

@@ -14,6 +14,7 @@ line_count text = count_by (λ byte. byte == 10) text
 abbrev pub folded : ℕ → ℕ → ℕ
 folded so_far byte = (31 * so_far + byte) % 2 ^ 32
 
+-- The number into which all bytes of a text are folded.
 abbrev pub fold_of : List ℕ → ℕ
 fold_of text = fold folded 0 text
 
@@ -30,5 +31,6 @@ summary_lines demo summary =
     ∷ (codes "FOLD " ++ decimal summary.fold)
     ∷ []
 
+-- The text that a demonstration prints.
 abbrev pub summary_text : Demonstration → Summary → List ℕ
 summary_text demo summary = text_of (summary_lines demo summary)

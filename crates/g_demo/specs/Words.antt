@@ -16,6 +16,7 @@ pub record IsDemonstration (demo : Demonstration) : Type 0 where
   pub least : 1 ≤ demo.rounds
   pub most : demo.rounds ≤ 1000
 
+-- The request is allowed.
 abbrev pub IsAsked : Asked → Type 0
 IsAsked asked.Run = Unit {0}
 IsAsked (asked.Demo demo) = IsDemonstration demo

@@ -8,7 +8,7 @@ use Rattle.g_job.specs.declared.turn.Turn.TheVariants as turn
 use Rattle.g_monitor.specs.JobLines.{job_line}
 use Rattle.g_monitor.specs.declared.job_lines.JobLine.TheVariants as line
 
--- Nothing is pending.
+-- Nothing is pending, and no reel is wanted.
 abbrev pub IsClear : JobState → Type 0
 IsClear j = (j.pending ≡ None) × (j.wants ≡ None)
 
@@ -27,6 +27,7 @@ up_text true money_up used used_money = Some (job_line (line.TimeUp used))
 up_text false true used used_money = Some (job_line (line.MoneyUp used_money))
 up_text false false used used_money = None
 
+-- The result of a turn that is charged, by whether the job ended.
 abbrev pub turn_by : ℕ → ℕ → Bool → Turn
 turn_by units money true = turn.Ended units money
 turn_by units money false = turn.Ran units money

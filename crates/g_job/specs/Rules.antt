@@ -17,6 +17,7 @@ pub record IsKept (monitor text : List ℕ) (orders blocks : ℕ) (command : Lis
   pub blocks_few : blocks ≤ 2048
   pub command_text : IsCommandText command
 
+-- What a turn resumes with is within its limits.
 abbrev pub IsPending : List ℕ → Pending → Type 0
 IsPending monitor (AgainLine text) = Unit {0}
 IsPending monitor (AgainCommand text orders blocks command) = IsKept monitor text orders blocks command

@@ -16,6 +16,7 @@ SpendsBy old (turn.Wants serial) new = (new.used ≡ old.used) × (new.wants ≡
 SpendsBy old (turn.Ended units money) new = new.over ≡ true
 SpendsBy old turn.Broken new = new.over ≡ true
 
+-- A turn preserves the job's number and allowance, and takes this of the allowance.
 abbrev pub Spends : JobState → Turn → JobState → Type 0
 Spends old given new = (new.number ≡ old.number) × (new.allowance ≡ old.allowance) × SpendsBy old given new
 

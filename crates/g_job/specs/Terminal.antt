@@ -5,6 +5,7 @@ use Rattle.g_job.specs.State.{JobState}
 use Rattle.g_macro.specs.Holding.{are_ready, document_level, finished, held_open, with_typed}
 use Rattle.g_macro.specs.Levels.{Stack}
 
+-- The job with its levels changed.
 abbrev pub with_stack : (Stack → Stack) → JobState → JobState
 with_stack change j = record j { desk = record j.desk { levels = change j.desk.levels } }
 
@@ -16,10 +17,11 @@ held j = with_stack held_open j
 abbrev pub seated : ℕ → JobState → JobState
 seated t j = record j { terminal = Some t }
 
--- A LINE IS TYPED; the terminal is logged out.
+-- A LINE IS TYPED: it is appended to the document.
 abbrev pub typed_to : List ℕ → JobState → JobState
 typed_to line j = with_stack (with_typed line) j
 
+-- The job after its terminal was logged out.
 abbrev pub logged_out : JobState → JobState
 logged_out j = with_stack finished j
 

@@ -12,17 +12,19 @@ use Rattle.g_lines.specs.Lines.{ended}
 use Rattle.g_monitor.specs.JobLines.{job_line}
 use Rattle.g_monitor.specs.declared.job_lines.JobLine.TheVariants as line
 
--- What is left of the allowances.
+-- The units of TIME that are left.
 abbrev pub units_left : JobState → ℕ
 units_left j = j.allowance - j.used
 
+-- The MONEY that is left.
 abbrev pub money_left : JobState → ℕ
 money_left j = j.money - j.used_money
 
--- The charge of each kind: that of the tariff, limited to what is left.
+-- The units of TIME that are charged: those of the tariff, limited to what is left.
 abbrev pub units_of : JobState → Charge → ℕ
 units_of j charge = min charge.units (units_left j)
 
+-- The MONEY that is charged: that of the tariff, limited to what is left.
 abbrev pub money_of : JobState → Charge → ℕ
 money_of j charge = min charge.money (money_left j)
 
@@ -38,28 +40,32 @@ charged j w charge = record j {
   monitor = j.monitor ++ w.text;
 }
 
--- The charge uses up the TIME; the turn's MONEY is more than the job has left.
+-- The charge uses up the TIME.
 abbrev pub is_time_up : JobState → Charge → Bool
 is_time_up j charge = nat_le (units_left j) charge.units
 
+-- The turn's MONEY is more than the job has left.
 abbrev pub is_money_up : JobState → Charge → Bool
 is_money_up j charge = nat_lt (money_left j) charge.money
 
--- THE LAST LINE of a job that ends: its file is full, it is done, its TIME is used up, or its MONEY is.
+-- The last line of a job whose TIME or MONEY is used up; TIME comes first.
 abbrev pub up_line : Bool → Bool → JobState → Option (List ℕ)
 up_line true money_up new = Some (job_line (line.TimeUp new.used))
 up_line false true new = Some (job_line (line.MoneyUp new.used_money))
 up_line false false new = None
 
+-- THE LAST LINE of a job that ends after this turn: its file is full, it is done, its TIME is used up, or its MONEY is.
 abbrev pub last_line : Option Stop → JobState → Charge → JobState → Option (List ℕ)
 last_line (Some Full) old charge new = Some (job_line line.Full)
 last_line (Some stop) old charge new = Some (job_line (line.End new.used))
 last_line None old charge new = up_line (is_time_up old charge) (is_money_up old charge) new
 
+-- The job after a turn: a last line is appended to its file, and ends it.
 abbrev pub behind_turn : JobState → Option (List ℕ) → JobState
 behind_turn j None = j
 behind_turn j (Some text) = record j { monitor = j.monitor ++ ended text; over = true }
 
+-- The result of a turn that is charged: a last line ends the job.
 abbrev pub turn_of : ℕ → ℕ → Option (List ℕ) → Turn
 turn_of units money None = turn.Ran units money
 turn_of units money (Some text) = turn.Ended units money
@@ -68,6 +74,7 @@ turn_of units money (Some text) = turn.Ended units money
 abbrev pub ended_by : JobState → Work → Charge → Option (List ℕ) → Turn × JobState
 ended_by old w charge last = (turn_of (units_of old charge) (money_of old charge) last, behind_turn (charged old w charge) last)
 
+-- The end of a turn that is charged, by the reason why its work is over.
 abbrev pub charged_end : Option Stop → JobState → Work → Charge → Turn × JobState
 charged_end stop old w charge = ended_by old w charge (last_line stop old charge (charged old w charge))
 
@@ -104,5 +111,6 @@ module _ {F : Type 0} (calls : Shared F (Bor Usage × Unit {0}) Charge) (rule : 
   IsPriced w None = Unit {0}
   IsPriced w (Some charge) = FnReturnsAt calls rule (record { orders = w.orders; blocks = w.blocks }) charge
 
+  -- This is the end of a turn of the job, for some charge by the tariff.
   abbrev pub IsTurn : JobState → Work → Turn → JobState → Type 0
   IsTurn old w given new = (charge : Option Charge) × IsPriced w charge × (turn_end old w charge ≡ Some (given, new))

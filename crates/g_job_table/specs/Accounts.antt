@@ -33,10 +33,11 @@ abbrev pub charged : JobState → List Account → List Account
 charged j [] = []
 charged j (a ∷ kept) = if same_text a.user j.user then less j a ∷ kept else a ∷ charged j kept
 
--- The budgets of a user's row, and of a user's record.
+-- The budgets of TIME and MONEY in a user's row.
 abbrev pub row_budgets : List ℕ × UserRow → ℕ × ℕ
 row_budgets e = (e.1.time, e.1.money)
 
+-- The budgets of TIME and MONEY in a user's record.
 abbrev pub record_budgets : UserRec → ℕ × ℕ
 record_budgets r = (r.time, r.money)
 

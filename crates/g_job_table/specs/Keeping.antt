@@ -26,6 +26,7 @@ pub record IsPlaceOf (jobs : List JobState) (number place : ℕ) : Type 0 where
 abbrev pub opening : UserRec → Account
 opening r = record { user = r.user; time = r.time; money = r.money }
 
+-- The record of a user.
 abbrev pub user_in : List UserRec → List ℕ → Option UserRec
 user_in users user = find (λ r. same_text r.user user) users
 
@@ -33,6 +34,7 @@ user_in users user = find (λ r. same_text r.user user) users
 abbrev pub Opens : List Account → List UserRec → List Account → Type 0
 Opens old users new = (user : List ℕ) → kept_for new user ≡ option_or (kept_for old user) (option_map opening (user_in users user))
 
+-- An account of this user with nothing left.
 abbrev pub empty_for : List ℕ → Account
 empty_for user = record { user = user; time = 0; money = 0 }
 

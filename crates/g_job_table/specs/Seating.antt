@@ -31,11 +31,12 @@ abbrev pub seats_in : List JobState → List Seat
 seats_in [] = []
 seats_in (j ∷ jobs) = seated_before j.terminal j.number j.desk.levels.held (seats_in jobs)
 
--- The text of a reason, and of a result.
+-- The text of a refusal, if it is printed.
 abbrev pub said_seat : NotSeated → Option (List ℕ)
 said_seat (TerminalBusy t) = Some (busy_text t)
 said_seat (NotTaken why) = said why
 
+-- The text of a LOGIN's result, if it is refused.
 abbrev pub printed_login : {A : Type 0} → Result A NotSeated → Option (List ℕ)
 printed_login (Ok number) = None
 printed_login (Err reason) = said_seat reason
@@ -53,7 +54,7 @@ TypesAt (Some j) line old new (Ok done) = new ≡ record old { jobs = with_job (
 TypesAt (Some j) line old new (Err fault.NoMemory) = new ≡ old
 TypesAt (Some j) line old new (Err fault.NoTerminal) = ⊥
 
--- The terminal is logged out.
+-- The terminal's job is logged out; without such a job the request is refused.
 abbrev pub LogsOutAt : Option JobState → CrewState → CrewState → Result (Unit {0}) NoTerminal → Type 0
 LogsOutAt None old new (Ok done) = ⊥
 LogsOutAt None old new (Err none) = new ≡ old

@@ -18,15 +18,17 @@ refusal_line (why.NoTime ask left) = with_numbers (codes "40 NO TIME ") ask left
 refusal_line (why.NoMoney ask left) = with_numbers (codes "42 NO MONEY ") ask left
 refusal_line why.NoMemory = []
 
+-- The refusal is printed; out of memory isn't.
 abbrev pub IsPrinted : NotTaken → Type 0
 IsPrinted why.NoMemory = ⊥
 IsPrinted other = Unit {0}
 
--- The text of a reason, and of a result.
+-- The text of a refusal, if it is printed.
 abbrev pub said : NotTaken → Option (List ℕ)
 said why.NoMemory = None
 said other = Some (refusal_line other)
 
+-- The text of a JOB's result, if it is refused.
 abbrev pub printed : {A : Type 0} → Result A NotTaken → Option (List ℕ)
 printed (Ok number) = None
 printed (Err reason) = said reason

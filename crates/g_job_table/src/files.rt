@@ -113,9 +113,9 @@ impl Crew {
         push_each_broken(text, self.jobs())
     }
 
-    /// Appends the monitoring files of all jobs, in order of number, each with the last line `WAITING TAPE` and the serial of the reel that it waits
-    /// for, or `WAITING LINE`, as they are printed at the end of a run. For a job at a terminal, whose file has been printed, only that line. If
-    /// memory runs out, a prefix of it may have been appended.
+    /// Appends the monitoring files of all jobs, in order of number, as they are printed at the end of a run. The last line of each is
+    /// `WAITING TAPE` and the serial of the reel that the job waits for, or `WAITING LINE`. For a job at a terminal, whose file has been
+    /// printed, only that line. If memory runs out, a prefix of it may have been appended.
     pub fn push_waiting_files(&self, alloc: Global, text: &mut Text) -> Result<(), NoMemory>
         ensures { OnOk result (text.new ≡ text.old ++ waiting_files self.now.jobs) }
     {

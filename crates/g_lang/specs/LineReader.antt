@@ -18,6 +18,7 @@ pub data Next : Type 0 where
   AText : Next
   ALetter : Bool → Next
 
+-- The states of the reader, by its place in a line.
 pub data State : Type 0 where
   Front : State
   InLabel : ℕ → State
@@ -34,6 +35,7 @@ pub data State : Type 0 where
   VerbGap : State
   Params : ℕ → State
 
+-- The state after a fixed text, by what follows it.
 abbrev pub behind_fixed : Next → State
 behind_fixed ATest = ATestFrom true
 behind_fixed AComma = BeforeComma
@@ -66,6 +68,7 @@ state_behind_word word inner =
     else if same_text word (codes "INPUT") && inner then None
     else Some VerbGap
 
+-- The state after the next byte of a command's first word.
 abbrev pub in_word : List ℕ → Bool → ℕ → Option State
 in_word [] inner c = if is_letter c then Some (Word (c ∷ []) inner) else None
 in_word (first ∷ word) inner c =
@@ -73,6 +76,7 @@ in_word (first ∷ word) inner c =
     else if c == 32 then state_behind_word (first ∷ word) inner
     else None
 
+-- The state after the next byte of parameters, by the number of open brackets.
 abbrev pub in_params : ℕ → ℕ → Option State
 in_params depth c =
     if c == 40 then Some (Params (depth + 1))
@@ -80,6 +84,7 @@ in_params depth c =
     else if is_printed c then Some (Params depth)
     else None
 
+-- The state after the next byte, or none if no line continues with it.
 abbrev pub step : ℕ → State → Option State
 step c Front = if c == 32 then Some Front else if is_digit c then Some (InLabel 1) else in_word [] false c
 step c (InLabel n) = if is_name_char c && nat_lt n 12 then Some (InLabel (n + 1)) else if c == 32 then Some Gap else None
@@ -127,6 +132,7 @@ behind [] text = Some text
 behind (f ∷ front) [] = None
 behind (f ∷ front) (c ∷ cs) = if f == c then behind front cs else None
 
+-- The number of open brackets after a byte.
 abbrev pub depth_behind : ℕ → ℕ → ℕ
 depth_behind c depth = if c == 40 then depth + 1 else if c == 41 then pred depth else depth
 
@@ -136,20 +142,23 @@ parts_of depth [] = [] ∷ []
 parts_of depth (c ∷ cs) =
     if c == 44 && depth == 0 then [] ∷ parts_of 0 cs else onto_first c (parts_of (depth_behind c depth) cs)
 
--- The text before the first comma outside of brackets, and the text after it.
+-- The text before the first comma outside of brackets.
 abbrev pub before_comma : ℕ → List ℕ → List ℕ
 before_comma depth [] = []
 before_comma depth (c ∷ cs) = if c == 44 && depth == 0 then [] else c ∷ before_comma (depth_behind c depth) cs
 
+-- The text after the first comma outside of brackets.
 abbrev pub behind_comma : ℕ → List ℕ → List ℕ
 behind_comma depth [] = []
 behind_comma depth (c ∷ cs) = if c == 44 && depth == 0 then cs else behind_comma (depth_behind c depth) cs
 
+-- The text without its last byte.
 abbrev pub without_last : List ℕ → List ℕ
 without_last [] = []
 without_last (c ∷ []) = []
 without_last (c ∷ d ∷ cs) = c ∷ without_last (d ∷ cs)
 
+-- The first byte of a text.
 abbrev pub letter_of : List ℕ → ℕ
 letter_of [] = 65
 letter_of (c ∷ cs) = c
@@ -159,6 +168,7 @@ abbrev pub behind_equals : List ℕ → List ℕ
 behind_equals (letter ∷ a ∷ b ∷ c ∷ rest) = rest
 behind_equals rest = []
 
+-- The test of a parameter that a text is.
 abbrev pub letter_test_read : List ℕ → Test
 letter_test_read text = elim (behind (codes "PRESENT(%") text) [
   | Some rest ↦ Present (letter_of rest)
@@ -171,6 +181,7 @@ letter_test_read text = elim (behind (codes "PRESENT(%") text) [
   ]
 ]
 
+-- The test that a text is.
 abbrev pub test_read : List ℕ → Test
 test_read text =
     if same_text text (codes "COMMAND ERROR") then CommandError
@@ -180,20 +191,24 @@ test_read text =
       | None ↦ elim (behind (codes "DELETED(") text) [ Some rest ↦ Deleted (without_last rest) | None ↦ letter_test_read text ]
     ]
 
+-- The condition that a text is.
 abbrev pub cond_read : List ℕ → Cond
 cond_read text = elim (behind (codes "NOT ") text) [
   | Some test ↦ record { negated = true; test = test_read test }
   | None ↦ record { negated = false; test = test_read text }
 ]
 
+-- The parameters in a text, without the spaces around them; an empty text has none.
 abbrev pub params_read : List ℕ → List (List ℕ)
 params_read [] = []
 params_read (c ∷ cs) = map trimmed (parts_of 0 (c ∷ cs))
 
+-- The text after its first word and the spaces after that.
 abbrev pub behind_word : List ℕ → List ℕ
 behind_word [] = []
 behind_word (c ∷ cs) = if c == 32 then without_front (c ∷ cs) else behind_word cs
 
+-- What a command says that begins with a verb.
 abbrev pub verb_read : List ℕ → Said
 verb_read text = SaidVerb (word_of text) (params_read (behind_word text)) (behind_word text)
 
@@ -208,6 +223,7 @@ command_read (suc n) text = elim (behind (codes "IF ") text) [
   ]
 ]
 
+-- What a command says; an empty text has no command.
 abbrev pub option_read : List ℕ → Option Said
 option_read [] = None
 option_read (c ∷ cs) = Some (command_read (suc (length cs)) (c ∷ cs))
@@ -218,6 +234,7 @@ read_trimmed text =
     if is_label (word_of text) then record { label = Some (word_of text); command = option_read (behind_word text) }
     else record { label = None; command = option_read text }
 
+-- What a line of the grammar says.
 abbrev pub line_read : List ℕ → LineSaid
 line_read text = read_trimmed (trimmed text)
 

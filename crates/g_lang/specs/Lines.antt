@@ -15,10 +15,12 @@ pub data Written : Type 0 where
   WrittenWhenever : Cond → Written → Written
   WrittenVerb : (name : List ℕ) → (gap : ℕ) → (parts : List (List ℕ)) → Written
 
+-- The text of a verb's parameters, with the spaces before them.
 abbrev pub params_text : ℕ → List (List ℕ) → List ℕ
 params_text gap [] = []
 params_text gap (part ∷ parts) = spaces gap ++ joined (part ∷ parts)
 
+-- The text of a command.
 abbrev pub command_text : Written → List ℕ
 command_text (WrittenGoto label) = codes "GOTO " ++ label
 command_text (WrittenIf cond inner) = codes "IF " ++ (cond_text cond ++ (44 ∷ command_text inner))
@@ -41,6 +43,7 @@ is_input (WrittenIf cond inner) = false
 is_input (WrittenWhenever cond inner) = false
 is_input (WrittenVerb name gap parts) = same_text name (codes "INPUT")
 
+-- The command is well-formed: its labels, conditions, verbs and parameters are, and INPUT follows no condition.
 abbrev pub IsWritten : Written → Type 0
 IsWritten (WrittenGoto label) = is_label label ≡ true
 IsWritten (WrittenIf cond inner) = IsCond cond × IsWritten inner × (is_input inner ≡ false)
@@ -54,6 +57,7 @@ pub data Said : Type 0 where
   SaidWhenever : Cond → List ℕ → Said
   SaidVerb : (name : List ℕ) → (params : List (List ℕ)) → (rest : List ℕ) → Said
 
+-- What a written command says.
 abbrev pub said_by : Written → Said
 said_by (WrittenGoto label) = SaidGoto label
 said_by (WrittenIf cond inner) = SaidIf cond (said_by inner)
@@ -79,13 +83,16 @@ pub record WrittenLine : Type 0 where
   pub command : Option Written
   pub back : ℕ
 
+-- The text of a command, empty if there is none.
 abbrev pub option_text : Option Written → List ℕ
 option_text None = []
 option_text (Some command) = command_text command
 
+-- The text of a written line.
 abbrev pub line_text : WrittenLine → List ℕ
 line_text l = spaces l.front ++ (unwrap_or l.label [] ++ (spaces l.gap ++ (option_text l.command ++ spaces l.back)))
 
+-- The line is well-formed: its label and its command are, and at least one space is between them.
 pub record IsLine (l : WrittenLine) : Type 0 where
   pub label : IfSome l.label (λ label. is_label label ≡ true)
   pub command : IfSome l.command IsWritten
@@ -100,6 +107,7 @@ pub record LineSaid : Type 0 where
   pub label : Option (List ℕ)
   pub command : Option Said
 
+-- What a written line says.
 abbrev pub said_in : WrittenLine → LineSaid
 said_in l = record { label = l.label; command = option_map said_by l.command }
 
@@ -107,6 +115,7 @@ said_in l = record { label = l.label; command = option_map said_by l.command }
 abbrev pub Reading : Type 0
 Reading = Result LineSaid ℕ
 
+-- The reading is right: some well-formed line has this text and says this; or none has it, and this is the place where the text goes wrong.
 abbrev pub IsReading : List ℕ → Reading → Type 0
 IsReading text (Ok said) = (l : WrittenLine) × IsLine l × (text ≡ line_text l) × (said ≡ said_in l)
 IsReading text (Err place) = (IsLineText text → ⊥) × IsBadPlace IsLineText text place

@@ -23,6 +23,7 @@ abbrev pub command_said : Command → Option Said
 command_said Blank = None
 command_said command = Some (said_inside command)
 
+-- What a line of the code says.
 abbrev pub line_said : Line → LineSaid
 line_said line = record { label = line.label; command = command_said line.command }
 
@@ -37,6 +38,7 @@ abbrev pub is_input_of : Option Said → Bool
 is_input_of (Some (SaidVerb name params rest)) = same_text name (codes "INPUT")
 is_input_of said = false
 
+-- The reading is an INPUT.
 abbrev pub is_input_said : Reading → Bool
 is_input_said (Ok said) = is_input_of said.command
 is_input_said (Err place) = false

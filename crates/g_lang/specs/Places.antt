@@ -7,6 +7,7 @@ use Rattle.g_lang.specs.declared.reader.Behind.TheVariants as behind
 use Rattle.g_lang.specs.declared.reader.Place.{Place}
 use Rattle.g_lang.specs.declared.reader.Place.TheVariants as place
 
+-- What follows a fixed text, as a value of the reader of lines.
 abbrev pub next_of : Behind → Next
 next_of behind.Test = how.ATest
 next_of behind.Comma = how.AComma

@@ -13,6 +13,7 @@ abbrev pub is_label : List ℕ → Bool
 is_label [] = false
 is_label (first ∷ others) = is_digit first && nat_le (length others) 11 && list_all is_name_char others
 
+-- A text of n spaces.
 abbrev pub spaces : ℕ → List ℕ
 spaces n = replicate n 32
 
@@ -49,6 +50,7 @@ abbrev pub is_that_label : List ℕ → Option (List ℕ) → Bool
 is_that_label label None = false
 is_that_label label (Some other) = same_text other label
 
+-- The line begins with this label.
 abbrev pub has_label : List ℕ → List ℕ → Bool
 has_label label line = is_that_label label (label_in line)
 

@@ -15,9 +15,11 @@ pub record Taking : Type 0 where
   pub lines : List (List ℕ)
   pub taken : ℕ
 
+-- A document of which no line was taken.
 abbrev pub untaken : List (List ℕ) → Taking
 untaken lines = record { lines = lines; taken = 0 }
 
+-- The document with this number of lines taken.
 abbrev pub with_taken : ℕ → Taking → Taking
 with_taken taken t = record { lines = t.lines; taken = taken }
 
@@ -25,6 +27,7 @@ with_taken taken t = record { lines = t.lines; taken = taken }
 abbrev pub with_line : List ℕ → Taking → Taking
 with_line line t = record { lines = t.lines ++ line ∷ []; taken = t.taken }
 
+-- The lines that weren't taken yet.
 abbrev pub lines_left : Taking → List (List ℕ)
 lines_left t = drop t.taken t.lines
 

@@ -34,6 +34,7 @@ pub record IsGap (dumps : List DumpAt) (from n : ℕ) : Type 0 where
   pub later : (a : DumpAt) × Contains dumps a × (n < a.number)
   pub gone : (a : DumpAt) → Contains dumps a → a.number ≢ n
 
+-- The greatest such number, or none if there is none.
 abbrev pub IsNewestGap : List DumpAt → ℕ → Option ℕ → Type 0
 IsNewestGap dumps from None = (n : ℕ) → IsGap dumps from n → ⊥
 IsNewestGap dumps from (Some n) = IsGap dumps from n × ((m : ℕ) → IsGap dumps from m → m ≤ n)

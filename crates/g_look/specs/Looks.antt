@@ -24,13 +24,14 @@ IsOfList DiscUnread = Unit {0}
 IsOfList NoMemory = Unit {0}
 IsOfList fault = ⊥
 
--- The faults of reading a copy on tape, and a file.
+-- The faults of reading a copy on tape.
 abbrev pub IsOfCopy : LookFault → Type 0
 IsOfCopy NoCopy = Unit {0}
 IsOfCopy TapeUnread = Unit {0}
 IsOfCopy NoMemory = Unit {0}
 IsOfCopy fault = ⊥
 
+-- The faults of reading a file.
 abbrev pub IsOfBytes : LookFault → Type 0
 IsOfBytes DiscUnread = Unit {0}
 IsOfBytes fault = IsOfCopy fault
@@ -39,5 +40,6 @@ IsOfBytes fault = IsOfCopy fault
 abbrev pub OfDumps : Rack → (List Dump → Type 0) → Type 0
 OfDumps rack P = ReelsTold (told_reels rack) → (shelf : ℕ → List Dump) → AreShelved shelf (told_reels rack) → P (all_dumps shelf (told_reels rack))
 
+-- All reels of the rack are mounted.
 abbrev pub AreMounted : Rack → Type 0
 AreMounted rack = All (λ r. r.mounted ≡ true) rack.reels

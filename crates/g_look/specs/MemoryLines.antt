@@ -25,9 +25,11 @@ known_line k =
 abbrev pub on_reel : ℕ → List Known → List Known
 on_reel serial ks = filter (λ k. k.serial == serial) ks
 
+-- The lines of a reel's dumps.
 abbrev pub lines_on : ℕ → List Found → List (List ℕ)
 lines_on serial found = map known_line (on_reel serial (map known found))
 
+-- The number of a reel's dumps.
 abbrev pub count_on : ℕ → List Found → ℕ
 count_on serial found = length (on_reel serial (map known found))
 
@@ -41,7 +43,7 @@ tape_text serial capacity len count end =
 abbrev pub names_found : Intent → Found → Bool
 names_found i f = (f.dir.note.number == i.number) && ((f.serial == i.serial) && (f.dir.note.place == i.place))
 
--- Whether the intent's dump is completed.
+-- The text that says whether the intent's dump is completed.
 abbrev pub state_text : Bool → List ℕ
 state_text there = if there then codes " COMPLETED" else codes " NOT COMPLETED"
 
@@ -54,12 +56,13 @@ abbrev pub copy_blocks : Option DiscCopy → List ℕ
 copy_blocks None = []
 copy_blocks (Some copy) = copy.blocks
 
--- The text of a directory: its counts, and everything after the beginning of the first line.
+-- The line of a directory's counts.
 abbrev pub counts_text : ℕ → Dirs → List ℕ
 counts_text size dirs =
     ended (told (codes "USERS ") (length dirs.users.items) ++ told (codes " FILES ") (length dirs.files.items) ++ told (codes " BLOCKS ") (used_by dirs.files.items dirs.online.items)
     ++ told (codes " FREE ") (size - 2177 - used_by dirs.files.items dirs.online.items) ++ told (codes " NEXT ") dirs.head.next_stamp)
 
+-- The text of a directory after the beginning of the first line.
 abbrev pub dirs_text : ℕ → Format → List Dump → Dirs → List ℕ
 dirs_text size format dumps dirs =
     ended (told (codes " FORMAT ") (format_number format)) ++ counts_text size dirs ++ ended (told (codes "LAST DUMP ") dirs.head.last_dump)

@@ -31,6 +31,7 @@ HasBlock reels serial k = (r : Reel) × Contains reels r × (r.serial ≡ serial
 abbrev pub IsReadFrom : Rack → Rack → TapeCopy → ℕ → Type 0
 IsReadFrom old new c len = (k : ℕ) → c.first ≤ k → k < c.first + blocks_for len → HasBlock (told_reels old) c.serial k → HasRead c.serial k old new
 
+-- The bytes at a place, if there is one, were read.
 abbrev pub IsReadAt : Rack → Rack → Option TapeCopy → ℕ → Type 0
 IsReadAt old new place len = IfSome place (λ c. IsReadFrom old new c len)
 

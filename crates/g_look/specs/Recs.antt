@@ -23,10 +23,12 @@ pub record HasOtherLength (dumped : List FileRec) (r : FileRec) (len : ℕ) : Ty
   pub len_is : of.len ≡ len
   pub other : r.len ≢ len
 
+-- Rule 11 is broken by this file.
 abbrev pub IsLengthOther : List UserRec → List FileRec → List FileRec → Broken → Type 0
 IsLengthOther users files dumped (Lengths full stamp len dumped_len) =
     (r : FileRec) × Contains files r × (full_of users r ≡ full) × (r.stamp ≡ stamp) × (r.len ≡ len) × HasOtherLength dumped r dumped_len
 IsLengthOther users files dumped broken = ⊥
 
+-- All dumped records of the file's stamp have its length.
 abbrev pub HasSameLengths : List FileRec → FileRec → Type 0
 HasSameLengths dumped r = (of : FileRec) → Contains dumped of → of.stamp ≡ r.stamp → of.len ≡ r.len

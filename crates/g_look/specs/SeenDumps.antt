@@ -16,6 +16,7 @@ use Rattle.g_look.specs.declared.rack.Judged.{Judged}
 use Rattle.g_look.specs.declared.rack.Judged.TheVariants.{Fits, Breaks}
 use Rattle.g_look.specs.Rules.{BreaksRack, RackFits, rule_of}
 
+-- The two reels have different serials.
 abbrev pub OtherSerial : Reel → Reel → Type 0
 OtherSerial a b = a.serial ≢ b.serial
 
@@ -31,7 +32,7 @@ pub record IsSeen (reels : List Reel) (shelf : ℕ → List Dump) (found : List 
   pub shelved : AreShelved shelf reels
   pub known : AreKnown found (all_dumps shelf reels)
 
--- For any reels that expose their blocks, and their shelf, if these are their dumps.
+-- The property holds for any reels with this shelf, if these are their dumps.
 abbrev pub WhereSeen : List Found → (List Reel → (ℕ → List Dump) → Type 0) → Type 0
 WhereSeen found P = (reels : List Reel) (shelf : ℕ → List Dump) → IsSeen reels shelf found → P reels shelf
 
@@ -53,9 +54,11 @@ pub record SamePlace (a b : DumpAt) : Type 0 where
 abbrev pub IsTwin : DumpAt → DumpAt → Type 0
 IsTwin a b = (b.number ≡ a.number) × (SamePlace a b → ⊥)
 
+-- No two dumps have the same number at two places.
 abbrev pub HaveNoTwins : List DumpAt → Type 0
 HaveNoTwins dumps = (a b : DumpAt) → Contains dumps a → Contains dumps b → b.number ≡ a.number → SamePlace a b
 
+-- Rule 1 is broken by these two dumps.
 abbrev pub IsTwice : List DumpAt → Broken → Type 0
 IsTwice dumps (Twice a b) = Contains dumps a × Contains dumps b × IsTwin a b
 IsTwice dumps broken = ⊥
@@ -66,10 +69,12 @@ pub record IsLower (dumps : List DumpAt) (a b : DumpAt) : Type 0 where
   pub next : b.next_stamp < a.next_stamp
   pub neighbours : (c : DumpAt) → Contains dumps c → a.number < c.number → c.number < b.number → ⊥
 
+-- Rule 2 is broken by these two dumps.
 abbrev pub IsFalling : List DumpAt → Broken → Type 0
 IsFalling dumps (Falls a b) = Contains dumps a × Contains dumps b × IsLower dumps a b
 IsFalling dumps broken = ⊥
 
+-- No dump has a lower next stamp than one with a lower number.
 abbrev pub NoneFalls : List DumpAt → Type 0
 NoneFalls dumps = (a b : DumpAt) → Contains dumps a → Contains dumps b → a.number < b.number → a.next_stamp ≤ b.next_stamp
 
@@ -84,6 +89,7 @@ pub record IsRackPassed (dumps : List Dump) (files : List FileRec) : Type 0 wher
   pub files_are : (t : DumpedDirectory dumps) → files_in t ≡ files
   pub given : (r : FileRec) → Contains files r → DumpedDirectory dumps
 
+-- The verdict on a rack is right: it breaks no rule, and these are the files of its dumped directory; or this is the first rule that it breaks.
 abbrev pub IsJudged : List Dump → Judged → Type 0
 IsJudged dumps (Fits files) = IsRackPassed dumps files.items
 IsJudged dumps (Breaks broken) = IsFirstOfRack dumps broken

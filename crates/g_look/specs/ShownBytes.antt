@@ -28,6 +28,7 @@ abbrev pub AreBytesOf : List (List ℕ) → List Dump → FileEntry → List ℕ
 AreBytesOf blocks dumps (r, Some copy) text = text ≡ bytes_at copy.blocks copy.len blocks
 AreBytesOf blocks dumps (r, None) text = AreTaped dumps r text
 
+-- The text is that of the file which the path names on this disc.
 pub record IsShown (blocks : List (List ℕ)) (dumps : List Dump) (path : Path) (text : List ℕ) : Type 0 where
   pub directory : Directory
   pub stands : StandsFor blocks directory

@@ -34,7 +34,7 @@ IsDumpedPlace dumped stamp (Some copy) = (of : FileRec) × Contains dumped of ×
 abbrev pub IsSecond : Option TapeCopy → Option TapeCopy → Option TapeCopy → Type 0
 IsSecond tape place second = (second ≡ place) ⊎ ((second ≡ None) × (place ≡ tape))
 
--- ALL TEXTS AGREE.
+-- ALL TEXTS of a version AGREE, as far as there are any.
 pub record AgreeAt (reels : List Reel) (len : ℕ) (there : Option (List ℕ)) (first second : Option TapeCopy) : Type 0 where
   pub x : List ℕ
   pub y : List ℕ
@@ -49,7 +49,7 @@ abbrev pub WasReadAt : List Reel → ℕ → Option (List ℕ) → Option TapeCo
 WasReadAt reels len there first second Disc text = there ≡ Some text
 WasReadAt reels len there first second (Tape copy) text = ((first ≡ Some copy) ⊎ (second ≡ Some copy)) × IsTapeText reels copy len text
 
--- OR TWO DON'T.
+-- TWO TEXTS of a version DIFFER.
 pub record DifferAt (reels : List Reel) (len : ℕ) (there : Option (List ℕ)) (first second : Option TapeCopy) (one other : Lie) : Type 0 where
   pub x : List ℕ
   pub y : List ℕ
@@ -57,16 +57,18 @@ pub record DifferAt (reels : List Reel) (len : ℕ) (there : Option (List ℕ)) 
   pub other_is : WasReadAt reels len there first second other y
   pub differ : x ≢ y
 
--- The same for texts in memory.
+-- All texts in memory agree, as far as there are any.
 pub record AllAgree (there : Option (List ℕ)) (first : Option TapeCopy) (x : List ℕ) (second : Option TapeCopy) (y : List ℕ) : Type 0 where
   pub disc_first : IfSome there (λ b. IfSome first (λ c. b ≡ x))
   pub disc_second : IfSome there (λ b. IfSome second (λ c. b ≡ y))
   pub both : IfSome first (λ c. IfSome second (λ e. x ≡ y))
 
+-- The text in memory of one of the places.
 abbrev pub LiesHere : Option (List ℕ) → Option TapeCopy → List ℕ → Option TapeCopy → List ℕ → Lie → List ℕ → Type 0
 LiesHere there first x second y Disc text = there ≡ Some text
 LiesHere there first x second y (Tape copy) text = ((first ≡ Some copy) × (text ≡ x)) ⊎ ((second ≡ Some copy) × (text ≡ y))
 
+-- The texts in memory of two places differ.
 pub record TwoDiffer (there : Option (List ℕ)) (first : Option TapeCopy) (x : List ℕ) (second : Option TapeCopy) (y : List ℕ) (one other : Lie) : Type 0 where
   pub s : List ℕ
   pub t : List ℕ
@@ -82,18 +84,21 @@ pub record AreCompared (held : Option (List (List ℕ))) (online : List (ℕ × 
   pub place_is : IsDumpedPlace dumped r.stamp place
   pub second_is : IsSecond r.tape place second
 
+-- All texts of a file's version agree.
 pub record FileAgrees (held : Option (List (List ℕ))) (reels : List Reel) (online : List (ℕ × DiscCopy)) (dumped : List FileRec) (r : FileRec) : Type 0 where
   pub there : Option (List ℕ)
   pub second : Option TapeCopy
   pub compared : AreCompared held online dumped r there second
   pub agree : AgreeAt reels r.len there r.tape second
 
+-- The texts of a file's version at two places differ.
 pub record FileDiffers (held : Option (List (List ℕ))) (reels : List Reel) (online : List (ℕ × DiscCopy)) (dumped : List FileRec) (r : FileRec) (one other : Lie) : Type 0 where
   pub there : Option (List ℕ)
   pub second : Option TapeCopy
   pub compared : AreCompared held online dumped r there second
   pub differ : DifferAt reels r.len there r.tape second one other
 
+-- Rule 12 is broken by this file, at two of its places.
 abbrev pub AreBytesOther : Option (List (List ℕ)) → List Reel → List (ℕ × DiscCopy) → List FileRec → List UserRec → List FileRec → Broken → Type 0
 AreBytesOther held reels online dumped users files (Bytes full stamp one other) =
     (r : FileRec) × Contains files r × (full_of users r ≡ full) × (r.stamp ≡ stamp) × FileDiffers held reels online dumped r one other

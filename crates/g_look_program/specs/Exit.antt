@@ -3,6 +3,7 @@ use Rattle.std.specs.Prelude.{◌≡◌, ℕ}
 use Rattle.g_look_program.specs.declared.status.Status.{Status}
 use Rattle.g_look_program.specs.declared.status.Status.TheVariants.{Done, No, Words, Unread, OutputFault, NoMemory, Nothing}
 
+-- The exit status of a status.
 abbrev pub code_of : Status → ℕ
 code_of Done = 0
 code_of No = 1

@@ -56,6 +56,7 @@ IsFaultLine text = (text ≡ codes "DISC READ\n") ⊎ ((text ≡ codes "TAPE REA
 abbrev pub Puts : Status → List ℕ → Status → Written → Type 0
 Puts due text ended w = ((ended ≡ due) × IsWhole text w) ⊎ ((ended ≡ status.OutputFault) × IsCut text w)
 
+-- The look ends with this status, and nothing is printed.
 abbrev pub EndsQuietly : Status → Status → Written → Type 0
 EndsQuietly due ended w = (ended ≡ due) × IsQuiet w
 
@@ -96,6 +97,7 @@ verdict None (Some number) filestore = status.No
 verdict None None true = status.Done
 verdict None None false = status.Nothing
 
+-- The text of a check is printed, with the status of its verdict; or the fault for which there is none.
 abbrev pub TellsCheck : Result Checked LookFault → Status → Written → Type 0
 TellsCheck (Ok c) ended w = Puts (verdict c.verdict.broken c.verdict.missing c.filestore) c.text ended w
 TellsCheck (Err why) ended w = TellsFault why ended w
@@ -106,6 +108,7 @@ outcome true None = status.Done
 outcome true (Some number) = status.No
 outcome false missing = status.No
 
+-- The text of what a restore would give is printed, with its status; or the fault for which there is none.
 abbrev pub TellsGiven : Result Given LookFault → Status → Written → Type 0
 TellsGiven (Ok r) ended w = Puts (outcome r.given r.missing) r.text ended w
 TellsGiven (Err why) ended w = TellsFault why ended w

@@ -18,6 +18,7 @@ IsAsked (asked.List user) = IfSome user (λ u. is_word u ≡ true)
 IsAsked (asked.Show path) = IsName (path_name path)
 IsAsked asked.Restorable = Unit {0}
 
+-- The words of a list, of all users or of one.
 abbrev pub list_words : Option (List ℕ) → List (List ℕ)
 list_words None = codes "list" ∷ []
 list_words (Some user) = codes "list" ∷ (58 ∷ user) ∷ []

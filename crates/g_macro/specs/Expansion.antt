@@ -7,6 +7,7 @@ use Rattle.g_name.specs.Order.{same_text}
 abbrev pub param_of : List (List ℕ) → ℕ → List ℕ
 param_of params letter = slice_index_or params (letter - 65) []
 
+-- The text ends with these bytes.
 abbrev pub ends_with : List ℕ → List ℕ → Bool
 ends_with text back = nat_le (length back) (length text) && same_text (drop (length text - length back) text) back
 
@@ -21,6 +22,7 @@ filled params done c =
     else if is_asked done then 37 ∷ c ∷ []
     else param_of params c
 
+-- The two bytes are replaced: `%%`, or `%` with a parameter's letter.
 abbrev pub is_filled : ℕ → ℕ → Bool
 is_filled c d = c == 37 && (d == 37 || is_param_letter d)
 
@@ -33,15 +35,17 @@ expand params done (c ∷ d ∷ rest) =
     then filled params done d ++ expand params (done ++ c ∷ d ∷ []) rest
     else c ∷ expand params (done ++ c ∷ []) (d ∷ rest)
 
+-- The whole line after substitution.
 abbrev pub substituted : List (List ℕ) → List ℕ → List ℕ
 substituted params line = expand params [] line
 
--- The first piece of the rest of a line after substitution, and its length in the line.
+-- The first piece of the rest of a line after substitution.
 abbrev pub first_filled : List (List ℕ) → List ℕ → List ℕ → List ℕ
 first_filled params done [] = []
 first_filled params done (c ∷ []) = c ∷ []
 first_filled params done (c ∷ d ∷ rest) = if is_filled c d then filled params done d else c ∷ []
 
+-- The length in the line of its first piece.
 abbrev pub first_taken : List ℕ → ℕ
 first_taken [] = 0
 first_taken (c ∷ []) = 1

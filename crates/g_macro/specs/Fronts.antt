@@ -7,5 +7,6 @@ use Rattle.g_macro.specs.declared.expansion.Front.{Front}
 abbrev pub Holds : List ℕ → Front → Type 0
 Holds text front = (front.bytes.items ≡ take 240 text) × (front.is_cut ≡ nat_lt 240 (length text))
 
+-- The text is the first 240 bytes of the whole one, and `is_cut` says whether there are more.
 abbrev pub IsFilled : List ℕ → Filled → Type 0
 IsFilled text filled = (filled.text ≡ take 240 text) × (filled.is_cut ≡ nat_lt 240 (length text))

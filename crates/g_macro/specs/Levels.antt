@@ -27,6 +27,7 @@ pub record Stack : Type 0 where
 abbrev pub padded : List (List ℕ) → List (List ℕ)
 padded params = params ++ replicate (24 - length params) []
 
+-- A level at its beginning, with these lines and parameters.
 abbrev pub level_of : List (List ℕ) → List (List ℕ) → Level
 level_of lines params = record { lines = lines; params = padded params; taken = 0; entries = [] }
 
@@ -34,12 +35,15 @@ level_of lines params = record { lines = lines; params = padded params; taken = 
 abbrev pub begun : List (List ℕ) → Stack
 begun lines = record { levels = level_of lines [] ∷ []; held = false }
 
+-- The level has a line left.
 abbrev pub has_line : Level → Bool
 has_line level = nat_lt level.taken (length level.lines)
 
+-- The next line of the level.
 abbrev pub line_at : Level → List ℕ
 line_at level = slice_index_or level.lines level.taken []
 
+-- No level is below.
 abbrev pub is_last : List Level → Bool
 is_last [] = true
 is_last (level ∷ levels) = false
@@ -55,12 +59,15 @@ pub data Taken : Type 0 where
   Line : List ℕ → Taken
   TooLong : List ℕ → Taken
 
+-- A line as it is taken, or the first 240 bytes of a longer one.
 abbrev pub as_taken : List ℕ → Taken
 as_taken text = if nat_le (length text) 240 then Line text else TooLong (take 240 text)
 
+-- The level after its next line was taken.
 abbrev pub line_taken : Level → Level
 line_taken level = record level { taken = level.taken + 1 }
 
+-- The next line of the first of these levels, if it has one, and the levels afterwards.
 abbrev pub take_line : Bool → List Level → Taken × Stack
 take_line held [] = (Nothing, record { levels = []; held = held })
 take_line held (level ∷ below) =
@@ -68,7 +75,7 @@ take_line held (level ∷ below) =
     then (as_taken (substituted level.params (line_at level)), record { levels = line_taken level ∷ below; held = held })
     else (Nothing, record { levels = level ∷ below; held = held })
 
--- THE NEXT LINE
+-- THE NEXT LINE: what is taken, and the levels afterwards.
 abbrev pub next_line : Stack → Taken × Stack
 next_line s = take_line s.held (live s.held s.levels)
 
@@ -77,28 +84,34 @@ abbrev pub changed : (Level → Level) → List Level → List Level
 changed change [] = []
 changed change (level ∷ below) = change level ∷ below
 
+-- The levels with the current one changed.
 abbrev pub with_current : (Level → Level) → Stack → Stack
 with_current change s = record s { levels = changed change s.levels }
 
+-- The first level; an empty one if there is none.
 abbrev pub first_level : List Level → Level
 first_level [] = level_of [] []
 first_level (level ∷ below) = level
 
+-- The current level.
 abbrev pub current : Stack → Level
 current s = first_level s.levels
 
--- The lines of a document up to `////`, or to the end, and the number of lines that this passes.
+-- The line is `////`.
 abbrev pub is_closing : List ℕ → Bool
 is_closing line = same_text line (codes "////")
 
+-- The lines before the first `////`.
 abbrev pub before_closing : List (List ℕ) → List (List ℕ)
 before_closing [] = []
 before_closing (line ∷ lines) = if is_closing line then [] else line ∷ before_closing lines
 
+-- The number of lines up to and including the first `////`.
 abbrev pub passed : List (List ℕ) → ℕ
 passed [] = 0
 passed (line ∷ lines) = if is_closing line then 1 else 1 + passed lines
 
+-- The lines of the level that weren't taken yet.
 abbrev pub lines_left : Level → List (List ℕ)
 lines_left level = drop level.taken level.lines
 
@@ -106,16 +119,19 @@ lines_left level = drop level.taken level.lines
 abbrev pub document_of : Stack → List ℕ
 document_of s = text_of (before_closing (lines_left (current s)))
 
+-- The level after the lines of a document were taken, and `////` with them.
 abbrev pub past_document : Level → Level
 past_document level = record level { taken = level.taken + passed (lines_left level) }
 
+-- The levels after the document of an INPUT was taken from the current one.
 abbrev pub document_passed : Stack → Stack
 document_passed s = with_current past_document s
 
--- A macro's level becomes the current one; there are at most 8 levels.
+-- There are 8 levels already.
 abbrev pub is_deepest : Stack → Bool
 is_deepest s = nat_le 8 (length s.levels)
 
+-- The levels after a macro with these lines and parameters was called; its level is the current one.
 abbrev pub called : List (List ℕ) → List (List ℕ) → Stack → Stack
 called lines params s = record s { levels = level_of lines params ∷ s.levels }
 
@@ -124,37 +140,46 @@ abbrev pub line_of_label : List ℕ → List (List ℕ) → Option ℕ
 line_of_label label [] = None
 line_of_label label (line ∷ lines) = if has_label label line then Some 0 else option_map (λ n. 1 + n) (line_of_label label lines)
 
+-- The level with its next line at this place.
 abbrev pub at_line : ℕ → Level → Level
 at_line place level = record level { taken = place }
 
+-- The levels with the current one's next line at this place.
 abbrev pub gone_to : ℕ → Stack → Stack
 gone_to place s = with_current (at_line place) s
 
--- The command replaces that of an equal condition, or is appended.
+-- One of the entries has an equal condition.
 abbrev pub has_cond : Cond → List Entry → Bool
 has_cond cond [] = false
 has_cond cond (entry ∷ entries) = same_cond entry.cond cond || has_cond cond entries
 
+-- The entries with a command for a condition: it replaces that of an equal condition, or is appended.
 abbrev pub with_entry : Cond → List ℕ → List Entry → List Entry
 with_entry cond command [] = record { cond = cond; command = command } ∷ []
 with_entry cond command (entry ∷ entries) =
     if same_cond entry.cond cond then record entry { command = command } ∷ entries else entry ∷ with_entry cond command entries
 
+-- The current level has no room for a command that waits for this condition.
 abbrev pub is_full_for : Cond → Stack → Bool
 is_full_for cond s = not (has_cond cond (current s).entries) && nat_le 16 (length (current s).entries)
 
+-- The level with a command stored for a condition.
 abbrev pub entry_kept : Cond → List ℕ → Level → Level
 entry_kept cond command level = record level { entries = with_entry cond command level.entries }
 
+-- The levels with a command stored for a condition in the current one.
 abbrev pub with_whenever : Cond → List ℕ → Stack → Stack
 with_whenever cond command s = with_current (entry_kept cond command) s
 
+-- The level with the parameter of a letter set.
 abbrev pub param_set : ℕ → List ℕ → Level → Level
 param_set letter value level = record level { params = slice_set level.params (letter - 65) value }
 
+-- The levels with a parameter of the current one set.
 abbrev pub with_param : ℕ → List ℕ → Stack → Stack
 with_param letter value s = with_current (param_set letter value) s
 
+-- The condition holds, by the parameters of the current level and the outcome of the last command.
 abbrev pub holds : Stack → Cond → Outcome → Bool
 holds s cond outcome = cond_holds (current s).params outcome cond
 

@@ -10,18 +10,22 @@ use Rattle.g_name.specs.Order.{same_text}
 use Rattle.g_name.specs.Words.{is_empty}
 use Rattle.g_macro.specs.declared.outcome.EventNote.TheVariants as note
 
+-- The program halted with this text.
 abbrev pub has_halted : EventNote → List ℕ → Bool
 has_halted (note.Halted text) other = same_text text other
 has_halted event other = false
 
+-- The program was deleted with this text.
 abbrev pub has_deleted : EventNote → List ℕ → Bool
 has_deleted (note.Deleted text) other = same_text text other
 has_deleted event other = false
 
+-- The program reached an illegal order.
 abbrev pub has_failed : EventNote → Bool
 has_failed note.Failed = true
 has_failed event = false
 
+-- The test holds, by the parameters of a level and the outcome of the last command.
 abbrev pub test_holds : List (List ℕ) → Outcome → Test → Bool
 test_holds params outcome CommandError = outcome.error
 test_holds params outcome Failed = has_failed outcome.event

@@ -85,6 +85,7 @@ moved s o =
     let to = word_at s (next_accumulator o) % 2 ^ 15 in
     if nat_le (from + count) (size s) && nat_le (to + count) (size s) then done (record s { words = copied count s.words from to }) else None
 
+-- The outcome of an order by its function. It is illegal if it needs a word or a text that the program doesn't have.
 abbrev pub effect : Function → Machine → Fields → Outcome
 effect (Load operation) s o =
     option_and_then (λ n. let x = accumulator s o in done (result_at s o.x (made operation x n) (overflows operation x n))) (operand s o)

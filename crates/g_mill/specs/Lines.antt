@@ -6,6 +6,7 @@ abbrev pub before_lines : ℕ → List (List ℕ) → List (List ℕ)
 before_lines b [] = (b ∷ []) ∷ []
 before_lines b (line ∷ lines) = (b ∷ line) ∷ lines
 
+-- The lines of a text, without their bytes 10.
 abbrev pub lines : List ℕ → List (List ℕ)
 lines [] = []
 lines (b ∷ bytes) = if b == 10 then [] ∷ lines bytes else before_lines b (lines bytes)

@@ -6,6 +6,7 @@ use Rattle.g_mill.specs.Machine.{Machine}
 use Rattle.g_mill.specs.declared.loading.LoadFault.{LoadFault}
 use Rattle.g_mill.specs.declared.loading.LoadFault.TheVariants.{BadProgram, NoMemory}
 
+-- The byte is a digit from 0 to 7.
 abbrev pub is_octal_digit : ℕ → Bool
 is_octal_digit b = nat_le 48 b && nat_lt b 56
 

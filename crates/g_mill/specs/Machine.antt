@@ -4,6 +4,7 @@ use Rattle.std.specs.List.{range_with_len}
 use Rattle.g_word.specs.Characters.{character, byte_of}
 use Rattle.g_order.specs.Order.{Fields}
 
+-- The state of a program: its words, the address of its next order, and overflow.
 pub record Machine : Type 0 where
   pub words : List ℕ
   pub next : ℕ
@@ -21,10 +22,11 @@ size s = length s.words
 abbrev pub word_at : Machine → ℕ → ℕ
 word_at s a = slice_index s.words a
 
--- The accumulator that the X of an order names, and the next one; X0 follows X7.
+-- The accumulator that the X of an order names.
 abbrev pub accumulator : Machine → Fields → ℕ
 accumulator s o = word_at s o.x
 
+-- The accumulator after the one that X names; X0 follows X7.
 abbrev pub next_accumulator : Fields → ℕ
 next_accumulator o = (o.x + 1) % 8
 

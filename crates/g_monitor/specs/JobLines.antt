@@ -20,6 +20,7 @@ mark_text mark.Halted = codes "HALTED "
 mark_text mark.Deleted = codes "DELETED "
 mark_text mark.Displayed = codes "DISPLAY "
 
+-- A text after its mark.
 abbrev pub marked : Mark → List ℕ → List ℕ
 marked mark text = mark_text mark ++ text
 

@@ -7,6 +7,7 @@ use Rattle.g_trap.specs.declared.mode_set.Mode.{Mode}
 use Rattle.g_trap.specs.declared.mode_set.Mode.TheVariants.{Read, Write, Append, Execute, Erase}
 use Rattle.g_trap.specs.ModeSet.{allows}
 
+-- The word of a mode.
 abbrev pub mode_word : Mode → List ℕ
 mode_word Read = codes "READ"
 mode_word Write = codes "WRITE"
@@ -14,6 +15,7 @@ mode_word Append = codes "APPEND"
 mode_word Execute = codes "EXECUTE"
 mode_word Erase = codes "ERASE"
 
+-- The text of a full name.
 abbrev pub full_text : Full → List ℕ
 full_text full = name_text (full_name full)
 
@@ -26,10 +28,11 @@ unfoldable pub modes_text : ℕ → List ℕ
 modes_text modes =
     shown_mode modes Read 82 ∷ shown_mode modes Write 87 ∷ shown_mode modes Append 65 ∷ shown_mode modes Execute 88 ∷ shown_mode modes Erase 69 ∷ []
 
--- Words and a number, or two numbers with a space between them.
+-- Words and a number.
 abbrev pub with_number : List ℕ → ℕ → List ℕ
 with_number words n = words ++ decimal n
 
+-- Words and two numbers with a space between them.
 abbrev pub with_numbers : List ℕ → ℕ → ℕ → List ℕ
 with_numbers words m n = ((words ++ decimal m) ++ codes " ") ++ decimal n
 

@@ -67,6 +67,7 @@ error_line (error.BadParameter index) = with_number (codes "59 BAD PARAMETER ") 
 error_line error.WheneversFull = codes "60 WHENEVERS FULL"
 error_line (error.BadPlan line) = with_number (codes "61 BAD PLAN ") line
 
+-- The number of an error.
 abbrev pub error_number : CommandError → ℕ
 error_number (error.BadLine place) = 50
 error_number error.UnknownVerb = 51

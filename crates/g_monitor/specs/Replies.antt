@@ -16,6 +16,7 @@ done_line (TrapGo path user modes) = codes "TRAPS SET"
 done_line (TrapStop path user modes) = codes "TRAPS SET"
 done_line call = []
 
+-- The user whose files a call lists.
 abbrev pub listed_user : StoreCall → List ℕ
 listed_user (ListFiles user) = user
 listed_user call = []

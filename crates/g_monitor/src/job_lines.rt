@@ -48,7 +48,7 @@ pub enum JobLine {
     MoneyUp(u64),
     /// The last line of a monitoring file that is full.
     Full,
-    /// The last line of a job that ended because a device write failed.
+    /// The last line of a job that SHUT or a failed device write ended.
     Break,
     /// The last line of a job that waits for this reel at the end of the run.
     WaitingTape(u32),

@@ -19,6 +19,7 @@ vacant = record { readers = replicate 8 None; writers = replicate 16 None }
 abbrev pub at_place : {X : Type 0} → List (Option X) → ℕ → Option X
 at_place units place = slice_index_or units place None
 
+-- Units of this kind are card readers.
 abbrev pub is_reader : Kind → Bool
 is_reader Cr = true
 is_reader Lp = false

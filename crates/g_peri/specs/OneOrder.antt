@@ -25,6 +25,7 @@ transferred units p None = record {
   event = came.Illegal (slice_index p.words (preceding p.next)) (preceding p.next);
 }
 
+-- The state after an order whose step left this program and this event.
 abbrev pub ordered_by : Held → Machine → Event → Ordered
 ordered_by units p event.Ran = record { units = units; machine = p; event = came.Ran }
 ordered_by units p (event.Peri area) = transferred units p (transfer units p area)

@@ -51,6 +51,7 @@ written_by (Some output) place bytes h s =
 abbrev pub given : Machine → Area → List ℕ
 given s c = added (c.unit - 8) (characters s.words c.from c.count)
 
+-- The reply of the unit that a control area names.
 abbrev pub answered : Held → Machine → Area → Reply
 answered h s c =
     if nat_lt c.unit 8 then read_by (at_place h.readers c.unit) h s c else (let place = c.unit - 8 in written_by (at_place h.writers place) place (given s c) h s)

@@ -17,13 +17,16 @@ use Rattle.g_plan.specs.declared.form.Value.TheVariants.{Number, Named}
 use Rattle.g_plan.specs.declared.mnemonic.Row.{Row}
 use Rattle.g_plan.specs.declared.source.Line.{Line}
 
+-- The line consists of spaces.
 abbrev pub is_blank : List ℕ → Bool
 is_blank line = list_all is_space line
 
+-- The label is this one.
 abbrev pub is_this : List ℕ → Option (List ℕ) → Bool
 is_this label None = false
 is_this label (Some other) = same_text other label
 
+-- The line has this label.
 abbrev pub has_label : List ℕ → List ℕ → Bool
 has_label label line = is_this label (label_in line)
 
@@ -32,7 +35,8 @@ abbrev pub is_among : List (List ℕ) → Option (List ℕ) → Bool
 is_among earlier None = false
 is_among earlier (Some label) = list_any (has_label label) earlier
 
--- The first line that isn't blank is PROGRAM, and no other line is.
+-- The form, if it is allowed at its place. The flag says whether all earlier lines are blank; then only PROGRAM is allowed, otherwise every form but
+-- PROGRAM.
 abbrev pub in_place : Bool → Form → Option Form
 in_place true (Program n) = Some (Program n)
 in_place true other = None
@@ -46,6 +50,7 @@ form_behind earlier line =
     else if is_among earlier (label_in line) then None
     else option_and_then (in_place (list_all is_blank earlier)) (form_read line)
 
+-- What each of these lines says after the earlier ones.
 abbrev pub forms_behind : List (List ℕ) → List (List ℕ) → List (Option Form)
 forms_behind earlier [] = []
 forms_behind earlier (line ∷ lines) = form_behind earlier line ∷ forms_behind (earlier ++ line ∷ []) lines
@@ -63,6 +68,7 @@ moved place None = place
 moved place (Some (At n)) = n
 moved place (Some form) = min (place + count form) 32768
 
+-- The lines with their labels, forms and places.
 abbrev pub lines_with : List (List ℕ) → List (Option Form) → List ℕ → List Line
 lines_with (line ∷ lines) (form ∷ forms) (place ∷ places) = record { label = label_in line; form = form; place = place } ∷ lines_with lines forms places
 lines_with lines forms places = []
@@ -76,6 +82,7 @@ abbrev pub resolved : List Line → Value → Option ℕ
 resolved all (Number n) = Some n
 resolved all (Named label) = option_map (λ line. line.place) (find (λ line. is_this label line.label) all)
 
+-- The address, if it isn't above the maximum.
 abbrev pub at_most : Option ℕ → ℕ → Option ℕ
 at_most None a = Some a
 at_most (Some most) a = if nat_le a most then Some a else None
@@ -84,13 +91,15 @@ at_most (Some most) a = if nat_le a most then Some a else None
 abbrev pub address : List Line → Row → Value → Option ℕ
 address all row v = option_and_then (at_most row.most) (resolved all v)
 
+-- The fields of an order with this row, accumulator, modifier and address.
 abbrev pub fields_with : Row → ℕ → ℕ → ℕ → Fields
 fields_with row x m a = record { x = x; f = row.f; m = m; n = a + row.adds }
 
--- Four characters in a word, filled up with spaces after the last.
+-- The word of four characters.
 abbrev pub four : ℕ → ℕ → ℕ → ℕ → ℕ
 four a b c d = ((code_of a * 64 + code_of b) * 64 + code_of c) * 64 + code_of d
 
+-- The words of characters, four in each; the last word is filled up with spaces.
 abbrev pub char_words : List ℕ → List ℕ
 char_words [] = []
 char_words (a ∷ []) = four a 32 32 32 ∷ []
@@ -105,10 +114,11 @@ given all (Chars text) = Some (char_words text)
 given all (Order name x m v) = option_map (λ a. word_of (fields_with (row_of name) x m a) ∷ []) (address all (row_of name) v)
 given all other = Some []
 
--- The words of a line, each with its place; together they are its cells.
+-- The cells of a line: its words, each with its place.
 abbrev pub cells : List Line → Line → Option (List (ℕ × ℕ))
 cells all line = option_map (enumerate_from line.place) (option_and_then (given all) line.form)
 
+-- The cells of these lines, in order.
 abbrev pub all_cells : List Line → List Line → List (ℕ × ℕ)
 all_cells all lines = flat_map (λ line. unwrap_or (cells all line) []) lines
 
@@ -120,10 +130,12 @@ is_at place cell = cell.0 == place
 abbrev pub is_free : ℕ → List (ℕ × ℕ) → ℕ × ℕ → Bool
 is_free size filled cell = nat_lt cell.0 size && not (list_any (is_at cell.0) filled)
 
+-- The place of an AT is below the size; other forms have no such limit.
 abbrev pub is_below : ℕ → Option Form → Bool
 is_below size (Some (At n)) = nat_lt n size
 is_below size form = true
 
+-- There are cells, and all of them are free.
 abbrev pub are_free : ℕ → List (ℕ × ℕ) → Option (List (ℕ × ℕ)) → Bool
 are_free size filled None = false
 are_free size filled (Some cells) = list_all (is_free size filled) cells
@@ -132,6 +144,7 @@ are_free size filled (Some cells) = list_all (is_free size filled) cells
 abbrev pub is_good : List Line → ℕ → List Line → Line → Bool
 is_good all size earlier line = is_below size line.form && are_free size (all_cells all earlier) (cells all line)
 
+-- The size that a form says, if it is PROGRAM.
 abbrev pub size_of : Option Form → Option ℕ
 size_of (Some (Program n)) = Some n
 size_of form = None
@@ -141,12 +154,13 @@ abbrev pub size_in : List Line → Option ℕ
 size_in [] = None
 size_in (line ∷ lines) = option_or (size_of line.form) (size_in lines)
 
+-- The number of the first of these lines that isn't good after the earlier ones.
 abbrev pub bad_behind : List Line → ℕ → List Line → List Line → Option ℕ
 bad_behind all size earlier [] = None
 bad_behind all size earlier (line ∷ lines) =
     if is_good all size earlier line then bad_behind all size (earlier ++ line ∷ []) lines else Some (length earlier + 1)
 
--- A source of blank lines has the bad line 1.
+-- The first bad line; 1 if there is none and the source has no size, as a source of blank lines.
 abbrev pub bad_or_first : Option ℕ → Option ℕ → Option ℕ
 bad_or_first None None = Some 1
 bad_or_first size bad = bad
@@ -155,16 +169,19 @@ bad_or_first size bad = bad
 abbrev pub first_bad : List Line → Option ℕ
 first_bad all = bad_or_first (size_in all) (bad_behind all (unwrap_or (size_in all) 0) [] all)
 
--- THE WORDS of a program up to the last one that a line fills; words that no line fills are 0.
+-- The word at a place: that of the first cell there, or 0 if no line fills it.
 abbrev pub word_at : List (ℕ × ℕ) → ℕ → ℕ
 word_at filled place = unwrap_or (option_map (λ cell. cell.1) (find (is_at place) filled)) 0
 
+-- The place after the last cell.
 abbrev pub end_of : List (ℕ × ℕ) → ℕ
 end_of filled = fold (λ last cell. max last (cell.0 + 1)) 0 filled
 
+-- The words at the places below `end`.
 abbrev pub words_up_to : List (ℕ × ℕ) → ℕ → List ℕ
 words_up_to filled end = map (word_at filled) (range_with_len 0 end)
 
+-- THE WORDS of a program up to the last one that a line fills.
 abbrev pub program_words : List Line → List ℕ
 program_words all = words_up_to (all_cells all all) (end_of (all_cells all all))
 
@@ -172,6 +189,7 @@ program_words all = words_up_to (all_cells all all) (end_of (all_cells all all))
 abbrev pub file_of : List Line → List ℕ
 file_of all = text_of (map (octal_digits 8) (unwrap_or (size_in all) 0 ∷ program_words all))
 
+-- The program file, or the bad line if there is one.
 abbrev pub file_or_bad : List Line → Option ℕ → Result (List ℕ) ℕ
 file_or_bad all None = Ok (file_of all)
 file_or_bad all (Some bad) = Err bad

@@ -26,11 +26,12 @@ IsWord v text = IsValue (2 ^ 24 - 1) v text ⊎ IsNegative v text
 abbrev pub IsModifier : Bool → ℕ → List ℕ → Type 0
 IsModifier may m text = ((m ≡ 0) × (text ≡ [])) ⊎ ((may ≡ true) × (1 ≤ m) × (m ≤ 3) × (text ≡ 40 ∷ (48 + m) ∷ 41 ∷ []))
 
--- The words for the accumulator, if the name has none of its own, and for the address, if the name has one.
+-- The words for the accumulator: one digit from 0 to 7, or none if the name determines it.
 abbrev pub IsAccumulator : Option ℕ → ℕ → List (List ℕ) → Type 0
 IsAccumulator None x texts = (x < 8) × (texts ≡ ((48 + x) ∷ []) ∷ [])
 IsAccumulator (Some y) x texts = (x ≡ y) × (texts ≡ [])
 
+-- The words for the address, if the name has one: a value and its modifier.
 abbrev pub IsAddressOf : Option ℕ → Bool → ℕ → Value → List (List ℕ) → Type 0
 IsAddressOf None may m v texts = (m ≡ 0) × (v ≡ Number 0) × (texts ≡ [])
 IsAddressOf (Some most) may m v texts =

@@ -23,10 +23,11 @@ Assembles text (Ok file) = assembled text ≡ Ok file
 Assembles text (Err (BadPlan line)) = assembled text ≡ Err line
 Assembles text (Err NoMemory) = Unit {0}
 
--- The size of the program, and its words up to that size: those of the lines, otherwise 0.
+-- The size of the program, 0 if no line says it.
 abbrev pub size_or_none : List Line → ℕ
 size_or_none all = unwrap_or (size_in all) 0
 
+-- The words of the program, filled up with 0 to its size.
 abbrev pub whole_program : List Line → List ℕ
 whole_program all = program_words all ++ replicate (size_or_none all - length (program_words all)) 0
 
@@ -50,6 +51,7 @@ abbrev pub IsReading : List ℕ → Option Form → Type 0
 IsReading line (Some form) = IsForm form line
 IsReading line None = (form : Form) → IsForm form line → ⊥
 
+-- Each line is read as a form that it has, or as none if it has no form; and no line has two forms.
 pub record ReadByForms : Type 0 where
   pub reads : (line : List ℕ) → IsReading line (form_read line)
   pub one : (line : List ℕ) (f g : Form) → IsForm f line → IsForm g line → f ≡ g

@@ -23,6 +23,7 @@ abbrev pub place_from : List (List ℕ) → ℕ → List (List ℕ) → ℕ
 place_from earlier place [] = place
 place_from earlier place (line ∷ lines) = place_from (earlier ++ line ∷ []) (moved place (form_behind earlier line)) lines
 
+-- The reader's state after these lines: the lines so far, the place after them, and whether all are blank.
 pub record IsReadBehind (earlier : List (List ℕ)) (r : Reader) : Type 0 where
   pub source_is : r.source ≡ read_from [] 20 earlier
   pub place_is : r.place ≡ place_from [] 20 earlier

@@ -12,38 +12,45 @@ use Rattle.g_plan.specs.declared.image.Image.{Image}
 use Rattle.g_plan.specs.declared.mnemonic.Row.{Row}
 use Rattle.g_plan.specs.declared.source.Line.{Line}
 
--- The parts of a form that was read are in range: the size, the number of a word, the accumulator, the modifier.
+-- The number of a WORD line is a word; a label has no such limit.
 abbrev pub IsWordValue : Value → Type 0
 IsWordValue (Number n) = n < 2 ^ 24
 IsWordValue (Named label) = Unit {0}
 
+-- The accumulator is that of the name, or below 8 if the name has none.
 abbrev pub HasX : Option ℕ → ℕ → Type 0
 HasX None x = x < 8
 HasX (Some y) x = x ≡ y
 
+-- The modifier is below 4, and 0 if the name allows none.
 abbrev pub HasM : Bool → ℕ → Type 0
 HasM true m = m < 4
 HasM false m = m ≡ 0
 
+-- The value is 0 if the name has no address.
 abbrev pub HasAddress : Option ℕ → Value → Type 0
 HasAddress None v = v ≡ Number 0
 HasAddress (Some most) v = Unit {0}
 
+-- The accumulator, the modifier and the value suit the row of the name.
 pub record IsOperand (row : Row) (x m : ℕ) (v : Value) : Type 0 where
   pub x_fits : HasX row.x x
   pub m_fits : HasM row.modified m
   pub v_fits : HasAddress row.most v
 
+-- The parts of a form are in range.
 abbrev pub Fits : Form → Type 0
 Fits (Program n) = (32 ≤ n) × (n ≤ 32768)
 Fits (Word v) = IsWordValue v
 Fits (Order name x m v) = IsOperand (row_of name) x m v
 Fits form = Unit {0}
 
+-- The parts of a form, if there is one, are in range.
 abbrev pub MayFit : Option Form → Type 0
 MayFit None = Unit {0}
 MayFit (Some form) = Fits form
 
+-- The parts of all lines' forms are in range.
 abbrev pub AllFit : List Line → Type 0
 AllFit lines = (k : ℕ) (line : Line) → slice_get lines k ≡ Some line → MayFit line.form
 

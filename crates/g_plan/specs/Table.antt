@@ -25,6 +25,7 @@ alone f = record { x = Some 0; f = f; adds = 0; most = None; modified = false }
 abbrev pub jump : ℕ → Row
 jump f = record { x = None; f = f; adds = 0; most = Some 32767; modified = false }
 
+-- Branches without an accumulator: `NAME a`.
 abbrev pub jump_of_x : ℕ → Row
 jump_of_x x = record { x = Some x; f = 0o074; adds = 0; most = Some 32767; modified = false }
 
@@ -130,6 +131,7 @@ name_text name.Sll = codes "SLL"
 name_text name.Src = codes "SRC"
 name_text name.Srl = codes "SRL"
 
+-- All names, in the order of the table.
 abbrev pub mnemonics : List Mnemonic
 mnemonics =
     name.Ldx ∷ name.Adx ∷ name.Ngx ∷ name.Sbx ∷ name.Sto ∷ name.Ads ∷ name.Ngs ∷ name.Sbs ∷ name.Andx

@@ -7,9 +7,11 @@ use Rattle.g_name.specs.Grammar.{is_digit, is_letter}
 abbrev pub is_printed : ℕ → Bool
 is_printed c = nat_le 32 c && nat_le c 126
 
+-- The byte is a space.
 abbrev pub is_space : ℕ → Bool
 is_space c = c == 32
 
+-- The text isn't empty.
 abbrev pub is_some_text : List ℕ → Bool
 is_some_text [] = false
 is_some_text (c ∷ cs) = true
@@ -27,23 +29,26 @@ before stop (c ∷ cs) = if c == stop then [] else c ∷ before stop cs
 abbrev pub front_of : List ℕ → List ℕ
 front_of text = before 32 text
 
--- The text without its leading spaces, and without its trailing ones.
+-- The text without its leading spaces.
 abbrev pub without_front : List ℕ → List ℕ
 without_front [] = []
 without_front (c ∷ cs) = if c == 32 then without_front cs else c ∷ cs
 
+-- A byte before others, dropped if it is a space and nothing follows.
 abbrev pub before_rest : ℕ → List ℕ → List ℕ
 before_rest c [] = if c == 32 then [] else c ∷ []
 before_rest c (d ∷ rest) = c ∷ d ∷ rest
 
+-- The text without its trailing spaces.
 abbrev pub without_back : List ℕ → List ℕ
 without_back [] = []
 without_back (c ∷ cs) = before_rest c (without_back cs)
 
--- A label is a letter and up to 7 of A to Z and 0 to 9.
+-- The byte is a capital letter or a digit.
 abbrev pub is_label_byte : ℕ → Bool
 is_label_byte c = is_letter c || is_digit c
 
+-- The text is a label: a letter and up to 7 letters and digits.
 abbrev pub is_label : List ℕ → Bool
 is_label [] = false
 is_label (first ∷ others) = is_letter first && nat_le (length others) 7 && list_all is_label_byte others

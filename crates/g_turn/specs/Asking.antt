@@ -11,11 +11,12 @@ use Rattle.g_plain.specs.declared.calls.StoreReply.TheVariants.{Appended, Made}
 
 -- No store gives an answer of another kind than the call's; the work is then unchanged.
 module _ (room : ℕ) where
-  -- A verb of one call that has no bytes.
+  -- The use of the answer to a verb's only call: its reply is printed, or its refusal.
   abbrev pub by_answer : StoreCall → Work → Answer → Asks Work
   by_answer asked w (Ok reply) = Gives (say_all room (reply_lines asked reply) (done w))
   by_answer asked w (Err fault) = Gives (refused room fault w)
 
+  -- A verb of one call that has no bytes: makes the call and prints its reply.
   abbrev pub one_call : StoreCall → Work → Asks Work
   one_call asked w = Call asked (by_answer asked w)
 
@@ -26,6 +27,7 @@ module _ (room : ℕ) where
   put_told comes_well path bytes w (Ok reply) = Gives w
   put_told comes_well path bytes w (Err fault) = Gives (refused room fault w)
 
+  -- Writes bytes to a path.
   abbrev pub put : Bool → Path → List ℕ → Work → Asks Work
   put comes_well path bytes w = Call (call.Put path bytes) (put_told comes_well path bytes w)
 
@@ -36,5 +38,6 @@ module _ (room : ℕ) where
   append_told path bytes w (Ok reply) = Gives w
   append_told path bytes w (Err fault) = Gives (refused room fault w)
 
+  -- Appends bytes to a file.
   abbrev pub append : Path → List ℕ → Work → Asks Work
   append path bytes w = Call (call.Append path bytes) (append_told path bytes w)

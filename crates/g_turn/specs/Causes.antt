@@ -4,6 +4,7 @@ use Rattle.g_turn.specs.State.{Broken, Stop, Waits, Work}
 use Rattle.g_plain.specs.Programs.{Answer, Asks, Call, Gives}
 use Rattle.g_plain.specs.declared.faults.StoreFault.TheVariants as fault
 
+-- The last answer of a list, if there is one.
 abbrev pub last_answer : List Answer → Option Answer
 last_answer [] = None
 last_answer (answer ∷ []) = Some answer

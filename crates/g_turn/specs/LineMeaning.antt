@@ -34,6 +34,7 @@ abbrev pub is_wanting : Result Line LangFault → Bool
 is_wanting (Err NoMemory) = true
 is_wanting other = false
 
+-- What a line that was read says is well-formed.
 abbrev pub IsReadWell : Result Line LangFault → Type 0
 IsReadWell (Ok line) = IfSome (command_said line.command) IsSpoken
 IsReadWell (Err fault) = Unit {0}

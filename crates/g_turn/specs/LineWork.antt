@@ -16,7 +16,6 @@ pub record IsReady (w : Work) : Type 0 where
   pub level : is_some w.again ≡ true → 0 < length w.desk.levels.levels
 
 -- THE PRECONDITIONS OF A COMMAND: the store isn't spent; the work isn't over, has a level, and has transferred no more blocks than a line may.
--- blocks than a line uses
 pub record TakesCommand (is_spent : Bool) (w : Work) : Type 0 where
   pub running : is_spent ≡ false
   pub going : is_over w ≡ false

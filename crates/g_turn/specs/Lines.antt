@@ -32,13 +32,16 @@ module _ (room : ℕ) (who : List ℕ) where
   does_read (Err place) w = Gives w
   does_read (Ok said) w = done_if room who true said.command w
 
+  -- Executes the command of a WHENEVER that fired; if it waits, the turn resumes with it.
   abbrev pub does_fired : List ℕ → Work → Asks Work
   does_fired text w = does_read (reading text) (to_go_on text w)
 
+  -- Prints the command that fires and executes it; nothing if none does.
   abbrev pub fires : Option (List ℕ × List Level) → Work → Asks Work
   fires None w = Gives w
   fires (Some entry) w = and_then is_over (Gives (says_fired room entry.0 entry.1 w)) (does_fired entry.0)
 
+  -- Executes the WHENEVER that fires, if the command set the outcome.
   abbrev pub may_fire : Work → Asks Work
   may_fire w = if w.sets then fires (fired w.desk.outcome w.desk.levels.levels) w else Gives w
 
@@ -47,16 +50,19 @@ module _ (room : ℕ) (who : List ℕ) where
   does_line (Err place) w = Gives (in_error room (errors.BadLine place) w)
   does_line (Ok said) w = done_if room who false said.command w
 
+  -- Executes a line after its echo, and the WHENEVER after it.
   abbrev pub behind_echo : List ℕ → Work → Asks Work
   behind_echo text w = and_then is_over (does_line (reading text) w) may_fire
 
+  -- Executes a line: its echo, its command, and the WHENEVER after it.
   abbrev pub line : List ℕ → Work → Asks Work
   line text w = and_then is_over (Gives (says_line room text w)) (behind_echo text)
 
-  -- A line above 240 bytes is bad; its first 240 bytes are printed unchanged.
+  -- The error of a line above 240 bytes, and the WHENEVER after it.
   abbrev pub too_long : Work → Asks Work
   too_long w = and_then is_over (Gives (in_error room (errors.BadLine 240) w)) may_fire
 
+  -- A line above 240 bytes is bad: its first 240 bytes are printed unchanged, followed by the error.
   abbrev pub long_line : List ℕ → Work → Asks Work
   long_line front w = and_then is_over (Gives (say room (marked mark.Taken front) w)) too_long
 

@@ -23,21 +23,24 @@ module _ (room : ℕ) where
       if is_deepest w.desk.levels then in_error room errors.TooDeep w
       else done (with_levels (called (lines_of bytes) params w.desk.levels) w)
 
-  -- The answer of the second search. Any refusal except NoFile is the result; if neither directory has the file, the verb is unknown.
+  -- The use of the second search's answer. Any refusal except NoFile is the result; if neither directory has the file, the verb is unknown.
   abbrev pub second_looked : List (List ℕ) → Work → Answer → Asks Work
   second_looked params w (Ok (Bytes full bytes)) = Gives (macro_called params bytes (with_bytes (length bytes) w))
   second_looked params w (Ok reply) = Gives w
   second_looked params w (Err fault.NoFile) = Gives (in_error room errors.UnknownVerb w)
   second_looked params w (Err other) = Gives (refused room other w)
 
+  -- Searches a macro in the directory of MACROS, and calls it.
   abbrev pub look_up_shared : List ℕ → List (List ℕ) → Work → Asks Work
   look_up_shared name params w = Call (call.Fetch (macro_path (Some (codes "MACROS")) name) mode.Execute) (second_looked params w)
 
+  -- The use of the first search's answer: with NoFile the search continues in the directory of MACROS.
   abbrev pub first_looked : List ℕ → List (List ℕ) → Work → Answer → Asks Work
   first_looked name params w (Ok (Bytes full bytes)) = Gives (macro_called params bytes (with_bytes (length bytes) w))
   first_looked name params w (Ok reply) = Gives w
   first_looked name params w (Err fault.NoFile) = look_up_shared name params w
   first_looked name params w (Err other) = Gives (refused room other w)
 
+  -- Searches a macro in the job's own directory, then in that of MACROS, and calls it.
   abbrev pub look_up : List ℕ → List (List ℕ) → Work → Asks Work
   look_up name params w = Call (call.Fetch (macro_path None name) mode.Execute) (first_looked name params w)

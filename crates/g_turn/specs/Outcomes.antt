@@ -14,9 +14,11 @@ use Rattle.g_peri.specs.JobUnits.{Held}
 use Rattle.g_plain.specs.declared.faults.StoreFault.{StoreFault}
 use Rattle.g_plain.specs.declared.faults.StoreFault.TheVariants as fault
 
+-- The work is over.
 abbrev pub is_over : Work → Bool
 is_over w = is_some w.stop
 
+-- The work is over for this reason.
 abbrev pub stopped : Stop → Work → Work
 stopped why w = record w { stop = Some why }
 
@@ -30,9 +32,11 @@ abbrev pub say_all : ℕ → List (List ℕ) → Work → Work
 say_all room [] w = w
 say_all room (line ∷ lines) w = if is_over (say room line w) then say room line w else say_all room lines (say room line w)
 
+-- The work with other levels.
 abbrev pub with_levels : Stack → Work → Work
 with_levels levels w = record w { desk = record w.desk { levels = levels } }
 
+-- The work with other units.
 abbrev pub with_units : Held → Work → Work
 with_units units w = record w { desk = record w.desk { units = units } }
 

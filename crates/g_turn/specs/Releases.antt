@@ -16,9 +16,11 @@ use Rattle.g_plain.specs.Programs.{Asks, Gives, and_then}
 abbrev pub without_readers : Work → Work
 without_readers w = with_units (record w.desk.units { readers = replicate 8 None }) w
 
+-- The job is done.
 abbrev pub finished : Work → Asks Work
 finished w = Gives (stopped Done w)
 
+-- The work without a program.
 abbrev pub dropped : Work → Work
 dropped w = record w { desk = record w.desk { program = None; halted = false } }
 
@@ -28,6 +30,7 @@ module _ (room : ℕ) where
   given_back None w = Gives (say room (job_line line.Released) (done w))
   given_back (Some output) w = put room true output.0 output.1 w
 
+  -- RELEASE of a unit; it is an error if the unit isn't assigned.
   abbrev pub release : unit.Unit → Work → Asks Work
   release u w =
       if is_assigned w.desk.units u then given_back (output_of w.desk.units u) (with_units (released w.desk.units u) w)
@@ -52,13 +55,15 @@ module _ (room : ℕ) where
   abbrev pub end_job : Work → Asks Work
   end_job w = and_then is_over (release_all (done w)) finished
 
-  -- DELETE: the program is dropped, the units are released, and then DELETED is printed; without a program nothing is released.
+  -- DELETED is printed.
   abbrev pub deleted : Work → Asks Work
   deleted w = Gives (say room (job_line line.Deleted) w)
 
+  -- DELETE: the program is dropped, the units are released, and then DELETED is printed.
   abbrev pub drop_program : Work → Asks Work
   drop_program w = and_then is_over (release_all (done (dropped w))) deleted
 
+  -- DELETE; without a program it is an error, and no unit is released.
   abbrev pub delete : Option Machine → Work → Asks Work
   delete None w = Gives (in_error room errors.NoProgram w)
   delete (Some p) w = drop_program w

@@ -21,9 +21,11 @@ behind_order o w = record w { orders = w.orders + 1; desk = record w.desk { unit
 abbrev pub run_ended : EventNote → Bool → Work → Work
 run_ended event halted w = set_outcome false event (record w { desk = record w.desk { running = None; halted = halted } })
 
+-- The work after a run that ended with this event, with its line printed.
 abbrev pub run_over : ℕ → EventNote → Bool → List ℕ → Work → Work
 run_over room event halted text w = say room text (run_ended event halted w)
 
+-- The work without a program.
 abbrev pub without_program : Work → Work
 without_program w = record w { desk = record w.desk { program = None } }
 
@@ -40,6 +42,7 @@ by_event room (came.Halted text) w = Ends (run_over room (note.Halted text) true
 by_event room (came.Deleted text) w = Ends (run_over room (note.Deleted text) false (marked mark.Deleted text) (without_program w))
 by_event room (came.Illegal word at) w = Ends (run_over room note.Failed false (job_line (line.Illegal word at)) w)
 
+-- The state of the run after one order of the program.
 abbrev pub one_order : ℕ → Machine → Work → Order
 one_order room p w = by_event room (order_with w.desk.units p).event (behind_order (order_with w.desk.units p) w)
 
@@ -71,6 +74,7 @@ goes_on room w = run_orders room (64 - w.orders) w
 abbrev pub running_again : Bool → Work → Work
 running_again by w = record w { desk = record w.desk { running = Some by; halted = false } }
 
+-- A run of this program begins; `by` says whether a WHENEVER began it.
 abbrev pub running_by : Bool → Machine → Work → Work
 running_by by p w = record w { desk = record w.desk { program = Some p; running = Some by; halted = false } }
 

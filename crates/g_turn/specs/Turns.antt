@@ -16,6 +16,7 @@ module _ (room : ℕ) (who : List ℕ) where
   abbrev pub fires_unless : Bool → Work → Asks Work
   fires_unless by w = if by then Gives w else may_fire room who w
 
+  -- Continues a run of the program, and executes the WHENEVER after it unless one began the run.
   abbrev pub runs_on : Bool → Work → Asks Work
   runs_on by w = and_then is_over (Gives (goes_on room w)) (fires_unless by)
 
@@ -23,6 +24,7 @@ module _ (room : ℕ) (who : List ℕ) where
   abbrev pub takes_line : Taken × Stack → Work → Asks Work
   takes_line taken w = takes room who taken.0 (with_levels taken.1 w)
 
+  -- Continues a run that isn't over; otherwise takes the next line.
   abbrev pub runs_or_takes : Option Bool → Work → Asks Work
   runs_or_takes (Some by) w = runs_on by w
   runs_or_takes None w = takes_line (next_line w.desk.levels) w
@@ -32,6 +34,7 @@ module _ (room : ℕ) (who : List ℕ) where
   goes_on_with (AgainLine text) w = line room who text w
   goes_on_with (AgainCommand text orders blocks command) w = does_fired room who command (with_kept text orders blocks w)
 
+  -- The program of a turn: resumes with what is pending; otherwise continues a run or takes the next line.
   abbrev pub begins : Option Pending → Work → Asks Work
   begins None w = runs_or_takes w.desk.running w
   begins (Some pending) w = goes_on_with pending w

@@ -4,6 +4,7 @@ use Rattle.g_turn.specs.State.{Desk, Work}
 use Rattle.g_macro.specs.Holding.{are_ready}
 use Rattle.g_macro.specs.Levels.{Stack}
 
+-- The work with its levels changed.
 abbrev pub with_stack : (Stack → Stack) → Work → Work
 with_stack change w = record w { desk = record w.desk { levels = change w.desk.levels } }
 

@@ -21,6 +21,7 @@ use Rattle.g_plan.specs.Assembly.{assembled}
 use Rattle.g_trap.specs.declared.mode_set.Mode.{Mode}
 use Rattle.g_trap.specs.declared.mode_set.Mode.TheVariants as mode
 
+-- What a file's bytes are fetched for.
 pub data Use : Type 0 where
   ToPut : Path → Use
   ToAppend : Path → Use
@@ -48,6 +49,7 @@ module _ (room : ℕ) where
   loaded_by (Some bad) p w = in_error room (errors.BadProgram bad) w
   loaded_by None p w = say room (job_line (line.Loaded (size p))) (done (with_program p w))
 
+  -- The work after LOAD of these bytes.
   abbrev pub loaded : List ℕ → Work → Work
   loaded bytes w = loaded_by (bad_line (lines bytes)) (program_of (lines bytes)) w
 
@@ -69,6 +71,7 @@ module _ (room : ℕ) where
   use_bytes path m ToLoad full bytes w = Gives (loaded bytes w)
   use_bytes path m (ToAssign u) full bytes w = Gives (assigned u bytes w)
 
+  -- The use of the answer to a Fetch.
   abbrev pub fetched : Path → Mode → Use → Work → Answer → Asks Work
   fetched path m use_for w (Ok (Bytes full bytes)) = use_bytes path m use_for full bytes (with_bytes (length bytes) w)
   fetched path m use_for w (Ok reply) = Gives w
@@ -78,11 +81,12 @@ module _ (room : ℕ) where
   abbrev pub fetch : Path → Mode → Use → Work → Asks Work
   fetch path m use_for w = Call (call.Fetch path m) (fetched path m use_for w)
 
-  -- ASSIGN: the file of a card reader is fetched; the path of a printer or a punch is stored for its output.
+  -- ASSIGN of a printer or a punch: the path is stored for its output.
   abbrev pub output_kept : unit.Unit → Path → Work → Work
   output_kept u path w =
       say room (job_line line.Assigned) (done (with_units (with_writer w.desk.units (place_of u.kind u.number) (Some (path, []))) w))
 
+  -- ASSIGN of a unit and a file; it is an error if the unit is assigned.
   abbrev pub assign : unit.Unit → Path → Work → Asks Work
   assign u path w =
       if is_assigned w.desk.units u then Gives (in_error room errors.InUse w)

@@ -14,6 +14,7 @@ use Rattle.g_mill.specs.Machine.{Machine}
 use Rattle.g_peri.specs.OneOrder.{order_with}
 use Rattle.g_peri.specs.declared.ordered.OrderEvent.{OrderEvent}
 
+-- What a turn resumes with.
 abbrev pub pending_of : Suspended → Pending
 pending_of (again.Line text) = AgainLine text
 pending_of (again.Command text orders blocks command) = AgainCommand text orders blocks command
@@ -23,12 +24,14 @@ abbrev pub again_of : Bool → List ℕ → Option Suspended → Option Pending
 again_of true line kept = Some (AgainLine line)
 again_of false line kept = option_map pending_of kept
 
+-- The reason why a turn's work is over.
 abbrev pub stop_of : code.Stop → Stop
 stop_of stop.Full = Full
 stop_of (stop.Waits serial) = Waits serial
 stop_of stop.Broken = Broken
 stop_of stop.Done = Done
 
+-- What a file's bytes are fetched for.
 abbrev pub use_of : uses.Use → Use
 use_of (uses_for.Put path) = ToPut path
 use_of (uses_for.Append path) = ToAppend path

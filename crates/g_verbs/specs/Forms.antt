@@ -39,14 +39,16 @@ just all = record { all = all; least = length all; any_more = false }
 abbrev pub at_least : ℕ → List Form → Forms
 at_least least all = record { all = all; least = least; any_more = false }
 
--- The form required at a place, if a parameter is allowed there.
+-- The form, if there is one; otherwise any text, if others may follow.
 abbrev pub or_any : Bool → Option Form → Option Form
 or_any any_more (Some form) = Some form
 or_any any_more None = if any_more then Some form.Text else None
 
+-- The form required at a place, or none if no parameter is allowed there.
 abbrev pub form_at : Forms → ℕ → Option Form
 form_at f place = or_any f.any_more (slice_get f.all place)
 
+-- A parameter is allowed, and the text has its form.
 abbrev pub Fits : Option Form → List ℕ → Type 0
 Fits None text = ⊥
 Fits (Some form) text = IsOf form text

@@ -13,22 +13,25 @@ use Rattle.g_plain.specs.declared.calls.BudgetKind.TheVariants.{Money, Space, Ti
 use Rattle.g_trap.specs.ModeSet.{mode_bit}
 use Rattle.g_trap.specs.declared.mode_set.Mode.{Mode}
 
--- A parameter that names a file, a user, a local name.
+-- The text is the name of this path.
 abbrev pub IsFile : Path → List ℕ → Type 0
 IsFile path text = IsName (path_name path) × (text ≡ name_text (path_name path))
 
+-- The text is a colon and the user's name.
 abbrev pub IsUser : List ℕ → List ℕ → Type 0
 IsUser user text = (is_word user ≡ true) × (text ≡ 58 ∷ user)
 
+-- The text is this local name.
 abbrev pub IsLocal : List ℕ → List ℕ → Type 0
 IsLocal local text = (is_word local ≡ true) × (text ≡ local)
 
--- The word of a budget, and its maximum.
+-- The word of a budget.
 abbrev pub kind_word : BudgetKind → List ℕ
 kind_word Space = codes "SPACE"
 kind_word Time = codes "TIME"
 kind_word Money = codes "MONEY"
 
+-- The maximum of a budget: 65,535 blocks of SPACE, 1,000,000,000 units of TIME and of MONEY.
 abbrev pub most_of : BudgetKind → ℕ
 most_of Space = 65535
 most_of Time = 1000000000
@@ -38,12 +41,13 @@ most_of Money = 1000000000
 abbrev pub IsAmount : BudgetKind → ℕ → List ℕ → Type 0
 IsAmount kind n text = (n ≤ most_of kind) × (text ≡ kind_word kind ++ (32 ∷ decimal n))
 
--- A unit: its kind and a digit.
+-- The word of a unit's kind.
 abbrev pub unit_word : Kind → List ℕ
 unit_word Cr = codes "*CR"
 unit_word Lp = codes "*LP"
 unit_word Tp = codes "*TP"
 
+-- The text is the word of this unit's kind and its number, from 0 to 7.
 abbrev pub IsUnit : unit.Unit → List ℕ → Type 0
 IsUnit u text = (u.number ≤ 7) × (text ≡ unit_word u.kind ++ ((48 + u.number) ∷ []))
 

@@ -7,6 +7,7 @@ use Rattle.g_verbs.specs.declared.form.Forms as code
 use Rattle.g_verbs.specs.declared.verb.Verb.{Verb}
 use Rattle.g_verbs.specs.declared.verb.Verb.TheVariants as verb
 
+-- The forms of the code.
 abbrev pub forms_said : code.Forms → Forms
 forms_said f = record { all = f.all.now; least = f.least; any_more = f.any_more }
 

@@ -17,13 +17,14 @@ use Rattle.g_verbs.specs.declared.form.Form.TheVariants as form
 use Rattle.g_verbs.specs.declared.verb.Verb.{Verb}
 use Rattle.g_verbs.specs.declared.verb.Verb.TheVariants as verb
 
--- The verbs that are no macros, and their names.
+-- The verbs that are no macros.
 abbrev pub verbs : List Verb
 verbs =
     verb.Input ∷ verb.Copy ∷ verb.Append ∷ verb.Erase ∷ verb.Rename ∷ verb.ListFile ∷ verb.ListDir ∷ verb.TrapGo ∷ verb.TrapStop
     ∷ verb.TrapCheck ∷ verb.NewUser ∷ verb.Budget ∷ verb.Retrieve ∷ verb.Load ∷ verb.Plan ∷ verb.Enter ∷ verb.Resume
     ∷ verb.Assign ∷ verb.Release ∷ verb.Delete ∷ verb.SetParam ∷ verb.Display ∷ verb.EndJob ∷ []
 
+-- The name of a verb.
 abbrev pub verb_word : Verb → List ℕ
 verb_word verb.Input = codes "INPUT"
 verb_word verb.Copy = codes "COPY"
@@ -53,7 +54,7 @@ verb_word verb.EndJob = codes "ENDJOB"
 abbrev pub verb_of : List ℕ → Option Verb
 verb_of name = find (λ verb. same_text (verb_word verb) name) verbs
 
--- THE PARAMETERS OF EACH VERB, and those of a macro.
+-- THE PARAMETERS OF EACH VERB.
 abbrev pub verb_forms : Verb → Forms
 verb_forms verb.Input = just (form.File ∷ [])
 verb_forms verb.Copy = just (form.File ∷ form.File ∷ [])
@@ -79,33 +80,39 @@ verb_forms verb.SetParam = at_least 1 (form.Letter ∷ form.Text ∷ [])
 verb_forms verb.Display = record { all = form.Text ∷ []; least = 1; any_more = true }
 verb_forms verb.EndJob = just []
 
+-- The parameters of a macro: up to 24 texts.
 abbrev pub macro_forms : Forms
 macro_forms = at_least 0 (replicate 24 form.Text)
 
+-- The parameters of a verb, or of a macro.
 abbrev pub forms_with : Option Verb → Forms
 forms_with None = macro_forms
 forms_with (Some verb) = verb_forms verb
 
+-- The parameters that a name requires.
 abbrev pub forms_of : List ℕ → Forms
 forms_of name = forms_with (verb_of name)
 
--- A user, an amount of MONEY, a text: each may be omitted.
+-- A user, or no parameter.
 abbrev pub MayBeUser : Option (List ℕ) → List (List ℕ) → Type 0
 MayBeUser None texts = texts ≡ []
 MayBeUser (Some user) texts = (text : List ℕ) × IsUser user text × (texts ≡ text ∷ [])
 
+-- An amount of MONEY, or no parameter.
 abbrev pub MayBeMoney : Option ℕ → List (List ℕ) → Type 0
 MayBeMoney None texts = texts ≡ []
 MayBeMoney (Some n) texts = (text : List ℕ) × IsAmount kind.Money n text × (texts ≡ text ∷ [])
 
+-- A text, or no parameter.
 abbrev pub MayBeText : Option (List ℕ) → List (List ℕ) → Type 0
 MayBeText None texts = texts ≡ []
 MayBeText (Some text) texts = texts ≡ text ∷ []
 
--- A verb with one file, and one with two.
+-- A verb with exactly one file.
 abbrev pub FileVerb : List ℕ → Path → List ℕ → List (List ℕ) → Type 0
 FileVerb word file name params = (name ≡ word) × ((a : List ℕ) × IsFile file a × (params ≡ a ∷ []))
 
+-- A verb with exactly two files.
 abbrev pub TwoFiles : List ℕ → Path → Path → List ℕ → List (List ℕ) → Type 0
 TwoFiles word from to name params =
     (name ≡ word) × ((a : List ℕ) × (b : List ℕ) × IsFile from a × IsFile to b × (params ≡ a ∷ b ∷ []))
