@@ -101,8 +101,8 @@ is_less m n = false
 abbrev pub is_shorter : ℕ → Rack → Rack → Bool
 is_shorter s lead other = is_less (told_of (λ r. r.len) (reel s other.reels)) (told_of (λ r. r.len) (reel s lead.reels))
 
--- The other twin, once the leading one is durable: it was lost before; it lacks blocks that the leading one has; or it must be made
--- durable too, and may be given up or not.
+-- The other twin, once the leading one is durable: it was lost before; or it has fewer blocks than the leading one; or it must be
+-- made durable too, and may be given up or not.
 pub data OtherTwin : Type 0 where
   Gone : OtherTwin
   Lacking : OtherTwin
