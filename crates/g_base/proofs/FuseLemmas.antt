@@ -63,7 +63,7 @@ pub fused_never : (writes : ℕ) (arms : Arms) (fuse : Option ℕ) → arms ≡ 
 fused_never writes arms fuse is none =
     subst (λ (a : Arms). BurnsByWrites writes a fuse) (sym is) (subst (BurnsByWrites writes never) (sym none) (burns_never writes))
 
--- THE FUSE OF A RACK: never armed, armed, and after a good write and a failed one
+-- The fuse of a rack: never armed, armed, after a successful write, and after a failed one.
 fails_never : (failed : ℕ) → BurnsByFailures failed never None
 fails_never failed = record { later = omega arith; left = λ j e. absurd (let no : ⊥ = cc in no); spent = λ e k is. absurd (let no : ⊥ = cc in no) }
 

@@ -36,6 +36,7 @@ IsArmedBy (k ∷ numbers) old new = (since : ℕ) × IsArmedBy numbers (armed_wi
 abbrev pub IsArmedWithin : List ℕ → Arms → Arms → Type 0
 IsArmedWithin numbers old new = (done more : List ℕ) × (numbers ≡ done ++ more) × IsArmedBy done old new
 
+-- The number, or 0 if there is none.
 abbrev pub most : Option ℕ → ℕ
 most None = 0
 most (Some k) = k

@@ -9,10 +9,11 @@ max_users = 63
 abbrev pub max_files : ℕ
 max_files = 1024
 
--- The maximum size of a file in bytes; below, in blocks.
+-- The maximum size of a file, in bytes.
 abbrev pub max_file_bytes : ℕ
 max_file_bytes = 65_536
 
+-- The maximum size of a file, in blocks.
 abbrev pub max_file_blocks : ℕ
 max_file_blocks = 128
 
@@ -40,17 +41,19 @@ first_copy_block = 2177
 abbrev pub max_disc_blocks : ℕ
 max_disc_blocks = 1_048_576
 
--- The maximum number of reels of a rack; below, the last serial of a reel. The first serial is 1.
+-- The maximum number of reels of a rack.
 abbrev pub max_reels : ℕ
 max_reels = 16
 
+-- The last serial of a reel. The first is 1.
 abbrev pub max_serial : ℕ
 max_serial = 999_999
 
--- The maximum SPACE of a user, in blocks; below, of TIME and of MONEY, in units of each.
+-- The maximum SPACE of a user, in blocks.
 abbrev pub max_space : ℕ
 max_space = 65_535
 
+-- The maximum TIME and the maximum MONEY of a user, in units of each.
 abbrev pub max_balance : ℕ
 max_balance = 1_000_000_000
 

@@ -82,7 +82,7 @@ AreFound-taken pool seen blocks found within is =
           ];
     }
 
--- Where the blocks before a place are taken, the search finds none there.
+-- If all blocks before a place are taken, the search finds none there.
 AreFound-front : (pool : List Bool) (n : ℕ) → n ≤ length pool → ((i : ℕ) → i < n → slice_get pool i ≡ Some true) → AreFound pool n []
 AreFound-front pool zero within each = record {
   count = refl;

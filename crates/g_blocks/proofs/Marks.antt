@@ -115,7 +115,7 @@ HasGiven-more blocks i old now given below taken =
       count = omega (arith, count, given.count, length-take (i + 1) blocks, length-take i blocks);
     }
 
--- No block before the place where the search begins is free: when a flag is set, and when one is cleared.
+-- No block before the start of the search is free: after a flag is set, and after one is cleared.
 AreSetBefore-set : (low : ℕ) (flags : List Bool) (i : ℕ) → i < length flags → AreSetBefore low flags → AreSetBefore low (set flags i true)
 AreSetBefore-set low flags i below before = record {
   within = omega (arith, length-set flags i true, before.within);
@@ -190,7 +190,7 @@ HasTaken-next blocks i old now after taken apart free below is =
 pub apart-rising : (blocks : List ℕ) → IsStrictlyIncreasing blocks → AllPairs (λ one other. one ≢ other) blocks
 apart-rising blocks rising i j d before below same = absurd (omega (arith, AllPairs-from_increasing blocks rising i j d before below, same))
 
--- where no block was taken, just these are taken now
+-- If no block was taken before, exactly these are taken now.
 pub IsFresh-taken : (size : ℕ) (used : List ℕ) (old new : List Bool) → first_copy_block < size → old ≡ replicate (size - first_copy_block) false → HasTaken used old new → IsFresh size used new
 IsFresh-taken size used old new low empty taken =
     let n = size - first_copy_block in

@@ -10,10 +10,12 @@ pub record IsInArea (size block : ℕ) : Type 0 where
   pub low : first_copy_block ≤ block
   pub high : block < size
 
+-- The block is in the pool, and free.
 pub record IsFree (pool : List Bool) (block : ℕ) : Type 0 where
   pub low : first_copy_block ≤ block
   pub flag : slice_get pool (block - first_copy_block) ≡ Some false
 
+-- The block is in the pool, and taken.
 pub record IsTaken (pool : List Bool) (block : ℕ) : Type 0 where
   pub low : first_copy_block ≤ block
   pub flag : slice_get pool (block - first_copy_block) ≡ Some true

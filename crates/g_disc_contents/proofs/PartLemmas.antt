@@ -1,4 +1,4 @@
--- The blocks of a text, one by one and joined.
+-- The blocks of a text, individually and joined.
 -- serves: lib, crates above
 use Rattle.std.proofs.Common.{◌≡◌, ℕ, zero, suc, ◌+◌, ◌-◌, ◌*◌, ◌<◌, ◌≤◌, min, List, [], ◌∷◌, ◌++◌, length, get_or, take, drop, refl, sym, ◌∙◌, ap, subst, arith, inl, inr, length-append}
 use Rattle.std.specs.Prelude.{◌⊎◌, All, slice_index_or}
@@ -17,7 +17,7 @@ take_none : (xs : List ℕ) → take 0 xs ≡ []
 take_none [] = refl
 take_none (x ∷ xs) = refl
 
--- a text without its first n bytes, where it was cut
+-- A text without its first n bytes.
 drop_cut : (n len : ℕ) (xs : List ℕ) → drop n (take len xs) ≡ take (len - n) (drop n xs)
 drop_cut n len xs = by_case (cases_lt len n)
   where

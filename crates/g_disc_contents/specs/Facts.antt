@@ -28,6 +28,7 @@ pub record Layout : Type 0 where
   pub side : Side
   pub pages : Remembered
 
+-- An online filestore: the disc, whether memory still agrees with it, its contents, an open dump's pins, and the changed and touched users.
 pub record OnlineFacts : Type 0 where
   pub disc : DiscState
   -- until a write fails
@@ -75,12 +76,15 @@ pub record IsTied (o : OnlineFacts) : Type 0 where
   pub waits : o.live ≡ true → All (WaitsByUser o.changed) o.contents.files
   pub pinned : o.live ≡ true → IfSome o.pins (All (IsPinOf (is_some o.disc.held) o.contents.head.next_stamp o.contents.files))
 
+-- The number of blocks of the files on the disc.
 abbrev pub online_blocks : List File → ℕ
 online_blocks files = sum_by (λ f. if f.online then blocks_for f.rec.len else 0) files
 
+-- A file has this stamp.
 abbrev pub is_current : List File → ℕ → Bool
 is_current files stamp = list_any (λ f. f.rec.stamp == stamp) files
 
+-- The number of blocks of the pinned versions that no longer belong to a file.
 abbrev pub pinned_blocks : Option (List Pin) → List File → ℕ
 pinned_blocks None files = 0
 pinned_blocks (Some pins) files = sum_by (λ p. if is_current files p.stamp then 0 else blocks_for p.len) pins
@@ -90,6 +94,7 @@ pinned_blocks (Some pins) files = sum_by (λ p. if is_current files p.stamp then
 abbrev pub room_with : List File → OnlineFacts → ℕ
 room_with files o = o.disc.size - 2177 - online_blocks files - pinned_blocks o.pins files
 
+-- The number of free blocks on the disc.
 abbrev pub room_of : OnlineFacts → ℕ
 room_of o = room_with o.contents.files o
 

@@ -20,7 +20,7 @@ use Rattle.g_duplex.proofs.ReadLemmas.{first_of, reads_free, second_of}
 abbrev Blocks : Type 0
 Blocks = List (List ℕ)
 
--- a read that isn't refused fails only where the count rose
+-- A read that isn't refused fails only if the count rose.
 pub rose_reading : (s k : ℕ) (p p' : Rack) (fault : TapeFault) (into : List ℕ) → refuses_read k (reel s p.reels) ≡ None → Reading s k p (Err fault) into p' → Rose p.read_faults p'.read_faults
 rose_reading s k p p' tape.ReadFailed into free is = is.1
 rose_reading s k p p' tape.WriteFailed into free is = absurd is
@@ -43,7 +43,7 @@ read_block s k p p' u into is bs told =
     let (r, there, blocks) = told_of_reel (reel s p.reels) bs told in
     is.1 r there bs blocks
 
--- reads refuse nothing else
+-- Reads have no other refusals.
 refuses_bare : (k : ℕ) (o : Option Reel) → refuses_read k (option_map unread o) ≡ refuses_read k o
 refuses_bare k None = refl
 refuses_bare k (Some r) = refl
@@ -52,7 +52,7 @@ pub refuses_after : (s k : ℕ) (old new : Rack) → OnlyReads old new → refus
 refuses_after s k old new only =
     sym (refuses_bare k (reel s new.reels)) ∙ ap (refuses_read k) (reel_after_reads s old new only) ∙ refuses_bare k (reel s old.reels)
 
--- two reels that are there and mounted
+-- Two existing and mounted reels.
 pub both_there : (x y : Option Reel) → refuses_both x y ≡ None → (a : Reel) × (b : Reel) × (x ≡ Some a) × (y ≡ Some b) × (a.mounted ≡ true) × (b.mounted ≡ true)
 both_there None y is = absurd (cc)
 both_there (Some a) None is = absurd (cc)

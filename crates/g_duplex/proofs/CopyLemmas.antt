@@ -195,7 +195,7 @@ copied_badly s i from0 to0 from to from' to' fault so_far copied = record {
     by NotMounted is = absurd is
     by NotEmptied is = absurd is
 
--- what isn't refused: both are there and mounted, and where the source has no block, the other one hasn't either
+-- If the copy isn't refused, both reels exist and are mounted, and if the source is empty, so is the target.
 pub record MayCopy (x y : Option Reel) : Type 0 where
   pub a : Reel
   pub b : Reel

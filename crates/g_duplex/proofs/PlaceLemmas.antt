@@ -79,7 +79,7 @@ changed-first s xs ts i u first long =
     at_place s (λ (rs : List Reel) (us : List Standing) (k : ℕ). with_standing s (λ (t : Standing). u) rs us ≡ set us k u) (λ r rs t us same. changed_now s u r rs t us same)
     (λ r rs t us k differs rest. changed_later s u r rs t us k differs rest) xs ts i first.within first.here first.before long
 
--- a serial that isn't there has no standing, and no other way
+-- A serial has no standing if and only if the rack doesn't have it.
 pub standing_none : (s : ℕ) (xs : List Reel) (ts : List Standing) → reel s xs ≡ None → standing s xs ts ≡ None
 standing_none s [] ts is = refl
 standing_none s (r ∷ rs) [] is = refl

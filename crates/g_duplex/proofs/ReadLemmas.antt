@@ -50,7 +50,7 @@ pub second_of : (m n : Bool) → (m && n) ≡ true → n ≡ true
 second_of true n is = is
 second_of false n is = absurd (cc)
 
--- the leading twin of a mounted pair is mounted, and the other one too where it isn't lost
+-- The leading twin of a mounted pair is mounted, and so is the other one unless it is lost.
 pub leader_up : (t : Standing) (a b : Reel) → are_up t a.mounted b.mounted ≡ true → (of_leader t a b).mounted ≡ true
 leader_up Level a b is = first_of a.mounted b.mounted is
 leader_up (Apart k) a b is = first_of a.mounted b.mounted is
@@ -263,7 +263,7 @@ pair_refuses_read s k p fault into is = record {
   refused = λ other is'. refl;
 }
 
--- a read of a serial that isn't there
+-- A read of a serial that the rack doesn't have.
 pub pair_reads_none : (s k : ℕ) (p : Pair) (into : List ℕ) → reel s (shown p).reels ≡ None → PairReads s k p (Err NoTape) into p
 pair_reads_none s k p into none = pair_refuses_read s k p NoTape into (ap (refuses_read k) none)
 

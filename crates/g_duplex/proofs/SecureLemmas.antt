@@ -58,7 +58,7 @@ other_settled false true true s t after old new result lost (is, given_up, same)
 other_settled false true false s t after old new result lost (answer, securing, settled) = either_settled true s t after answer result lost settled
 other_settled false false shorter s t after old new result lost (answer, securing, settled) = either_settled false s t after answer result lost settled
 
--- a reel that is there isn't missing
+-- An existing reel isn't missing.
 only_failed : (s : ℕ) (old new : Rack) (fault : TapeFault) (r : Reel) → reel s old.reels ≡ Some r → Securing s old (Err fault) new → fault ≡ ReadFailed
 only_failed s old new ReadFailed r there securing = refl
 only_failed s old new NoTape r there (missing, same) = absurd (let never : true ≡ false = sym (ap is_some there) ∙ missing in cc)
@@ -80,7 +80,7 @@ give_up_same s t after lead lead' other other' (Ok u) result (there, same) on lo
 give_up_same s t after lead lead' other other' (Err fault) result securing (is, stays, same) lost fine =
     absurd (let never : true ≡ false = sym (ap is_lost (sym stays ∙ lost)) ∙ fine in cc)
 
--- WHAT IS SEEN of a pair whose second twin is given up
+-- What a pair shows if its second twin is given up.
 up_alike : (m n : Bool) → (not m || n) ≡ true → m ≡ (m && n)
 up_alike true true is = refl
 up_alike true false is = absurd (cc)
@@ -187,7 +187,7 @@ module _ (s : ℕ) (p : Pair) (t after : Standing) (first' second' : Rack) (resu
     missing = λ none. absurd (let never : Some t ≡ None = sym stand ∙ none in cc);
   }
 
--- with what the call has at hand
+-- With the hypotheses of the call.
 pub pair_secures_as : (s : ℕ) (p : Pair) (t after : Standing) (first' second' : Rack) (result : Answer) (us : List Standing) (n : ℕ)
     → ArePaired p.standings p.first.reels p.second.reels → standing_in s p ≡ Some t
     → HasSecured t s (leading t p) (behind t p) result after (of_leader t first' second') (of_other t first' second')
@@ -200,7 +200,7 @@ pair_secures_as s p t after first' second' result us n paired stand secured stan
   subst (λ (ts : List Standing). ArePaired ts first'.reels second'.reels) (sym stands_are) (paired_still s p t after first' second' result paired stand secured),
 )
 
--- a serial that isn't there
+-- A serial that the rack doesn't have.
 pub pair_secures_none : (s : ℕ) (p : Pair) → reel s (shown p).reels ≡ None → standing_in s p ≡ None → PairSecures s p (Err NoTape) p
 pair_secures_none s p none nowhere = record {
   securing = (ap is_some none, refl);

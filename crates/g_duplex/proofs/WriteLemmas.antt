@@ -25,7 +25,7 @@ use Rattle.g_duplex.proofs.ReadLemmas.{first_of, leader_at, leader_up, one_stand
 abbrev Blocks : Type 0
 Blocks = List (List ℕ)
 
--- a reel by its parts, whose reads aren't counted
+-- A reel from its parts, whose reads aren't counted.
 abbrev shape : ℕ → ℕ → ℕ → Bool → Option Blocks → Reel
 shape s c l m bs = record { serial = s; capacity = c; len = l; mounted = m; blocks = bs; times_read = None }
 
@@ -77,7 +77,7 @@ armed_reels : (fires : Bool) (r : Rack) → (armed_when fires r).reels ≡ r.ree
 armed_reels true r = refl
 armed_reels false r = refl
 
--- where the pair's fuse is 1, the leading rack is armed to fail
+-- If the pair's fuse is 1, the leading rack is armed to fail.
 fires_there : (fuse : Option ℕ) (r : Rack) → fuse ≡ Some 1 → (armed_when (is_one fuse) r).fuse ≡ Some 1
 fires_there fuse r is = rw is refl
 
@@ -244,7 +244,7 @@ module _ (s k : ℕ) (block : List ℕ) (p : Pair) (t : Standing) (a b : Reel) (
   not_one : (armed_when (is_one p.fuse) (leading t p)).fuse ≢ Some 1 → p.fuse ≢ Some 1
   not_one apart one = apart (fires_there p.fuse (leading t p) one)
 
-  -- a good write, from what is seen of the two reels
+  -- A successful write, in terms of what the two reels show.
   well : (u : Standing) (g h : Reel → Reel) → (armed_when (is_one p.fuse) (leading t p)).fuse ≢ Some 1 → first'.reels ≡ with_reel s g p.first.reels → second'.reels ≡ with_reel s h p.second.reels
       → pair_reel u (g a) (h b) ≡ ending k block (pair_reel t a b) → AreTwins u (g a) (h b) → WriteDone s k block p (Ok tt) u first' second'
   well u g h apart one two same now = record {
@@ -382,7 +382,7 @@ pair_refuses_write s k block p fault is = record {
   refused = λ other is'. refl;
 }
 
--- a write of a serial that isn't there
+-- A write of a serial that the rack doesn't have.
 pub pair_writes_none : (s k : ℕ) (block : List ℕ) (p : Pair) → reel s (shown p).reels ≡ None → PairWrites s k block p (Err NoTape) p
 pair_writes_none s k block p none = pair_refuses_write s k block p NoTape (ap (refuses_write k) none)
 

@@ -13,13 +13,15 @@ use Rattle.g_duplex.specs.declared.twin.Twin.TheVariants.{Second}
 use Rattle.g_duplex.specs.declared.twin.Standing.{Standing}
 use Rattle.g_duplex.specs.declared.twin.Standing.TheVariants.{Lost}
 
+-- The answer of a call that returns nothing else.
 abbrev pub Answer : Type 0
 Answer = Result (Unit {0}) TapeFault
 
--- The rack whose twin of this reel leads; below, the other rack.
+-- The rack whose twin of this reel leads.
 abbrev pub leading : Standing → Pair → Rack
 leading t p = of_leader t p.first p.second
 
+-- The rack whose twin of this reel doesn't lead.
 abbrev pub behind : Standing → Pair → Rack
 behind t p = of_other t p.first p.second
 
@@ -54,6 +56,7 @@ abbrev pub armed_when : Bool → Rack → Rack
 armed_when true r = armed r
 armed_when false r = r
 
+-- The next write is the one that fails.
 abbrev pub is_one : Option ℕ → Bool
 is_one None = false
 is_one (Some n) = n == 1
@@ -93,22 +96,24 @@ pub record PairWrites (s k : ℕ) (block : List ℕ) (old : Pair) (result : Answ
 abbrev pub may_give_up : ℕ → Rack → Rack → Bool
 may_give_up s lead other = not (is_mounted (reel s lead.reels)) || is_mounted (reel s other.reels)
 
--- The first length is less than the second; below, the other reel has fewer blocks than the leading one.
+-- The first length is less than the second.
 abbrev pub is_less : Result ℕ TapeFault → Result ℕ TapeFault → Bool
 is_less (Ok m) (Ok n) = nat_lt m n
 is_less m n = false
 
+-- The other reel has fewer blocks than the leading one.
 abbrev pub is_shorter : ℕ → Rack → Rack → Bool
 is_shorter s lead other = is_less (told_of (λ r. r.len) (reel s other.reels)) (told_of (λ r. r.len) (reel s lead.reels))
 
--- The other twin, once the leading one is durable: it was lost before; it lacks blocks that the leading one has; or it must be made
--- durable too, and may be given up or not.
+-- The other twin, once the leading one is durable: it was lost before; or it has fewer blocks than the leading one; or it must be
+-- made durable too, and may be given up or not.
 pub data OtherTwin : Type 0 where
   Gone : OtherTwin
   Lacking : OtherTwin
   Spare : OtherTwin
   Needed : OtherTwin
 
+-- The other twin, given whether it may be given up and whether it is shorter.
 abbrev pub other_is : Standing → Bool → Bool → OtherTwin
 other_is t spare shorter = if is_lost t then Gone else (if spare then (if shorter then Lacking else Spare) else Needed)
 
@@ -118,12 +123,14 @@ settles spare (Ok u) t = (Ok tt, t)
 settles true (Err fault) t = (Ok tt, Lost Second)
 settles false (Err fault) t = (Err ReadFailed, t)
 
+-- The other rack, given what its twin is, once the leading one is durable.
 abbrev pub SecuresOther : OtherTwin → ℕ → Standing → Rack → Answer → Standing → Rack → Type 0
 SecuresOther Gone s t old result after new = (result ≡ Ok tt) × (after ≡ t) × (new ≡ old)
 SecuresOther Lacking s t old result after new = (result ≡ Ok tt) × (after ≡ Lost Second) × (new ≡ old)
 SecuresOther Spare s t old result after new = (answer : Answer) × Securing s old answer new × ((result, after) ≡ settles true answer t)
 SecuresOther Needed s t old result after new = (answer : Answer) × Securing s old answer new × ((result, after) ≡ settles false answer t)
 
+-- The other rack, given the leading twin's answer: if that failed, the other rack isn't used.
 abbrev pub SecuresOn : ℕ → Standing → Rack → Rack → Answer → Answer → Standing → Rack → Type 0
 SecuresOn s t lead other (Err fault) result after new = (result ≡ Err fault) × (after ≡ t) × (new ≡ other)
 SecuresOn s t lead other (Ok u) result after new = SecuresOther (other_is t (may_give_up s lead other) (is_shorter s lead other)) s t other result after new

@@ -53,6 +53,7 @@ BlockAnswer s k from to (Err ReadFailed) from' to' = Rose from.read_faults from'
 BlockAnswer s k from to (Err WriteFailed) from' to' = Rose to.write_faults to'.write_faults
 BlockAnswer s k from to (Err fault) from' to' = ⊥
 
+-- Copying one block: the source was only read, and in the target no other reel was changed.
 pub record BlockCopied (s k : ℕ) (from to : Rack) (result : Result (Unit {0}) DuplexFault) (from' to' : Rack) : Type 0 where
   pub source : OnlyReads from from'
   pub written : IsWrittenAt s to to'
@@ -65,6 +66,7 @@ ReelAnswer s from to (Err ReadFailed) from' to' = Rose from.read_faults from'.re
 ReelAnswer s from to (Err WriteFailed) from' to' = Rose to.write_faults to'.write_faults
 ReelAnswer s from to (Err fault) from' to' = ⊥
 
+-- Copying a reel: the source was only read, and in the target no other reel was changed.
 pub record ReelCopied (s : ℕ) (from to : Rack) (result : Result (Unit {0}) DuplexFault) (from' to' : Rack) : Type 0 where
   pub source : OnlyReads from from'
   pub written : IsWrittenAt s to to'

@@ -32,6 +32,7 @@ WithLoss t a b u c d =
     ⊎ ((t ≡ Level) × (u ≡ Lost First) × (d ≡ b) × AreTwins Level a b × (a.mounted ≡ b.mounted) × IsInPlaceOf a c)
     ⊎ ((t ≡ Level) × (u ≡ Lost Second) × (c ≡ a) × AreTwins Level a b × (a.mounted ≡ b.mounted) × IsInPlaceOf b d)
 
+-- The same for each of the twins.
 abbrev pub WithLosses : List Standing → List Reel → List Reel → List Standing → List Reel → List Reel → Type 0
 WithLosses [] xs ys [] cs ds = Unit {0}
 WithLosses (t ∷ ts) (a ∷ xs) (b ∷ ys) (u ∷ us) (c ∷ cs) (d ∷ ds) = WithLoss t a b u c d × WithLosses ts xs ys us cs ds
@@ -52,6 +53,7 @@ pub record FailsWithAll : Type 0 where
 abbrev pub uncounted : Rack → Rack
 uncounted r = record r { read_faults = 0; write_faults = 0 }
 
+-- The racks are equal, apart from their fault counts.
 abbrev pub Alike : Rack → Rack → Type 0
 Alike p q = uncounted p ≡ uncounted q
 

@@ -19,6 +19,7 @@ pub record Pair : Type 0 where
   pub fuse : Option ℕ
   pub arms : Arms
 
+-- The reels that the pair shows.
 abbrev pub pair_reels : List Standing → List Reel → List Reel → List Reel
 pair_reels [] xs ys = []
 pair_reels (t ∷ ts) [] ys = []
@@ -64,14 +65,17 @@ standing s [] ts = None
 standing s (a ∷ xs) [] = None
 standing s (a ∷ xs) (t ∷ ts) = if s == a.serial then Some t else standing s xs ts
 
+-- The standings, with f applied to that of the twins of this serial.
 abbrev pub with_standing : ℕ → (Standing → Standing) → List Reel → List Standing → List Standing
 with_standing s f [] ts = ts
 with_standing s f (a ∷ xs) [] = []
 with_standing s f (a ∷ xs) (t ∷ ts) = if s == a.serial then f t ∷ ts else t ∷ with_standing s f xs ts
 
+-- The standing of the twins of this serial.
 abbrev pub standing_in : ℕ → Pair → Option Standing
 standing_in s p = standing s p.first.reels p.standings
 
+-- The standings of the pair, with f applied to that of the twins of this serial.
 abbrev pub stands : ℕ → (Standing → Standing) → Pair → List Standing
 stands s f p = with_standing s f p.first.reels p.standings
 

@@ -11,6 +11,7 @@ pub record IsFirst (s : ℕ) (reels : List Reel) (i : ℕ) : Type 0 where
   pub here : (d : Reel) → (slice_index_or reels i d).serial ≡ s
   pub before : (k : ℕ) (d : Reel) → k < i → (slice_index_or reels k d).serial ≡ s → ⊥
 
+-- The standing, given the lost twin, if there is one.
 abbrev pub standing_of_found : Option (ℕ × Twin) → Standing
 standing_of_found None = Level
 standing_of_found (Some entry) = Lost entry.1
@@ -19,6 +20,7 @@ standing_of_found (Some entry) = Lost entry.1
 abbrev pub standing_by : ℕ → List (ℕ × Twin) → Standing
 standing_by s lost = standing_of_found (find (λ (entry : ℕ × Twin). entry.0 == s) lost)
 
+-- The standings of these reels, given the lost twins.
 abbrev pub standings_by : List (ℕ × Twin) → List Reel → List Standing
 standings_by lost reels = map (λ (r : Reel). standing_by r.serial lost) reels
 

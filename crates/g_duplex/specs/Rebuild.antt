@@ -14,10 +14,11 @@ use Rattle.g_duplex.specs.declared.twin.Twin.{Twin}
 use Rattle.g_duplex.specs.declared.twin.Standing.{Standing}
 use Rattle.g_duplex.specs.declared.twin.Standing.TheVariants.{Level, Lost}
 
--- The rack of a twin; below, that of the other twin.
+-- The rack of a twin.
 abbrev pub rack_at : Twin → Pair → Rack
 rack_at twin p = of_twin twin p.first p.second
 
+-- The rack of the other twin.
 abbrev pub rack_beside : Twin → Pair → Rack
 rack_beside twin p = beside_twin twin p.first p.second
 
@@ -26,13 +27,13 @@ abbrev pub stands_rebuilt : Twin → Result (Unit {0}) DuplexFault → Standing
 stands_rebuilt twin (Ok u) = Level
 stands_rebuilt twin (Err why) = Lost twin
 
--- The refusals, in the order of their checks: of each call on both twins; below, of rebuilding, whose first reel is the
--- one that is rebuilt.
+-- Why a call on both twins is refused, in the order of the checks.
 abbrev pub refuses_both : Option Reel → Option Reel → Option DuplexFault
 refuses_both None b = Some fault.NoTape
 refuses_both (Some a) None = Some fault.NoTape
 refuses_both (Some a) (Some b) = if a.mounted && b.mounted then None else Some fault.NotMounted
 
+-- Why rebuilding the first reel from the second is refused, in the order of the checks.
 abbrev pub refuses_rebuild : Option Reel → Option Reel → Option DuplexFault
 refuses_rebuild None b = Some fault.NoTape
 refuses_rebuild (Some a) None = Some fault.NoTape
@@ -51,6 +52,7 @@ pub record Agrees (s : ℕ) (old : Pair) (same : Bool) : Type 0 where
   pub told : ForSome (standing_in s old) (λ t. BothReels s old.first old.second (λ a b. ForSome a.blocks (λ p. ForSome b.blocks (λ q.
       IsTrue same ↔ ((is_lost t ≡ false) × (p ≡ q))))))
 
+-- The answer of comparing the twins, with its cause.
 abbrev pub Comparing : ℕ → Pair → Result Bool DuplexFault → Pair → Type 0
 Comparing s old (Ok same) new = (refuses_both (reel s old.first.reels) (reel s old.second.reels) ≡ None) × Agrees s old same
 Comparing s old (Err fault.ReadFailed) new =
@@ -59,6 +61,7 @@ Comparing s old (Err fault.ReadFailed) new =
 Comparing s old (Err fault.WriteFailed) new = ⊥
 Comparing s old (Err why) new = (refuses_both (reel s old.first.reels) (reel s old.second.reels) ≡ Some why) × (new ≡ old)
 
+-- A comparison of the twins: both racks are only read, and nothing else changes.
 pub record PairCompares (s : ℕ) (old : Pair) (result : Result Bool DuplexFault) (new : Pair) : Type 0 where
   pub answer : Comparing s old result new
   pub first : OnlyReads old.first new.first
@@ -88,6 +91,7 @@ Rebuilding s twin old (Err fault.WriteFailed) new =
 Rebuilding s twin old (Err why) new =
     (refuses_rebuild (reel s (rack_at twin old).reels) (reel s (rack_beside twin old).reels) ≡ Some why) × (new ≡ old)
 
+-- A rebuild of a twin: the other rack is only read, and in this twin's rack no other reel is changed.
 pub record PairRebuilds (s : ℕ) (twin : Twin) (old : Pair) (result : Result (Unit {0}) DuplexFault) (new : Pair) : Type 0 where
   pub answer : Rebuilding s twin old result new
   pub source : OnlyReads (rack_beside twin old) (rack_beside twin new)

@@ -14,24 +14,26 @@ leader (Apart k) = First
 leader (Lost First) = Second
 leader (Lost Second) = First
 
--- Of two values, that of the leading twin; below, that of the other.
+-- Of two values, that of the leading twin.
 abbrev pub of_leader : {X : Type 0} → Standing → X → X → X
 of_leader Level a b = a
 of_leader (Apart k) a b = a
 of_leader (Lost First) a b = b
 of_leader (Lost Second) a b = a
 
+-- Of two values, that of the twin that doesn't lead.
 abbrev pub of_other : {X : Type 0} → Standing → X → X → X
 of_other Level a b = b
 of_other (Apart k) a b = b
 of_other (Lost First) a b = a
 of_other (Lost Second) a b = b
 
--- Of two values, that of this twin; below, that of the other.
+-- Of two values, that of this twin.
 abbrev pub of_twin : {X : Type 0} → Twin → X → X → X
 of_twin First a b = a
 of_twin Second a b = b
 
+-- Of two values, that of the other twin.
 abbrev pub beside_twin : {X : Type 0} → Twin → X → X → X
 beside_twin First a b = b
 beside_twin Second a b = a
@@ -73,6 +75,7 @@ DoAgree Level a b = (a.len ≡ b.len) × ForSome a.blocks (λ p. ForSome b.block
 DoAgree (Apart k) a b = (k ≤ a.len) × (k ≤ b.len) × ForSome a.blocks (λ p. ForSome b.blocks (λ q. take k p ≡ take k q))
 DoAgree (Lost twin) a b = Unit {0}
 
+-- The reels are twins with this standing: they have the same serial and capacity, and agree as it requires.
 pub record AreTwins (t : Standing) (a b : Reel) : Type 0 where
   pub serial : a.serial ≡ b.serial
   pub capacity : a.capacity ≡ b.capacity

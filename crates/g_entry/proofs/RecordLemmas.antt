@@ -195,7 +195,7 @@ found_file r owner local generation lang stamp len traps tape local_is lang_is t
   copy = read.copy;
 }
 
--- what wasn't there, and yet was taken
+-- An option that is None isn't Some.
 pub not_there : {A : Type 0} (taken : Option A) (x : A) → taken ≡ None → taken ≡ Some x → ⊥
 not_there taken x none some = cc
 

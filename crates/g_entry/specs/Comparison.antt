@@ -14,8 +14,10 @@ pub record Comes (field old new : List ℕ) (same : Bool) : Type 0 where
 abbrev pub front_fields : FileRec → List ℕ
 front_fields r = (1 ∷ r.owner ∷ []) ++ ((length r.local ∷ padded 12 r.local) ++ (number 2 r.generation ++ lang_field r.lang))
 
+-- The fields of a file's stamp, length, traps and copy on tape.
 abbrev pub back_fields : FileRec → List ℕ
 back_fields r = number 8 r.stamp ++ (number 4 r.len ++ (r.traps.owner ∷ length r.traps.others ∷ (pair_fields r.traps.others ++ copy_fields r.tape)))
 
+-- The fields of a file before its block numbers.
 abbrev pub rec_fields : FileRec → List ℕ
 rec_fields r = front_fields r ++ back_fields r

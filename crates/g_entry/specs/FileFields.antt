@@ -20,6 +20,7 @@ pub record AreSets (traps : TrapList) : Type 0 where
 abbrev pub lacks : ℕ → List (ℕ × ℕ) → Bool
 lacks owner others = list_all (λ pair. not (pair.0 == owner)) others
 
+-- The copy's serial is valid, and its first block fits into four bytes.
 pub record IsCopy (copy : TapeCopy) : Type 0 where
   pub serial : IsSerial copy.serial
   pub first : copy.first < 2 ^ 32
@@ -50,6 +51,7 @@ pair_fields pairs = padded 16 (flat_map (λ pair. pair.0 ∷ pair.1 ∷ []) pair
 abbrev pub lang_field : List ℕ → List ℕ
 lang_field lang = lang ++ replicate (4 - length lang) 32
 
+-- The field of the copy on tape: 9 bytes, zero if there is none.
 abbrev pub copy_fields : Option TapeCopy → List ℕ
 copy_fields None = replicate 9 0
 copy_fields (Some copy) = (1 ∷ []) ++ number 4 copy.serial ++ number 4 copy.first
@@ -59,11 +61,13 @@ abbrev pub online_fields : Format → Option (List ℕ) → List ℕ
 online_fields format None = 0 ∷ []
 online_fields format (Some places) = (1 ∷ []) ++ flat_map (number (place_width format)) places
 
+-- The fields of a file's block, in their order.
 unfoldable pub file_fields : Format → FileRec → Option (List ℕ) → List ℕ
 file_fields format r online =
     (1 ∷ r.owner ∷ length r.local ∷ []) ++ padded 12 r.local ++ number 2 r.generation ++ lang_field r.lang ++ number 8 r.stamp ++ number 4 r.len
     ++ (r.traps.owner ∷ length r.traps.others ∷ []) ++ pair_fields r.traps.others ++ copy_fields r.tape ++ online_fields format online
 
+-- The block of a file: its fields, padded with zeros.
 abbrev pub file_block : Format → FileRec → Option (List ℕ) → List ℕ
 file_block format r online = padded 512 (file_fields format r online)
 

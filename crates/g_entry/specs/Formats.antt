@@ -3,6 +3,7 @@ use Rattle.std.specs.Prelude.{◌≡◌, ℕ, ◌≤◌, Bool, nat_lt}
 use Rattle.g_entry.specs.declared.format.Format.{Format}
 use Rattle.g_entry.specs.declared.format.Format.TheVariants.{One, Two}
 
+-- The number of a format in a head and in a dump's header.
 abbrev pub format_number : Format → ℕ
 format_number One = 1
 format_number Two = 2

@@ -14,6 +14,7 @@ pub record KeepsPlace (i : ℕ) (u : UserRec) : Type 0 where
   pub number : u.number ≡ i
   pub stands : StandsRightly i u
 
+-- Each user is at its position.
 pub record KeepPlaces (users : List UserRec) : Type 0 where
   pub each : (i : ℕ) (u : UserRec) → slice_get users i ≡ Some u → KeepsPlace i u
 

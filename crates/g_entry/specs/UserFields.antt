@@ -14,6 +14,7 @@ pub record IsUser (format : Format) (r : UserRec) : Type 0 where
   pub time : r.time ≤ 1000000000
   pub money : IsMoney format r.money
 
+-- The field of MONEY, which the first format doesn't have.
 abbrev pub money_fields : Format → ℕ → List ℕ
 money_fields One money = []
 money_fields Two money = number 8 money
@@ -27,5 +28,6 @@ unfoldable pub user_fields : Format → ℕ → UserRec → List ℕ
 user_fields format held r =
     (1 ∷ length r.user ∷ []) ++ padded 12 r.user ++ (r.superior ∷ []) ++ number 4 r.space ++ number 8 r.time ++ (held ∷ []) ++ money_fields format r.money
 
+-- The block of a user: its fields, padded with zeros.
 abbrev pub user_block : Format → ℕ → UserRec → List ℕ
 user_block format held r = padded 512 (user_fields format held r)

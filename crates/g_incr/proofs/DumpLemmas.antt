@@ -30,7 +30,7 @@ use Rattle.g_incr.proofs.PieceLemmas.{at_header, at_mark}
 use Rattle.g_incr.proofs.RuleLemmas.{moved}
 use Rattle.g_incr.proofs.TapeLemmas.{ReadsTape, same_len}
 
--- PUT TOGETHER
+-- Composing a dump.
 abbrev pub dump_from : ℕ → Header → DumpDir → List (List ℕ) → Dump
 dump_from serial h dir content = record {
   format = h.format;

@@ -1,4 +1,4 @@
--- The header and the mark of a dump, as they are written and read.
+-- Writing and reading the header and the mark of a dump.
 -- serves: encode_header, encode_mark, fields_of
 use Rattle.std.proofs.Common.{◌≡◌, ℕ, ◌+◌, ◌-◌, ◌^◌, ◌<◌, List, [], ◌++◌, length, replicate, refl, sym, ◌∙◌, ap, arith}
 use Rattle.std.specs.Prelude.{codes}
@@ -13,7 +13,7 @@ use Rattle.g_incr.specs.Layout.{Dump, IsDump, count_of, header_block, header_fie
 use Rattle.g_incr.specs.Notes.{IsHeaderOf, IsNoteOf}
 use Rattle.g_incr.proofs.OneLemmas.{header_peeled, header_zeros}
 
--- a number that was put
+-- A number that was written.
 pub put_length : (n x : ℕ) (old new : List ℕ) → new ≡ old ++ number n x → length new ≡ length old + n
 put_length n x old new is = ap length is ∙ length-append old (number n x) ∙ ap (λ k. length old + k) (length-number n x)
 

@@ -69,7 +69,7 @@ one_at zero (y ∷ ys) x is = let same : y ≡ x = cc in ap (λ z. z ∷ []) sam
 one_at (suc k) [] x is = absurd (let no : ⊥ = cc in no)
 one_at (suc k) (y ∷ ys) x is = one_at k ys x is
 
--- what a clause says of an option, where it is known which it is
+-- The meaning of a clause about an option, once the option is known.
 pub at_some : {X : Type 0} (o : Option X) (x : X) (P : X → Type 0) → o ≡ Some x → IfSome o P → P x
 at_some {X = X} o x P is has = subst (λ (q : Option X). IfSome q P) is has
 

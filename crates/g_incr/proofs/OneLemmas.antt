@@ -18,7 +18,7 @@ use Rattle.g_entry.proofs.OneEncoding.{file_again, same_format, user_held_again}
 use Rattle.g_entry.proofs.RecordLemmas.{format_fits}
 use Rattle.g_incr.specs.Layout.{Dump, IsDump, count_of, dump_blocks, header_block, header_fields, holds, mark_block, numbers_in, user_in, file_in}
 
--- two lists of one length in front of the same blocks
+-- Two lists of equal length that precede the same blocks.
 pub same_front : (xs ys a b : List (List ℕ)) → length xs ≡ length ys → xs ++ a ≡ ys ++ b → (xs ≡ ys) × (a ≡ b)
 same_front xs ys a b long is = (
   sym (take_at xs a (length xs) refl) ∙ ap (take (length xs)) is ∙ take_at ys b (length xs) (sym long),
@@ -131,7 +131,7 @@ abbrev pub RisesFrom : ℕ → List ℕ → Type 0
 RisesFrom a [] = Unit {0}
 RisesFrom a (x ∷ xs) = (a ≤ x) × RisesFrom (x + 1) xs
 
--- the tail of a rising list, whose first number is above the head
+-- The tail of a strictly increasing list, whose first number is greater than the head.
 rising_tail : (x : ℕ) (xs : List ℕ) → IsStrictlyIncreasing (x ∷ xs) → IsStrictlyIncreasing xs
 rising_tail x xs rising k within =
     let next : suc k + 1 ≡ suc (k + 1) = omega arith in

@@ -1,4 +1,4 @@
--- What a plan makes of its records keeps the rules of a dump.
+-- The records of a plan's dump satisfy the rules of a dump.
 -- serves: plan_gives_dump, PieceLemmas, crates above
 use Rattle.std.proofs.Common.{◌≡◌, ◌≢◌, ◌⊎◌, ℕ, zero, suc, ◌+◌, ◌*◌, ◌<◌, ◌≤◌, ◌^◌, Bool, true, false, List, [], ◌∷◌, length, get_or, Option, Some, None, refl, sym, ◌∙◌, ap, arith, subst, inl, inr}
 use Rattle.std.specs.Prelude.{◌==◌, ◌&&◌, nat_le, nat_lt, filter, All, IfSome, is_some, is_none}

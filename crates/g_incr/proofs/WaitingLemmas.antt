@@ -74,7 +74,8 @@ file_there files i within =
     let (r, is) = get_some files i within in
     (r, sym (get_or_from_slice_get files i r r is))
 
--- where all before j have no more blocks ahead of them than this, and all from j on have more
+-- The file before position j has at most this many blocks ahead of it, and the version with the block at this offset is
+-- found from it.
 pub record IsBehind (files : List FileRec) (all : List Ahead) (offset j : ℕ) : Type 0 where
   pub some : 1 ≤ j
   pub within : j ≤ length files
@@ -82,7 +83,7 @@ pub record IsBehind (files : List FileRec) (all : List Ahead) (offset j : ℕ) :
   pub found : (d : Ahead) → IsVersionAt files offset (get_or all (j - 1) d).versions (offset - (get_or all (j - 1) d).blocks)
 
 module _ (files : List FileRec) (all : List Ahead) (offset : ℕ) (so : AreAhead files (length files + 1) all) where
-  -- The file that has as many blocks ahead of it as asked for, if more are ahead of the next one.
+  -- The file with at most this many blocks ahead of it, if the next file has more.
   file_found : (i : ℕ) (a b : Ahead) (r : FileRec) → i < length files → r ≡ get_or files i r → IsAhead files i a → IsAhead files (i + 1) b → a.blocks ≤ offset → offset < b.blocks
       → IsVersionAt files offset a.versions (offset - a.blocks)
   file_found i a b r within is here next low high = by_waiting (cases_Bool (waits r))

@@ -24,6 +24,7 @@ abbrev pub FindsHeader : ℕ → ℕ → Rack → Option Header → Type 0
 FindsHeader serial place rack found = ForSome (blocks_of serial rack) (λ bs. (d : Dump) → IsDump d → d.place ≡ place
     → slice_get bs place ≡ Some (header_block d) → (h : Header) × (found ≡ Some h) × IsHeaderOf d h)
 
+-- The block of the mark, according to the note.
 abbrev pub mark_at : DumpNote → ℕ
 mark_at n = n.place + 1 + n.count
 

@@ -4,6 +4,7 @@ use Rattle.g_entry.specs.declared.file_rec.FileRec.{FileRec}
 use Rattle.g_entry.specs.declared.user_rec.UserRec.{UserRec}
 use Rattle.g_incr.specs.Plan.{Plan, blocks_of, first_content, noted_rec, waiting, waits, with_number}
 
+-- The plan with these parts.
 abbrev pub plan_from : ℕ → ℕ → ℕ → ℕ → List UserRec → List ℕ → List FileRec → Plan
 plan_from serial number place next users held files =
     record { serial = serial; place = place; number = number; next = next; users = users; held = held; files = files }

@@ -25,10 +25,11 @@ pub record AreFilesIn (format : Format) (files : List FileRec) (blocks : List (L
   pub numbered : (i : ℕ) (r : FileRec) → slice_get files i ≡ Some r → r.number ≡ i
   pub each : All IsFile files
 
--- The first block of the content; below, the block after the last one.
+-- The first block of the content.
 abbrev pub content_from : DumpNote → ℕ
 content_from n = n.place + 1 + n.users + n.files
 
+-- The block after the content.
 abbrev pub content_to : DumpNote → ℕ
 content_to n = n.place + 1 + n.count
 

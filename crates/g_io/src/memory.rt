@@ -9,7 +9,7 @@ use g_base::{NoMemory, ReadFailed, WriteFailed, raised};
 use std::alloc::Global;
 use std::marker::Model;
 
-/// A source over bytes in memory.
+/// A source that reads from memory.
 #[derive(Drop)]
 pub struct MemorySource {
     bytes: Vec<u8>,

@@ -36,7 +36,7 @@ use Rattle.g_shelf.proofs.RowLemmas.{end_then, in_row, row_end, row_then}
 use Rattle.g_shelf.proofs.WalkLemmas.{same_note}
 use Rattle.g_known.specs.ReelNotes.{AreFirst, AreFound, AreKnown, AreListed, Fills, GoesOn, HasForgotten, HasNone, HasReadOn, HasWritten, IsKnown, IsListed, IsNoted, IsPlaceIn, OthersStay, end_in, noted, number_in}
 
--- WHERE NOTES END
+-- The end of the notes' dumps.
 pub end_noted : (at : ℕ) (ds : List Dump) → end_in at (map note_of ds) ≡ end_behind at ds
 end_noted at [] = refl
 end_noted at (d ∷ ds) = end_noted (ends d) ds
@@ -83,7 +83,7 @@ nothing_first o serial notes none = record {
   low = omega arith;
 }
 
--- WHAT IS KNOWN STAYS, where the reel has the same blocks up to the end of the dumps
+-- What is known remains known if the reel has the same blocks up to the end of the dumps.
 record IsLike (e : ℕ) (o p : Option Reel) : Type 0 where
   blocks : ForSome (blocks_in p) (λ new. (old : List (List ℕ)) × (blocks_in o ≡ Some old) × (take e new ≡ take e old))
   fits : ForSome p (λ q. (r : Reel) × (o ≡ Some r) × (e ≤ r.len → e ≤ q.len))
@@ -229,7 +229,7 @@ known_unmounted s old new result lists left reels unmounts forgotten all =
     by_reel (λ (t : ℕ). IsKnown new t (noted t left)) s (nothing_known new s (noted s left) forgotten.none)
     (λ t other. still_noted new t (noted t lists) (noted t left) (forgotten.others t other) (others_unmounted s old new result t (noted t lists) reels unmounts other (all t)))
 
--- A write after the end of what is known.
+-- A write after the end of the known dumps.
 told_before : (g : List (List ℕ) → List (List ℕ)) (o : Option (List (List ℕ))) (new : List (List ℕ)) → option_map g o ≡ Some new → (old : List (List ℕ)) × (o ≡ Some old) × (g old ≡ new)
 told_before g None new is = absurd (let no : ⊥ = cc in no)
 told_before g (Some old) new is = (old, refl, same_Some (g old) new is)
@@ -344,7 +344,7 @@ pub others_before : (s : ℕ) (lists : List NotedReel) (new : NotedReel) → new
 others_before s [] new named t other = cond-false (t == new.serial) new.notes.items [] (ne_eqb t new.serial (λ e. other (e ∙ named)))
 others_before s (l ∷ ls) new named t other = ap (λ (ns : List DumpNote). if t == l.serial then l.notes.items else ns) (others_before s ls new named t other)
 
--- WHAT A QUESTION LEAVES REMEMBERED, where the reel had a list,
+-- What a query leaves remembered, if the reel had a list;
 pub forgotten_at : (s i : ℕ) (lists : List NotedReel) (new : NotedReel) → IsPlaceIn s lists i → new.serial ≡ s → new.notes.items ≡ [] → HasForgotten s lists (set lists i new)
 forgotten_at s i lists new place named none = record { none = place.change new named ∙ none; others = place.others new named }
 
@@ -358,7 +358,7 @@ read_on_at s i lists was new place is named goes = record {
   others = place.others new named;
 }
 
--- and where it hadn't
+-- and if it had none.
 pub read_on_behind : (s : ℕ) (lists : List NotedReel) (new : NotedReel) → HasNone s lists → new.serial ≡ s → HasReadOn s lists (lists ++ new ∷ [])
 read_on_behind s lists new other named = record {
   more = (new.notes.items, noted_behind s lists new other named ∙ ap (λ (ns : List DumpNote). ns ++ new.notes.items) (sym (noted_nowhere s lists other)));
@@ -428,7 +428,7 @@ fills_unkept s lists new_lists (Err fault) result old new all reads ok err is =
       more = nothing_more s lists;
     })
 
--- Reading on from the end of what is known.
+-- Reading on from the end of the known dumps.
 pub record ReadOn (serial at least : ℕ) (start notes : List DumpNote) (old new : Rack) : Type 0 where
   pub first : AreFirst (reel serial old.reels) serial notes
   pub end_is : at ≡ end_in 0 notes

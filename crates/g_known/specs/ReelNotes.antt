@@ -14,11 +14,12 @@ use Rattle.g_shelf.specs.CompletedDumps.{AreCompleted, end_of}
 use Rattle.g_shelf.specs.FoundDumps.{AreInRow, note_of}
 use Rattle.g_known.specs.declared.lists.NotedReel.{NotedReel}
 
--- The block after the dumps of these notes; below, the least number that a dump after them may have.
+-- The block after the dumps of these notes.
 abbrev pub end_in : ℕ → List DumpNote → ℕ
 end_in at [] = at
 end_in at (n ∷ ns) = end_in (n.place + (n.count + 2)) ns
 
+-- The least number that a dump after those of these notes may have.
 abbrev pub number_in : ℕ → List DumpNote → ℕ
 number_in from [] = from
 number_in from (n ∷ ns) = number_in (n.number + 1) ns

@@ -29,7 +29,7 @@ impl NotedReel {
         let mut at = end(self.notes.as_slice()) as u32;
         let mut least = least_behind(self.notes.as_slice());
         loop {
-            // In a loop the prover follows the arms of a `match`, but not the return of `?`.
+            // A `match`, since the proof names its arms (`in-Ok`, `in-Err`).
             match next_dump(alloc, tapes, serial, at, least) {
                 Ok(Some(dir)) => {
                     at = dir.note.place + dir.note.count + 2;

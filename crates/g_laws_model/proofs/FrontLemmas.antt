@@ -77,7 +77,7 @@ is_shortest enough until low (x ∷ xs) above is least = by (cases_Bool (enough 
         keeps_first until x xs less ∙ ap (λ (ys : List ℕ). x ∷ ys) (more (enough_there less is) least_there)
         ∙ sym (ap (λ (b : Bool). cond b [] (x ∷ shortest (λ front. enough (x ∷ front)) xs)) e)
 
--- AND THERE IS SUCH A NUMBER
+-- There is such a number.
 pub record Found (enough : List ℕ → Bool) (low : ℕ) (xs : List ℕ) : Type 0 where
   pub until : ℕ
   pub at : low ≤ until

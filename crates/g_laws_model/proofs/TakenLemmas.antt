@@ -156,7 +156,7 @@ offline_each k until (e ∷ es) own =
 pub same_offline : (k : Holding) (until : ℕ) → offline (below until (candidates k)) k ≡ taken_offline until k
 same_offline k until = ap (λ (es : List (ℕ × Place)). let h : Holding = record k { places = from_sorted es } in h) (offline_each k until (entries k.places) (own_entries k))
 
--- ALL OF THEM are below a stamp where all candidates are
+-- All entries are handled if all candidates are below the stamp.
 under_each : (k : Holding) (until : ℕ) → ((stamp : ℕ) → is_candidate (place_at k.places stamp) ≡ true → stamp < until) → (es : List (ℕ × Place)) → AllOwn (entries k.places) es → Under until (stamps_in es)
 under_each k until all [] own = tt
 under_each k until all (e ∷ es) own = by (cases_Bool (is_candidate e.1)) (under_each k until all es own.1)

@@ -12,6 +12,7 @@ use Rattle.g_store_model.specs.State.{Holding, State, blocks_of, is_candidate, i
 use Rattle.g_store_model.specs.CallStep.{CallStep, IsUnjam, Outcome, brings_now, changes, commits, is_cut, is_disc_read, is_offline, is_tape_read, len_of, need, places_after, reel_of, touched_by, version_read, wants_bytes, writes}
 use Rattle.g_laws_model.specs.Refusals.{Goes, first_of, when}
 
+-- The stamp is among these.
 abbrev pub is_among : ℕ → List ℕ → Bool
 is_among stamp stamps = list_any (λ x. stamp == x) stamps
 
@@ -28,6 +29,7 @@ shortest enough (x ∷ xs) = if enough [] then [] else x ∷ shortest (λ front.
 abbrev pub room_with : State → Holding → List ℕ → ℕ
 room_with s k stamps = room s k + sum_by (λ e. only_if (is_among e.1.stamp stamps) (blocks_of e.1)) (entries k.tree.files)
 
+-- What the store holds after these versions were taken offline.
 abbrev pub offline : List ℕ → Holding → Holding
 offline stamps k = record k { places = from_sorted (map (λ e. (e.0, if is_among e.0 stamps then record e.1 { online = false } else e.1)) (entries k.places)) }
 
@@ -59,12 +61,15 @@ module _ (s : State) (k : Holding) (who : List ℕ) (call : StoreCall) where
     kept = without_all (changes k.tree who call) k.kept;
   }
 
+  -- The call writes to the disc.
   abbrev pub writes_now : Bool
   writes_now = writes call || brings_now s k who call
 
+  -- The state after the call, with these versions taken offline.
   abbrev pub done : List ℕ → State
   done stamps = if writes_now then record (commits s (held (offline stamps k))) { open_dump = option_map (touched_by s k who call) s.open_dump } else s
 
+  -- The effect of the call, if these versions are taken offline for it.
   abbrev pub GoesWith : List ℕ → Outcome → Result StoreReply StoreFault → State → Type 0
   GoesWith stamps o answer new = Goes (refusal stamps o) (is_cut o && writes_now) (reply_to k.tree who call) s (taken_first s k stamps) (done stamps) answer new
 

@@ -15,11 +15,13 @@ use Rattle.g_store_model.specs.Process.{process_refuses}
 use Rattle.g_store_model.specs.Rising.{FormatStep, RestoreStep, StartStep, adopted, coming_up, dump_adopted, has_none, is_completed, restored, unmounted_reel}
 use Rattle.g_laws_model.specs.Refusals.{Goes, first_of, when}
 
+-- The effect of FORMAT.
 abbrev pub DoesFormat : State → Outcome → Result (Unit {0}) StoreFault → State → Type 0
 DoesFormat s o answer new =
     Goes (first_of (option_map RackNotEmpty (first_reel (λ r. r.used) s.reels) ∷ when (is_disc_read o) DiscReadFault ∷ [])) (is_cut o) tt s []
     (coming_up s (record { tree = formatted; places = empty; last = 0; intent = None; kept = empty })) answer new
 
+-- The effect of START, on what the disc holds.
 abbrev pub DoesStart : State → Option Holding → Outcome → Result (Option ℕ) StoreFault → State → Type 0
 DoesStart s None o answer new = Goes (first_of (when (is_disc_read o) DiscReadFault ∷ Some NoFilestore ∷ [])) (is_cut o) None s [] s answer new
 DoesStart s (Some k) o answer new =
@@ -37,6 +39,7 @@ DoesRestore s d o answer new =
     ∷ []))
     (is_cut o) d.number s [] (coming_up s (restored d)) answer new
 
+-- Why opening a dump is refused.
 abbrev pub opening_refusal : State → Holding → ℕ → Outcome → Option StoreFault
 opening_refusal s k serial o = first_of (
     when (lacks s serial) NoTape
@@ -47,6 +50,7 @@ opening_refusal s k serial o = first_of (
     ∷ when (nat_lt (tape_room s serial) (dump_needs k)) (TapeFull (dump_needs k) (tape_room s serial))
     ∷ [])
 
+-- The effect of opening a dump.
 abbrev pub DoesOpening : State → Holding → ℕ → Outcome → Result ℕ StoreFault → State → Type 0
 DoesOpening s k serial o answer new =
     let ends = end_of s serial + dump_needs k - 1 in
@@ -54,6 +58,7 @@ DoesOpening s k serial o answer new =
     × (opening_refusal s k serial o ≡ None → is_cut o ≡ false → AreNoted serial (ends - waiting_blocks (waiting k)) ends k places)
     × Goes (opening_refusal s k serial o) (is_cut o) (k.last + 1) s [] (opening s k serial places) answer new
 
+-- The effect of migrating a file.
 abbrev pub DoesMigrate : State → Holding → Option (List ℕ) → Full → Outcome → Result Full StoreFault → State → Type 0
 DoesMigrate s k user full o answer new =
     let place = place_at k.places (stamp_of k.tree full) in
@@ -69,6 +74,7 @@ DoesMigrate s k user full o answer new =
 abbrev pub DoesMount : State → ℕ → Result (Unit {0}) StoreFault → State → Type 0
 DoesMount s serial answer new = Goes (when (lacks s serial) NoTape) false tt s [] (record s { reels = with_reel serial (with_mounted true) s.reels }) answer new
 
+-- The effect of an unmount.
 abbrev pub DoesUnmount : State → ℕ → Result (Unit {0}) StoreFault → State → Type 0
 DoesUnmount s serial answer new =
     Goes (first_of (when (lacks s serial) NoTape ∷ when (not (is_mounted s serial)) NotMounted ∷ when (is_busy serial s.open_dump) TapeBusy ∷ []))

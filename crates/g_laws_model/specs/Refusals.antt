@@ -9,11 +9,12 @@ use Rattle.g_store_model.specs.CallStep.{down}
 abbrev pub when : Bool → StoreFault → Option StoreFault
 when is fault = if is then Some fault else None
 
--- The first of two refusals; below, of a list, if there is one.
+-- The first refusal, if there is one, otherwise the second.
 abbrev pub or_else : Option StoreFault → Option StoreFault → Option StoreFault
 or_else (Some fault) later = Some fault
 or_else None later = later
 
+-- The first refusal in the list, if there is one.
 abbrev pub first_of : List (Option StoreFault) → Option StoreFault
 first_of [] = None
 first_of (refusal ∷ later) = or_else refusal (first_of later)

@@ -1,4 +1,4 @@
--- The place where a text goes wrong: how it is shown.
+-- How to establish the place where a text leaves a grammar.
 -- serves: read_path, PathLemmas, WordLemmas, crates above
 use Rattle.std.proofs.Common.{◌≡◌, ℕ, ◌+◌, ◌-◌, ◌<◌, ◌≤◌, ◌⊎◌, List, [], ◌∷◌, ◌++◌, length, take, drop, get_or, Option, Some, None, refl, ap, ◌∙◌, subst, inl, inr, arith, append_assoc, suc}
 use Rattle.std.proofs.Math.Seq.{drop-cons, take-add}
@@ -54,7 +54,7 @@ module _ {S : Type 0} (step : ℕ → S → Option S) where
   run-stuck state xs x ys s here stuck =
       run-append state xs (x ∷ ys) ∙ ap (λ (o : Option S). run step o (x ∷ ys)) here ∙ ap (λ (o : Option S). run step o ys) stuck ∙ run-None ys
 
-  -- the place where a reader of the grammar stops is the bad place
+  -- The place where a reader of the grammar stops is the bad place.
   pub wrong_at : (start : S) (IsIn : List ℕ → Type 0)
       → ((text : List ℕ) → IsIn text → is_some (run step (Some start) text) ≡ true)
       → (text : List ℕ) (place : ℕ) (s : S) → place ≤ length text → run step (Some start) (take place text) ≡ Some s

@@ -41,7 +41,7 @@ full_exact a b tie =
     (parts a) (parts b) tie in
     ap from_parts same
 
--- both tests hold where both comparisons tie
+-- Both conditions hold if both comparisons are equal.
 both_tie : (x y : Bool) (p q : Ordering) → x ≡ is_eq p → y ≡ is_eq q → (x && y) ≡ is_eq (ordering_then p q)
 both_tie x y p q first second = ap (λ (t : Bool). t && y) first ∙ ap (λ (t : Bool). is_eq p && t) second ∙ tied_then p q
 

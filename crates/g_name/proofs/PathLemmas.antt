@@ -375,7 +375,7 @@ last_of_lang g lang =
     ∙ ap (λ (generation : Option ℕ). last_part generation (Some lang)) (sym (generation_some g positive).0))
     (cases_eq g 0)
 
--- where a path may end, the reader has the text of the name that it read
+-- If a path may end here, the reader has the text of the name that it read.
 whole_in : (p : Part) (u l : List ℕ) (g : ℕ) (lang : List ℕ) → IsReading (reader p u l g lang) → is_whole (reader p u l g lang) ≡ true
     → (is_word l ≡ true) × (text_in p (reader p u l g lang) ≡ name_text (name_read (reader p u l g lang)))
 whole_in User u l g lang known is = absurd (false≢true is)
@@ -457,7 +457,7 @@ begins_name bytes r has = subst (Begins IsNameText) has.text (begins_in r.part r
 reads_text : (text : List ℕ) (n : Name) → IsName n → text ≡ name_text n → run step (Some start) text ≡ Some (reader_of n)
 reads_text text n is same = ap (λ (t : List ℕ). run step (Some start) t) same ∙ reads_name n is
 
--- where a reader stops, a text goes wrong
+-- The place where a reader stops is the bad place.
 pub wrong_name : (text : List ℕ) (place : ℕ) (r : PathReader) → place ≤ length text → run step (Some start) (take place text) ≡ Some r
     → (place ≡ length text) ⊎ (step (get_or text place 0) r ≡ None) → IsBadPlace IsNameText text place
 wrong_name text place r within here end =
@@ -504,7 +504,7 @@ module _ (text : List ℕ) (r : PathReader) (here : run step (Some start) text �
       let within : e.place ≤ length text = omega arith in
       wrong_name text e.place r within (ap (run step (Some start)) all ∙ here) (inl place)
 
-  -- where the text ends too early, its length is the bad place
+  -- If the text ends too early, its length is the bad place.
   pub path-err : (e : BadName) → e.place ≡ length text → IfErr (ok_or path e) (λ bad. IsBadPlace IsNameText text bad.place)
   path-err e place = ended e place path
 

@@ -31,7 +31,7 @@ longer_short room len bytes x below was = record {
   zeros = drop-set-lt (len + 1) bytes len x (omega arith) ∙ sym (drop-drop 1 len bytes) ∙ ap (drop 1) was.zeros ∙ drop-replicate 1 (room - len) 0 ∙ ap (λ (n : ℕ). replicate {A = ℕ} n 0) (let e : room - len - 1 ≡ room - (len + 1) = omega arith in e);
 }
 
--- texts are the same where their bytes are, the zeros with them, and their lengths
+-- Texts are equal if their padded bytes and their lengths are.
 pub same_short : (room m n : ℕ) (a b : List ℕ) → IsShort room m a → IsShort room n b → (pointwise nat_eq a b && nat_eq m n) ≡ pointwise nat_eq (take m a) (take n b)
 same_short room m n a b one other =
     let whole : take m a ≡ take n b → (a ≡ b) × (m ≡ n) =

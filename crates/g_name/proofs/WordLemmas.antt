@@ -63,7 +63,7 @@ begins_word : (w : List ℕ) → may_be_word w ≡ true → Begins IsLocalText w
 begins_word [] may = (65 ∷ [], refl)
 begins_word (x ∷ xs) may = ([], ap is_word (append-nil (x ∷ xs)) ∙ may)
 
--- where a text stops being a word
+-- The place from which a text is no longer the prefix of a word.
 pub word_wrong : (text : List ℕ) (place : ℕ) → place ≤ length text → may_be_word (take place text) ≡ true
     → (place ≡ length text) ⊎ (extends (take place text) (get_or text place 0) ≡ false) → IsBadPlace IsLocalText text place
 word_wrong text place within may (inl ended) = bad_place_at IsLocalText text place within (begins_word (take place text) may) (inl ended)

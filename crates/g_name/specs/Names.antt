@@ -35,13 +35,15 @@ last_part (Some g) (Some lang) = codes "(" ++ decimal g ++ codes "/" ++ lang ++ 
 abbrev pub name_text : Name → List ℕ
 name_text n = user_part n.user ++ n.local ++ last_part n.generation n.lang
 
--- The text is that of some user with its colon; below, of some local name, and of some name of a file.
+-- The text is that of some user with its colon.
 abbrev pub IsUserText : List ℕ → Type 0
 IsUserText text = is_user_text text ≡ true
 
+-- The text is that of some local name.
 abbrev pub IsLocalText : List ℕ → Type 0
 IsLocalText text = is_word text ≡ true
 
+-- The text is that of some name of a file.
 abbrev pub IsNameText : List ℕ → Type 0
 IsNameText text = (n : Name) × IsName n × (text ≡ name_text n)
 

@@ -15,6 +15,7 @@ Reached Lang r = is_word r.local ≡ true
 Reached Closed r = (is_word r.local ≡ true) × (0 < r.generation) × (r.lang ≡ [])
 Reached LangClosed r = is_word r.local ≡ true
 
+-- The invariant of a reader: each part is a prefix of a valid one, and the parts fit the current one.
 pub record IsReading (r : PathReader) : Type 0 where
   pub user : may_be_word r.user ≡ true
   pub local : may_be_word r.local ≡ true

@@ -19,6 +19,7 @@ short_bytes room len bytes is =
     sym (take-append-drop len bytes) ∙ ap (λ (z : List ℕ). take len bytes ++ z) is.zeros
     ∙ ap (λ (n : ℕ). take len bytes ++ replicate {A = ℕ} (room - n) 0) (sym long)
 
+-- The text has `len` bytes.
 pub short_length : (room len : ℕ) (bytes : List ℕ) → IsShort room len bytes → length (take len bytes) ≡ len
 short_length room len bytes is =
     let size = is.size in

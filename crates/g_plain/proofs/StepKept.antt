@@ -51,7 +51,7 @@ budget_superior row Space amount = refl
 budget_superior row Time amount = refl
 budget_superior row Money amount = refl
 
--- the row of a file that is there
+-- The row of an existing file.
 pub file_there : (t : Tree) (full : Full) → has_file t full ≡ true → get t.files full ≡ Some (file_row t full)
 file_there t full there =
     let row = some_of (get t.files full) there in

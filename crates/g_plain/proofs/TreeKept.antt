@@ -37,7 +37,7 @@ file_row_in t u full row users later r = record {
 abbrev pub with_user : Tree → List ℕ → UserRow → Tree
 with_user t user row = record t { users = insert t.users user row }
 
--- the row of a user who is there
+-- The row of an existing user.
 pub user_there : (t : Tree) (user : List ℕ) → IsTree t → has_user t user ≡ true → IsUserRow t user (user_row t user)
 user_there t user is there =
     let row = some_of (get t.users user) there in

@@ -45,6 +45,7 @@ number_in numbers Nothing = None
 number_in numbers (Input full) = numbers full
 number_in numbers (Output full) = numbers full
 
+-- The grant for a call that names this file.
 abbrev pub name_granted : (Full → Option ℕ) → CallName → GrantedName
 name_granted numbers name = record { name = name; number = number_in numbers name }
 

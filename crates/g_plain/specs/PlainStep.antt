@@ -20,6 +20,7 @@ use Rattle.g_plain.specs.PlainTree.{Tree, UserRow, has_user, user_row, has_file,
 abbrev pub Checks : Type 0
 Checks = List (Bool × StoreFault)
 
+-- The fault of the first condition that holds, if one does.
 abbrev pub first_fault : Checks → Option StoreFault
 first_fault [] = None
 first_fault (check ∷ checks) = if check.0 then Some check.1 else first_fault checks
@@ -43,9 +44,11 @@ input_checks tree who path =
     ∷ (not (has_file tree (input_name tree who path)), NoFile)
     ∷ []
 
+-- The check that a stamp is left.
 abbrev pub spent_check : Tree → Bool × StoreFault
 spent_check tree = (nat_le (2 ^ 62) tree.next, CountersSpent)
 
+-- The checks of a Put, whose path gives this full name.
 abbrev pub put_checks : Tree → List ℕ → Path → List ℕ → Full → Checks
 put_checks tree who path bytes full =
     (not (has_user tree full.user), NoUser)
@@ -114,11 +117,13 @@ with_version tree full bytes =
     let traps = if has_file tree full then (file_row tree full).traps else insert empty full.user 31 in
     record tree { files = insert tree.files full (record { traps = traps; bytes = bytes; stamp = tree.next }); next = tree.next + 1 }
 
+-- The tree after a user was given exactly these modes for a file.
 abbrev pub with_traps : Tree → Full → List ℕ → ℕ → Tree
 with_traps tree full user modes =
     let row = file_row tree full in
     record tree { files = insert tree.files full (record row { traps = with_modes full user modes row.traps }) }
 
+-- The row with another amount of one budget.
 abbrev pub with_budget : UserRow → BudgetKind → ℕ → UserRow
 with_budget row Space amount = record row { space = amount }
 with_budget row Time amount = record row { time = amount }
@@ -175,10 +180,11 @@ fault_in tree who call = first_fault (checks tree who call)
 abbrev pub fault_of : Tree → List ℕ → StoreCall → Option StoreFault
 fault_of tree who call = first_fault ((not (has_user tree who), NoUser) ∷ checks tree who call)
 
--- The plain step: the answer of a call; below, the tree after it.
+-- The answer of the plain step.
 abbrev pub plain_answer : Tree → List ℕ → StoreCall → Result StoreReply StoreFault
 plain_answer tree who call = elim (fault_of tree who call) [ Some fault ↦ Err fault | None ↦ Ok (reply_to tree who call) ]
 
+-- The tree after the plain step.
 abbrev pub plain_tree : Tree → List ℕ → StoreCall → Tree
 plain_tree tree who call = elim (fault_of tree who call) [ Some fault ↦ tree | None ↦ tree_after tree who call ]
 

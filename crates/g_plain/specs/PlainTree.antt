@@ -21,6 +21,7 @@ pub record FileRow : Type 0 where
   pub bytes : List ℕ
   pub stamp : ℕ
 
+-- A tree: the users and the files by name, and the stamp of the next version.
 pub record Tree : Type 0 where
   pub users : FinMap text_cmp UserRow
   pub files : FinMap full_cmp FileRow
@@ -32,9 +33,11 @@ formatted =
     let row : UserRow = record { superior = codes "MASTER"; space = 65535; time = 1000000; money = 1000000 } in
     record { users = insert (insert empty (codes "MASTER") row) (codes "MACROS") row; files = empty; next = 1 }
 
+-- The user exists.
 abbrev pub has_user : Tree → List ℕ → Bool
 has_user tree user = is_some (get tree.users user)
 
+-- The empty row of a user.
 abbrev pub no_budgets : UserRow
 no_budgets = record { superior = []; space = 0; time = 0; money = 0 }
 
@@ -42,9 +45,11 @@ no_budgets = record { superior = []; space = 0; time = 0; money = 0 }
 abbrev pub user_row : Tree → List ℕ → UserRow
 user_row tree user = unwrap_or (get tree.users user) no_budgets
 
+-- The file exists.
 abbrev pub has_file : Tree → Full → Bool
 has_file tree full = is_some (get tree.files full)
 
+-- The empty row of a file.
 unfoldable pub no_row : FileRow
 no_row = record { traps = empty; bytes = []; stamp = 0 }
 
@@ -84,10 +89,11 @@ generations name es = map (λ e. e.0.generation) (filter (λ e. is_version_of na
 abbrev pub newest : Tree → List ℕ → Path → ℕ
 newest tree who path = fold max 0 (generations (named who path 0) (entries tree.files))
 
--- The full name of a path for input; below, for output.
+-- The full name of a path for input: without a generation, the newest one.
 abbrev pub input_name : Tree → List ℕ → Path → Full
 input_name tree who path = named who path (unwrap_or path.generation (newest tree who path))
 
+-- The full name of a path for output: without a generation, the one after the newest.
 abbrev pub output_name : Tree → List ℕ → Path → Full
 output_name tree who path = named who path (unwrap_or path.generation (newest tree who path + 1))
 
@@ -97,6 +103,7 @@ modes_of row full user =
     let given = unwrap_or (get row.traps user) 0 in
     if same_text full.user (codes "MACROS") then bit_or given 2 else given
 
+-- The user has this mode for the file.
 abbrev pub is_allowed : FileRow → Full → List ℕ → Mode → Bool
 is_allowed row full user mode = allows (modes_of row full user) mode
 

@@ -5,6 +5,7 @@ use Rattle.g_plain.specs.declared.calls.StoreReply.{StoreReply}
 use Rattle.g_plain.specs.declared.faults.StoreFault.{StoreFault}
 use Rattle.g_plain.specs.declared.faults.StoreFault.TheVariants.{NoMemory}
 
+-- The answer of a store to a call.
 abbrev pub Answer : Type 0
 Answer = Result StoreReply StoreFault
 

@@ -76,7 +76,7 @@ new_there m full to place there free =
     ∙ ap (λ b. cond b None (get (insert m to place) to)) ((eq_by_cmp_equiv full_total).symm to full ∙ apart m full to there free full to refl refl)
     ∙ get-insert full_total m to place to ∙ ap (λ b. cond b (Some place) (get m to)) ((eq_by_cmp_equiv full_total).refl to))
 
--- to write back what is there changes nothing
+-- Writing back an unchanged row changes nothing.
 pub insert_same : (m : FinMap full_cmp FileRow) (full : Full) (row : FileRow) → Some row ≡ get m full → insert m full row ≡ m
 insert_same m full row is =
     same_map full_total full_exact _ _

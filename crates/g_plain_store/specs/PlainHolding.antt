@@ -7,6 +7,7 @@ use Rattle.g_plain.specs.Programs.{Answer, IsAnswer}
 use Rattle.g_plain.specs.PlainStep.{plain_answer, plain_tree, IsPlainAnswer}
 use Rattle.g_plain.specs.PlainAnswers.{PlainOrDevice}
 
+-- The plain store's answers are those of the plain step on the tree that it holds.
 pub plain_holds : (old t : Tree) (who : List ℕ) (call : StoreCall) (answer : Answer) (new : Tree) → old ≡ t
     → IsPlainAnswer old who call answer new → IsAnswer answer → (after : Tree) × PlainOrDevice t who call answer after × (new ≡ after)
 plain_holds old t who call (Err NoMemory) new same is real = absurd (true≢false real)

@@ -76,7 +76,7 @@ module _ {B : Type 0} (state : B → DiscState) (disc : DiscState) (old new : Ra
   found_of (Ok made) of = tt
   found_of (Err e) of = disc_finds (OnlineFacts × ℕ) e.0 of
 
--- WHERE A DIRECTORY IS MADE all reels are mounted, and no refusal is one of the reels
+-- If a directory is built, all reels are mounted, and no refusal concerns the reels.
 pub unmounted_of : {A B C : Type 0} (dumped : C) (result : Result A (StoreFault × B)) (first : Option ℕ) → IfErr result (λ e. IsOfDisc e.0)
     → ((serial : ℕ) → (◌≡◌ {A = Result C StoreFault} (Ok dumped) (Err (RackNotMounted serial))) ↔ (first ≡ Some serial))
     → (serial : ℕ) → (answer_of result ≡ Err (RackNotMounted serial)) ↔ (first ≡ Some serial)

@@ -125,7 +125,7 @@ one_put found users i files now u within at put added dumps are =
     subst (λ (us : List UserRec). (more : List FileRec) × Gathers dumps us more × (now ≡ numbered_from 0 more)) (sym (next_user users i u within at))
     (gathered ++ files_of u.number d.files, gathers_push dumps (take i users) u gathered d gathers has, is ∙ behind_is files gathered u.number d.files numbered)
 
--- what was put together and goes together was gathered
+-- Directories that were appended and satisfy the rules together were gathered.
 pub put_gathered : (found : List Found) (users us : List UserRec) (next : ℕ) (files : List FileRec) → ArePut found us files → GoWith (length users) next files
     → (dumps : List Dump) → AreKnown found dumps → AreGathered dumps (length users) next us files
 put_gathered found users us next files put go dumps are =
@@ -150,7 +150,7 @@ one_taken found users next i files now u within at so taken = record {
     more : (dumps : List Dump) → AreKnown found dumps → AreGathered dumps (length users) next (take (i + 1) users) now
     more = put_gathered found users (take (i + 1) users) next now (one_put found users i files now u within at put taken.is) taken.go
 
--- dumps that are apart, as the laws of the state say it
+-- Dumps with distinct numbers, in the form that the laws of the state use.
 pub apart_is : (dumps : List Dump) → AreApart dumps → IsApart dumps
 unfolding IsApart
 apart_is dumps apart = apart

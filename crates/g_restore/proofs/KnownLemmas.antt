@@ -103,7 +103,7 @@ module _ (found : List Found) (dumps : List Dump) (same : map known found ≡ ma
       let long : length (get_or found k f).dir.files.items ≡ length d.files = ap (λ (x : Known). length x.files) (known_d f) in
       omega (arith, long, few)
 
--- where none holds_directory there is none
+-- If no dump passes the check, there is no such dump.
 pub none_there : (found : List Found) → NonePasses None found (length found) → found ≡ []
 none_there [] none = refl
 none_there (f ∷ fs) none = absurd (none 0 f (omega arith) refl)

@@ -96,7 +96,7 @@ module _ (found : List Found) (dumps : List Dump) (are : AreKnown found dumps) w
   pub place_lost : (r : FileRec) (c : TapeCopy) → r.tape ≡ Some c → (AnyHas found c (blocks_for r.len) → ⊥) → HasPlace dumps r → ⊥
   place_lost r c is lost has = not_there r.len r.tape c is lost has
 
--- THE FIRST FILE whose copy isn't held
+-- The first file whose copy isn't held.
 pub first_not_held : (found : List Found) (files : List FileRec) (i : ℕ) (x : FileRec) (copy : TapeCopy) → i < length files → x ≡ get_or files i x → All (IsHeld found) (take i files)
     → x.tape ≡ Some copy → (AnyHas found copy (blocks_for x.len) → ⊥) → IsFirstNotHeld found files i copy
 first_not_held found files i x copy within at before is lost = record {

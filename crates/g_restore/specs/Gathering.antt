@@ -16,6 +16,7 @@ abbrev pub holds_directory : Option ℕ → Found → Bool
 holds_directory None f = true
 holds_directory (Some user) f = holds f.dir.held.items user
 
+-- The number of the dump.
 abbrev pub number_in : Found → ℕ
 number_in f = f.dir.note.number
 
@@ -25,6 +26,7 @@ abbrev pub newer_of : Option (ℕ × ℕ) → ℕ → ℕ → Option (ℕ × ℕ
 newer_of None i number = Some (i, number)
 newer_of (Some b) i number = if nat_lt b.1 number then Some (i, number) else Some b
 
+-- The better of two dumps, if the second one holds the user's directory; otherwise the first.
 abbrev pub newer_holder : Option ℕ → Option (ℕ × ℕ) → ℕ → Found → Option (ℕ × ℕ)
 newer_holder user best i f = if holds_directory user f then newer_of best i (number_in f) else best
 
@@ -39,6 +41,7 @@ pub record IsBest (user : Option ℕ) (found : List Found) (n : ℕ) (b : ℕ ×
 abbrev pub NonePasses : Option ℕ → List Found → ℕ → Type 0
 NonePasses user found n = (k : ℕ) (d : Found) → k < n → holds_directory user (get_or found k d) ≡ true → ⊥
 
+-- The best of the first n dumps, if one of them holds the user's directory.
 abbrev pub IsBestOf : Option ℕ → List Found → ℕ → Option (ℕ × ℕ) → Type 0
 IsBestOf user found n best = MatchOption best (NonePasses user found n) (IsBest user found n)
 
@@ -50,6 +53,7 @@ HasFew f = length f.dir.files.items ≤ 1024
 abbrev pub behind : List FileRec → ℕ → List FileRec → List FileRec
 behind old user files = old ++ numbered_from (length old) (files_of user files)
 
+-- The files after one more file of the user was appended.
 abbrev pub added : List FileRec → ℕ → FileRec → List FileRec
 added old user r = if r.owner == user then old ++ with_number (length old) r ∷ [] else old
 
@@ -66,6 +70,7 @@ pub record GoWith (users next : ℕ) (files : List FileRec) : Type 0 where
   pub rules : AreFiles users files
   pub dated : StampsBelow next files
 
+-- The user's directory was appended, and the files satisfy the rules together.
 pub record IsTaken (found : List Found) (users next user : ℕ) (old new : List FileRec) : Type 0 where
   pub go : GoWith users next new
   pub is : IsAdded found user old new

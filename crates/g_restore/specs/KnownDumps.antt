@@ -15,9 +15,11 @@ pub record Known : Type 0 where
   pub held : List ℕ
   pub files : List FileRec
 
+-- What is known of a dump.
 abbrev pub known_of : Dump → Known
 known_of d = record { serial = d.serial; note = note_of d; users = d.users; held = d.held; files = d.files }
 
+-- What memory has of a dump.
 abbrev pub known : Found → Known
 known f = record { serial = f.serial; note = f.dir.note; users = f.dir.users.items; held = f.dir.held.items; files = f.dir.files.items }
 

@@ -28,7 +28,7 @@ abbrev pub answer_of : {A B : Type 0} → Result A (StoreFault × B) → Result 
 answer_of (Ok reply) = Ok reply
 answer_of (Err e) = Err e.0
 
--- The refusal concerns the reels, or memory ran out; below, it concerns the disc, or memory ran out.
+-- The refusal concerns the reels, or memory ran out.
 abbrev pub IsOfReels : StoreFault → Type 0
 IsOfReels (store.RackNotMounted serial) = Unit {0}
 IsOfReels store.TapeReadFault = Unit {0}
@@ -38,6 +38,7 @@ IsOfReels (store.LostCopy full serial) = Unit {0}
 IsOfReels store.NoMemory = Unit {0}
 IsOfReels fault = ⊥
 
+-- The refusal concerns the disc, or memory ran out.
 abbrev pub IsOfDisc : StoreFault → Type 0
 IsOfDisc store.DiscReadFault = Unit {0}
 IsOfDisc store.Stopped = Unit {0}

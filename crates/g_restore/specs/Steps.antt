@@ -38,6 +38,7 @@ pub record CanBeMade (d : Dumped) : Type 0 where
   pub dated : StampsBelow d.next_stamp d.files.items
   pub copied : All (λ r. r.len ≢ 0 → is_some r.tape ≡ true) d.files.items
 
+-- The head of the restored directory, which has no intent.
 abbrev pub head_of : Dumped → Head
 head_of d = record { next_stamp = d.next_stamp; last_dump = d.number; intent = None }
 

@@ -43,7 +43,7 @@ pub fn read_rack<T: Tapes>(alloc: Global, tapes: &mut T) -> Result<Vec<Found>, S
     let mut found = Vec::new(alloc);
     for i in 0..tapes.reels() {
         let serial = tapes.serial(i);
-        // In a loop the prover follows the arms of a `match`, but not the return of `?`.
+        // A `match`, since the proof names its arms (`in-Ok`, `in-Err`).
         match read_reel(alloc, tapes, serial, &mut found) {
             Ok(()) => {}
             Err(fault) => return Err(fault),

@@ -72,7 +72,7 @@ reel_at old new i serial are only within is =
       },
     )
 
--- where all reels are mounted none is refused
+-- If all reels are mounted, none is refused.
 no_refusal : (o : Option Reel) (r : Reel) → o ≡ Some r → r.mounted ≡ true → refuses_unmount o ≡ None
 no_refusal o r is mounted = ap refuses_unmount is ∙ ap (λ (b : Bool). if b then None else Some tape.NotMounted) mounted
 

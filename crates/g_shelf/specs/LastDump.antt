@@ -15,10 +15,11 @@ first_unmounted reels = option_map (λ r. r.serial) (find (λ r. not r.mounted) 
 abbrev pub HasDumps : (List Dump → Type 0) → Reel → Type 0
 HasDumps P r = ForSome r.blocks (λ blocks. (dumps : List Dump) × AreCompleted r.serial blocks dumps × P dumps)
 
--- The numbers of all its completed dumps are at most n; below, less than n.
+-- The numbers of all completed dumps of the reel are at most n, if it exposes its blocks.
 abbrev pub HasUpTo : ℕ → Reel → Type 0
 HasUpTo n r = HasDumps (All (λ d. d.number ≤ n)) r
 
+-- The numbers of all completed dumps of the reel are less than n, if it exposes its blocks.
 abbrev pub HasBelow : ℕ → Reel → Type 0
 HasBelow n r = HasDumps (All (λ d. d.number < n)) r
 

@@ -45,7 +45,7 @@ pub fn last_dump<T: Tapes>(
     let mut last = None;
     for i in 0..tapes.reels() {
         let serial = tapes.serial(i);
-        // In a loop the prover follows the arms of a `match`, but not the return of `?`.
+        // A `match`, since the proof names its arms (`in-Ok`, `in-Err`).
         match completed(alloc, tapes, serial) {
             Ok(notes) => last = later(last, serial, notes.last()),
             Err(fault) => return Err(fault),

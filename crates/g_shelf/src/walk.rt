@@ -36,7 +36,7 @@ pub fn read_reel<T: Tapes, K: OfDump + Drop>(
     let mut at = 0;
     let mut least = 0;
     loop {
-        // In a loop the prover follows the arms of a `match`, but not the return of `?`.
+        // A `match`, since the proof names its arms (`in-Ok`, `in-Err`).
         match next_dump(alloc, tapes, serial, at, least) {
             Ok(Some(dir)) => {
                 at = end_block(&dir.note);

@@ -87,7 +87,7 @@ intents_belong = record {
       record { files = disc.files; numbers = λ d there. inl (quiet d there); has_last = disc.has_last; stamps = disc.stamps; intent = tt };
 }
 
--- the copy that is put in, or the one there was, has the text
+-- The new copy, or the previous one, has the text.
 pub copy_is : (text : ℕ → List ℕ) (dumps : List Dump) (copies : List (ℕ × TapeCopy)) (stamp : ℕ) (old : Option TapeCopy) → All (HasContent text dumps) copies
     → IfSome old (λ c. IsContent dumps c (text stamp)) → IfSome (copy_of copies stamp old) (λ c. IsContent dumps c (text stamp))
 copy_is text dumps [] stamp old has_content keep = keep

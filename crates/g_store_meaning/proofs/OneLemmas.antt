@@ -251,7 +251,7 @@ numbered_copied n [] all = λ i d within. let no : ⊥ = omega (arith, within) i
 numbered_copied n (r ∷ rs) all =
     All-cons IsCopied (with_number n r) (numbered_from (n + 1) rs) (All-head IsCopied r rs all) (numbered_copied (n + 1) rs (All-tail IsCopied r rs all))
 
--- what a state says of a dumped directory, of its parts
+-- The parts of a dumped directory that determine its state.
 unfoldable pub dumped_parts : (ℕ → List ℕ) → Dump → List FileRec → state.Dumped
 dumped_parts text last gathered = record {
   number = last.number;
@@ -271,7 +271,7 @@ same_tree x y users files next agree = same_bytes users files (λ r. y r.stamp) 
 abbrev pub KeepsIn : (dumps : List Dump) → (ℕ → List ℕ) → DumpedDirectory dumps → Type 0
 KeepsIn dumps text t = All (λ r. KeepsRecord (text r.stamp) dumps r) (files_in t)
 
--- no tree is dumped where no directory has all its bytes
+-- No tree is dumped if no directory has all its bytes.
 abbrev pub NoneIn : (dumps : List Dump) → Option (DumpedDirectory dumps) → Type 0
 NoneIn dumps t = t ≡ None → (u : DumpedDirectory dumps) (text : ℕ → List ℕ) → KeepsIn dumps text u → ⊥
 

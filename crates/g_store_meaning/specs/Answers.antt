@@ -79,6 +79,7 @@ abbrev pub ReadCopy : Option TapeCopy → ℕ → StoreFacts → StoreFacts → 
 ReadCopy None len old new = Unit {0}
 ReadCopy (Some c) len old new = (i : ℕ) → c.first ≤ i → i < c.first + blocks_for len → HasRead c.serial i old.rack new.rack
 
+-- A successful call wrote the blocks of its commits, and read the copy if its version was offline.
 pub record Did (before : State) (k : Holding) (who : List ℕ) (call : StoreCall) (old new : StoreFacts) : Type 0 where
   pub wrote : Wrote before k who call old new
   pub read : is_offline before k who call ≡ true → ReadCopy (place_of before k who call (version_read k.tree who call)).copy (len_of before k who call (version_read k.tree who call)) old new

@@ -11,6 +11,7 @@ use Rattle.g_store_meaning.specs.Laws.{closed, with_version}
 use Rattle.g_store_meaning.specs.Meaning.{files_of}
 use Rattle.g_store_meaning.specs.StoreInvariant.{KeepsDirectories, KeepsOpening}
 
+-- The second list has all numbers of the first.
 abbrev pub Grows : List ℕ → List ℕ → Type 0
 Grows old new = (n : ℕ) → holds old n ≡ true → holds new n ≡ true
 

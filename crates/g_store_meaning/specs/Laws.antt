@@ -17,6 +17,7 @@ use Rattle.g_store_meaning.specs.Reading.{StandsForState}
 use Rattle.g_store_meaning.specs.Belonging.{Belong, DiscBelongs, IsPlaced, RackBelongs}
 use Rattle.g_store_meaning.specs.Meaning.{DumpedDirectory, IsContent, files_in}
 
+-- The texts, with these bytes for one stamp.
 abbrev pub with_text : ℕ → List ℕ → (ℕ → List ℕ) → ℕ → List ℕ
 with_text stamp bytes text n = if n == stamp then bytes else text n
 
@@ -24,6 +25,7 @@ with_text stamp bytes text n = if n == stamp then bytes else text n
 abbrev pub with_version : File → List ℕ → Contents → Contents
 with_version f numbers c = record c { head = record c.head { next_stamp = c.head.next_stamp + 1 }; files = with_file f (taken_off numbers c.files) }
 
+-- The file is a new version with these bytes: it has the next stamp and no copy on tape.
 pub record IsNewVersion (c : Contents) (f : File) (bytes : List ℕ) : Type 0 where
   pub stamp : f.rec.stamp ≡ c.head.next_stamp
   pub tape : f.rec.tape ≡ None
@@ -42,6 +44,7 @@ pub record IsSameVersion (r old : FileRec) : Type 0 where
   pub len : r.len ≡ old.len
   pub tape : r.tape ≡ old.tape
 
+-- If the record is for this file, it is of the same version.
 abbrev pub RecordsAnew : FileRec → File → Type 0
 RecordsAnew r f = f.rec.number ≡ r.number → IsSameVersion r f.rec
 
@@ -98,6 +101,7 @@ ClosingBelongs = (text : ℕ → List ℕ) (shelf : ℕ → List Dump) (reels : 
 abbrev pub restored_file : Option (List (List ℕ)) → FileRec → File
 restored_file held r = record { rec = r; online = r.len == 0; bytes = if r.len == 0 then option_map (λ blocks. []) held else None }
 
+-- The contents of a disc after a restore of this dumped directory.
 abbrev pub restored : {dumps : List Dump} → Option (List (List ℕ)) → DumpedDirectory dumps → Contents
 restored held t = record {
   head = record { next_stamp = t.last.next; last_dump = t.last.number; intent = None };

@@ -48,16 +48,16 @@ pub record HasText (told : Type 0) (text : List ℕ) (dumps : List Dump) (f : Fi
   pub bytes : ForSome f.bytes (λ bytes. bytes ≡ text)
   pub tape : told → f.online ≡ false → IfSome f.rec.tape (λ c. IsContent dumps c text)
 
--- Every reel exposes its blocks; below, the disc does so too.
+-- Every reel exposes its blocks.
 pub record ReelsTold (reels : List Reel) : Type 0 where
   pub each : All (λ r. is_some r.blocks ≡ true) reels
 
+-- The disc and every reel expose their blocks.
 pub record AllTold (held : Option (List (List ℕ))) (reels : List Reel) : Type 0 where
   pub disc : is_some held ≡ true
   pub each : ReelsTold reels
 
--- The view is correct for the rack; below, also for what the disc holds. Texts and the dumped tree are constrained as
--- far as the devices expose their contents.
+-- The view is correct for the rack. The dumped tree is constrained if all devices expose their contents.
 pub record IsRackView (held : Option (List (List ℕ))) (reels : List Reel) (v : View) : Type 0 where
   pub shelved : AreShelved v.shelf reels
   pub all : v.dumps ≡ all_dumps v.shelf reels
@@ -66,6 +66,7 @@ pub record IsRackView (held : Option (List (List ℕ))) (reels : List Reel) (v :
   pub none : AllTold held reels → v.dumped ≡ None → (t : DumpedDirectory v.dumps) (text : ℕ → List ℕ)
       → All (λ r. KeepsRecord (text r.stamp) v.dumps r) (files_in t) → ⊥
 
+-- The view is correct for the rack and for what the disc holds.
 pub record IsView (held : Option (List (List ℕ))) (reels : List Reel) (c : Contents) (v : View) : Type 0 where
   pub rack : IsRackView held reels v
   pub files : All (λ f. HasText (AllTold held reels) (v.text f.rec.stamp) v.dumps f) c.files
@@ -77,6 +78,7 @@ pub record OpensTo (reels : List Reel) (v : View) (plan : Plan) (content : List 
   pub all : o.dumps ≡ all_dumps (with_dump (dump_of plan content) v.shelf) reels
   pub records : All (λ r. KeepsRecord (v.text r.stamp) o.dumps r) (files_in o.directory)
 
+-- The view is correct for an open dump, if all devices expose their contents.
 pub record IsOpenView (reels : List Reel) (v : View) (o : OnlineFacts) (dump : Option DumpFacts) : Type 0 where
   pub is : AllTold o.disc.held reels → (pins : List Pin) → o.pins ≡ Some pins
       → IfSome dump (λ d. (content : List (List ℕ)) × (content_in pins ≡ Some content) × (opened : Opened) × OpensTo reels v d.plan content opened)
@@ -85,21 +87,27 @@ pub record IsOpenView (reels : List Reel) (v : View) (o : OnlineFacts) (dump : O
 abbrev pub tree_by : (ℕ → List ℕ) → List UserRec → List FileRec → ℕ → Tree
 tree_by text users files next = tree_of users files (λ r. text r.stamp) next
 
+-- The place of a file's version.
 abbrev pub place_of : File → state.Place
 place_of f = record { online = f.online; copy = f.rec.tape }
 
+-- The places of the files' versions, by stamp.
 abbrev pub places_of : List File → FinMap nat_cmp state.Place
 places_of files = from_entries (map (λ f. (f.rec.stamp, place_of f)) files)
 
+-- The names of these users.
 abbrev pub names_of : List UserRec → state.Users
 names_of users = from_entries (map (λ u. (u.user, tt)) users)
 
+-- The users whose numbers are among these.
 abbrev pub users_in : List ℕ → List UserRec → List UserRec
 users_in numbers users = filter (λ u. has numbers u.number) users
 
+-- The users whose numbers aren't among these.
 abbrev pub users_not_in : List ℕ → List UserRec → List UserRec
 users_not_in numbers users = filter (λ u. not (has numbers u.number)) users
 
+-- What the store holds, given the texts, the kept users and the contents of the disc.
 abbrev pub holding_of : (ℕ → List ℕ) → List UserRec → Contents → state.Holding
 holding_of text kept c = record {
   tree = tree_by text c.users (recs_in c) c.head.next_stamp;
@@ -109,9 +117,11 @@ holding_of text kept c = record {
   kept = names_of kept;
 }
 
+-- A completed dump, in a state.
 abbrev pub shelved_of : Dump → state.Shelved
 shelved_of d = record { place = d.place; ends = ends d; number = d.number }
 
+-- A reel, in a state.
 abbrev pub row_of : (ℕ → List Dump) → Reel → state.ReelRow
 row_of shelf r = record { serial = r.serial; capacity = r.capacity; mounted = r.mounted; used = nat_lt 0 r.len; dumps = map shelved_of (shelf r.serial) }
 
@@ -119,6 +129,7 @@ row_of shelf r = record { serial = r.serial; capacity = r.capacity; mounted = r.
 abbrev pub dumped_place : FileRec → state.Place
 dumped_place r = record { online = r.len == 0; copy = r.tape }
 
+-- The places of the versions in a dump, by stamp.
 abbrev pub dumped_places : List FileRec → FinMap nat_cmp state.Place
 dumped_places files = from_entries (map (λ r. (r.stamp, dumped_place r)) files)
 
@@ -126,6 +137,7 @@ dumped_places files = from_entries (map (λ r. (r.stamp, dumped_place r)) files)
 abbrev pub own_of : Dump → FinMap nat_cmp TapeCopy
 own_of d = from_entries (flat_map (λ r. state.copy_entry r.stamp r.tape) d.files)
 
+-- The last completed dump, in a state.
 abbrev pub dumped_of : {dumps : List Dump} → (ℕ → List ℕ) → DumpedDirectory dumps → state.Dumped
 dumped_of text t = record {
   number = t.last.number;
@@ -134,18 +146,22 @@ dumped_of text t = record {
   own = own_of t.last;
 }
 
+-- The copies that the open dump's own records will name.
 abbrev pub own_opened : Option Opened → FinMap nat_cmp TapeCopy
 own_opened None = from_entries []
 own_opened (Some o) = own_of o.dump
 
+-- The pinned versions, by stamp, with their numbers of blocks.
 abbrev pub waiting_of : Option (List Pin) → FinMap nat_cmp ℕ
 waiting_of None = from_entries []
 waiting_of (Some pins) = from_entries (map (λ p. (p.stamp, blocks_for p.len)) pins)
 
+-- The tree of the open dump, and the places of its versions; empty if no dump is open.
 abbrev pub open_tree : (ℕ → List ℕ) → Option Opened → Tree × FinMap nat_cmp state.Place
 open_tree text None = (tree_by text [] [] 0, dumped_places [])
 open_tree text (Some o) = (tree_by text o.directory.last.users (files_in o.directory) o.directory.last.next, dumped_places (files_in o.directory))
 
+-- The open dump, in a state.
 abbrev pub open_of : View → OnlineFacts → DumpFacts → state.OpenDump
 open_of v o d = record {
   number = d.plan.number;
@@ -160,7 +176,7 @@ open_of v o d = record {
   touched = names_of (users_in o.touched o.contents.users);
 }
 
--- The state that devices represent while no store is running on them; below, the state of a store that is up.
+-- The state that devices represent while no store is running on them.
 abbrev pub state_down : View → List Reel → ℕ → Option Contents → state.State
 state_down v reels size c = record {
   up = false;
@@ -171,6 +187,7 @@ state_down v reels size c = record {
   open_dump = None;
 }
 
+-- The state that a store represents while it is up.
 abbrev pub state_up : View → List Reel → OnlineFacts → Option DumpFacts → state.State
 state_up v reels o dump = record {
   up = true;

@@ -23,6 +23,7 @@ pub record AreMarked (s : StoreFacts) (owner : ℕ) (changed touched : List ℕ)
   pub has : holds changed owner ≡ true
   pub has_open : IfSome s.dump (λ d. holds touched owner ≡ true)
 
+-- The changes that preserve the invariant: a new version, an erasure, another record, files taken off the disc, and a file brought back.
 pub record StaysUp : Type 0 where
   pub version : (text : ℕ → List ℕ) (shelf : ℕ → List Dump) (s : StoreFacts) (f : File) (bytes numbers changed touched : List ℕ) → (let c = s.online.contents in
       AreNumbered (recs_in c) → All (λ g. g.rec.stamp < c.head.next_stamp) c.files → IsNewVersion c f bytes → All (IsOwnedBy f.rec.number f.rec.owner) c.files

@@ -19,6 +19,7 @@ pub record DumpFacts : Type 0 where
   pub plan : Plan
   pub done : ℕ
 
+-- A store: the online filestore, the rack, the open dump, and whether a write has failed.
 pub record StoreFacts : Type 0 where
   pub online : OnlineFacts
   pub rack : Rack
@@ -63,6 +64,7 @@ pub record IsOpen (d : DumpFacts) (o : OnlineFacts) (rack : Rack) : Type 0 where
 abbrev pub unnumbered : FileRec → FileRec
 unnumbered r = record r { number = 0 }
 
+-- The records are the same, apart from file numbers.
 abbrev pub same_files : List FileRec → List FileRec → Type 0
 same_files a b = map unnumbered a ≡ map unnumbered b
 
@@ -72,6 +74,7 @@ pub record IsKept (dumps : List Dump) (user : ℕ) (files : List FileRec) : Type
   pub directory : HasDirectory dumps user source
   pub same : same_files (files_of user source.files) files
 
+-- The dumps with numbers of at most n.
 abbrev pub up_to : ℕ → List Dump → List Dump
 up_to n dumps = filter (λ d. nat_le d.number n) dumps
 

@@ -84,7 +84,7 @@ module _ (s : State) (d : OpenDump) (r : ReelRow) (there : reel_at d.serial s.re
   mounted_is : r.mounted ≡ true → is_mounted (down (marked d s)) d.serial ≡ true
   mounted_is is = ap mounted_in reel_is ∙ is
 
--- where nothing refuses the event is done
+-- If nothing refuses it, the event is done.
 event_is : {A : Type 0} (refusal : Option StoreFault) (reply : A) (s after : State) (answer : Result A StoreFault) (new : State) → refusal ≡ None → Event refusal reply s after answer new
     → (answer ≡ Ok reply) × (new ≡ after)
 event_is None reply s after answer new none step = step

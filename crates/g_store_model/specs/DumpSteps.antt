@@ -19,13 +19,15 @@ Event None reply s after answer new = (answer ≡ Ok reply) × (new ≡ after)
 Event (Some Stopped) reply s after answer new = (answer ≡ Err Stopped) × ((new ≡ down s) ⊎ (new ≡ down after))
 Event (Some fault) reply s after answer new = (answer ≡ Err fault) × (new ≡ s)
 
--- The version isn't empty and has no copy on tape; below, all such versions with their numbers of blocks.
+-- The version isn't empty and has no copy on tape.
 abbrev pub waits : Holding → Full × FileRow → Bool
 waits k e = nat_lt 0 (length e.1.bytes) && is_none (place_at k.places e.1.stamp).copy
 
+-- The versions that wait, by stamp, with their numbers of blocks.
 abbrev pub waiting : Holding → FinMap nat_cmp ℕ
 waiting k = from_entries (map (λ e. (e.1.stamp, blocks_of e.1)) (filter (waits k) (entries k.tree.files)))
 
+-- The number of blocks of these versions.
 abbrev pub waiting_blocks : FinMap nat_cmp ℕ → ℕ
 waiting_blocks waiting = sum_by (λ w. w.1) (entries waiting)
 
@@ -50,6 +52,7 @@ pub record AreNoted (serial from to : ℕ) (k : Holding) (places : FinMap nat_cm
 abbrev pub own_copy : Holding → FinMap nat_cmp Place → Full × FileRow → List (ℕ × TapeCopy)
 own_copy k places e = if is_in k.kept e.0.user then [] else copy_entry e.1.stamp (place_at places e.1.stamp).copy
 
+-- The copies that the dump's own records name, by stamp.
 abbrev pub own_copies : Holding → FinMap nat_cmp Place → FinMap nat_cmp TapeCopy
 own_copies k places = from_entries (flat_map (own_copy k places) (entries k.tree.files))
 
@@ -68,19 +71,23 @@ dump_begun s k serial places = record {
   touched = empty;
 }
 
+-- The state after a dump was opened: the intent is on the disc, and the dump is open.
 abbrev pub opening : State → Holding → ℕ → FinMap nat_cmp Place → State
 opening s k serial places = record s {
   holding = Some (record k { intent = Some (record { serial = serial; place = end_of s serial; number = k.last + 1 }) });
   open_dump = Some (dump_begun s k serial places);
 }
 
+-- The number of blocks on the reel after its completed dumps.
 abbrev pub tape_room : State → ℕ → ℕ
 tape_room s serial = capacity_in (reel_at serial s.reels) - end_of s serial
 
+-- The number of the open dump; 0 if there is none.
 abbrev pub open_number : Option OpenDump → ℕ
 open_number None = 0
 open_number (Some d) = d.number
 
+-- Why opening a dump is refused, in the order of the checks.
 abbrev pub open_refuses : State → Holding → ℕ → Outcome → Option StoreFault
 open_refuses s k serial o = first_fault (
     (lacks s serial, NoTape)
@@ -106,15 +113,19 @@ pub data Stepped : Type 0 where
   Going : Stepped
   Completed : ℕ → Stepped
 
+-- The open dump, once it is completed.
 abbrev pub shelved : OpenDump → Shelved
 shelved d = record { place = d.place; ends = d.place + d.needs; number = d.number }
 
+-- The reel with one more completed dump.
 abbrev pub with_shelved : Shelved → ReelRow → ReelRow
 with_shelved d r = record r { dumps = r.dumps ++ d ∷ [] }
 
+-- The reel, with or without a block.
 abbrev pub with_used : Bool → ReelRow → ReelRow
 with_used is r = record r { used = is }
 
+-- The state in which the dump's reel has a block, or has none.
 abbrev pub uses : Bool → OpenDump → State → State
 uses is d s = record s { reels = with_reel d.serial (with_used is) s.reels }
 
@@ -129,6 +140,7 @@ marked d s = record s {
 abbrev pub noted_copy : OpenDump → ℕ → Place → Place
 noted_copy d stamp p = if is_some (get d.waiting stamp) then record p { copy = (place_at d.places stamp).copy } else p
 
+-- The places of the current versions, with the copies that the dump has for them.
 abbrev pub with_noted : OpenDump → FinMap nat_cmp Place → FinMap nat_cmp Place
 with_noted d places = from_sorted (map (λ e. (e.0, noted_copy d e.0 e.1)) (entries places))
 
@@ -136,6 +148,7 @@ with_noted d places = from_sorted (map (λ e. (e.0, noted_copy d e.0 e.1)) (entr
 abbrev pub kept_now : OpenDump → Tree → Users
 kept_now d tree = from_entries (map (λ e. (e.0, tt)) (filter (λ e. not (is_in d.touched e.0)) (entries tree.users)))
 
+-- The state after the dump was completed on its reel and on the disc, and is no longer open.
 abbrev pub completed : OpenDump → Holding → State → State
 completed d k s = record (marked d s) {
   holding = Some (record k { places = with_noted d k.places; last = d.number; intent = None; kept = kept_now d k.tree });
@@ -151,6 +164,7 @@ writes_content d = nat_lt (d.done + 1) d.needs && nat_le d.needs (d.done + 1 + w
 abbrev pub UsedByCut : OpenDump → State → State → Type 0
 UsedByCut d s new = (new ≡ s) ⊎ ((d.place + d.done ≡ 0) × ((new ≡ uses true d s) ⊎ (new ≡ uses false d s)))
 
+-- The step of the open dump: one more block, the last block, or a failed read or write.
 abbrev pub DumpStep : State → Holding → OpenDump → Outcome → Result Stepped StoreFault → State → Type 0
 DumpStep s k d o (Ok Going) new =
     (d.done + 1 < d.needs) × (o ≢ Cut) × ((o ≡ DiscRead) → writes_content d ≡ false)
@@ -177,6 +191,7 @@ migrate_refuses k user full o =
     ∷ (is_cut o, Stopped)
     ∷ [])
 
+-- The step of migrating a file.
 abbrev pub MigrateStep : State → Holding → Option (List ℕ) → Full → Outcome → Result Full StoreFault → State → Type 0
 MigrateStep s k user full o answer new = Event (migrate_refuses k user full o) full s
     (commits s (record k { places = with_online false (stamp_of k.tree full) k.places })) answer new
@@ -185,14 +200,17 @@ MigrateStep s k user full o answer new = Event (migrate_refuses k user full o) f
 abbrev pub with_mounted : Bool → ReelRow → ReelRow
 with_mounted is r = record r { mounted = is }
 
+-- The step of a mount.
 abbrev pub MountStep : State → ℕ → Result (Unit {0}) StoreFault → State → Type 0
 MountStep s serial answer new =
     Event (first_fault ((lacks s serial, NoTape) ∷ [])) tt s (record s { reels = with_reel serial (with_mounted true) s.reels }) answer new
 
+-- The reel has the open dump.
 abbrev pub is_busy : ℕ → Option OpenDump → Bool
 is_busy serial None = false
 is_busy serial (Some d) = d.serial == serial
 
+-- The step of an unmount.
 abbrev pub UnmountStep : State → ℕ → Result (Unit {0}) StoreFault → State → Type 0
 UnmountStep s serial answer new = Event
     (first_fault ((lacks s serial, NoTape) ∷ (not (is_mounted s serial), NotMounted) ∷ (is_busy serial s.open_dump, TapeBusy) ∷ []))

@@ -13,6 +13,7 @@ use Rattle.g_store_model.specs.CallStep.{Outcome, Plain, CallStep, is_offline, r
 use Rattle.g_store_model.specs.DumpSteps.{DumpStep, MigrateStep, MountStep, OpenStep, Stepped, Going, Completed, UnmountStep}
 use Rattle.g_store_model.specs.Rising.{StartStep}
 
+-- The tree of the state, if the disc represents something.
 abbrev pub tree_in : State → Option Tree
 tree_in s = option_map (λ k. k.tree) s.holding
 
@@ -75,9 +76,11 @@ pub record EventsKeepTree : Type 0 where
   pub starting : (s : State) (k : Holding) (o : Outcome) (answer : Result (Option ℕ) StoreFault) (new : State)
       → s.holding ≡ Some k → StartStep s o answer new → tree_in new ≡ Some k.tree
 
+-- The tree of the open dump.
 abbrev pub opened_tree : State → Option Tree
 opened_tree s = option_map (λ d. d.tree) s.open_dump
 
+-- The tree of the last completed dump.
 abbrev pub dumped_tree : State → Option Tree
 dumped_tree s = option_map (λ d. d.tree) s.dumped
 

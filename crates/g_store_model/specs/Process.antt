@@ -22,7 +22,7 @@ process_needs k = 2 + len k.tree.users + len k.tree.files + sum_by (λ e. blocks
 abbrev pub process_content : Holding → ℕ
 process_content k = 1 + len k.tree.users + len k.tree.files
 
--- The refusals before the reels are read; below, those after.
+-- The refusals of PROCESS before the reels are read, in their order.
 abbrev pub process_refuses : State → Holding → ℕ → Option StoreFault
 process_refuses s k serial = first_fault (
     (lacks s serial, NoTape)
@@ -31,12 +31,14 @@ process_refuses s k serial = first_fault (
     ∷ (k.last == 2 ^ 62 - 1, CountersSpent)
     ∷ [])
 
+-- The refusals of PROCESS after the reels were read, in their order.
 abbrev pub process_refuses_late : State → Holding → ℕ → Option StoreFault
 process_refuses_late s k serial = first_fault (
     (nat_lt 0 (end_of s serial), ReelNotFree serial)
     ∷ (nat_lt (capacity_in (reel_at serial s.reels)) (process_needs k), TapeFull (process_needs k) (capacity_in (reel_at serial s.reels)))
     ∷ [])
 
+-- The new dump on its reel.
 abbrev pub process_dump : Holding → Shelved
 process_dump k = record { place = 0; ends = process_needs k; number = k.last + 1 }
 
@@ -66,6 +68,7 @@ pub record IsProcessed (serial : ℕ) (k : Holding) (d : Dumped) : Type 0 where
 pub record HasCopiesOf (d : Dumped) (places : FinMap nat_cmp Place) : Type 0 where
   pub same : (stamp : ℕ) → (place_at places stamp).copy ≡ (place_at d.places stamp).copy
 
+-- The holding with the intent of the new dump.
 abbrev pub with_intent : State → ℕ → Holding → Holding
 with_intent s serial k = record k { intent = Some (record { serial = serial; place = 0; number = k.last + 1 }) }
 
@@ -73,6 +76,7 @@ with_intent s serial k = record k { intent = Some (record { serial = serial; pla
 abbrev pub released_before : ℕ → ℕ → ReelRow → ReelRow
 released_before serial until r = if nat_lt r.serial until && not (r.serial == serial) && not (has_none r) then record r { dumps = [] } else r
 
+-- The state after the new dump was completed on its reel.
 abbrev pub marked_by : State → Holding → ℕ → Dumped → State
 marked_by s k serial d = record s { reels = with_reel serial (λ r. with_used true (with_shelved (process_dump k) r)) s.reels; dumped = Some d }
 
@@ -105,6 +109,7 @@ pub data ProcessLeft (s : State) (k : Holding) (serial : ℕ) (new : State) : Ty
   Moved : (places : FinMap nat_cmp Place) → (d : Dumped) → IsProcessed serial k d → AreMoved serial k places → HasCopiesOf d places
       → (until : ℕ) → (cut : Option (ℕ × Bool)) → is_released s serial until cut → new ≡ down (with_cut cut (moved s k serial places d until)) → ProcessLeft s k serial new
 
+-- The state after PROCESS succeeded: the copies are on the disc, and every other reel that had dumps is released.
 pub record ProcessDone (s : State) (k : Holding) (serial : ℕ) (new : State) : Type 0 where
   pub places : FinMap nat_cmp Place
   pub dumped : Dumped
@@ -115,6 +120,7 @@ pub record ProcessDone (s : State) (k : Holding) (serial : ℕ) (new : State) : 
   pub all : first_reel (λ r. nat_le until r.serial) s.reels ≡ None
   pub is : new ≡ moved s k serial places dumped until
 
+-- The answer and the state for each outcome, if PROCESS isn't refused.
 abbrev pub Processes : State → Holding → ℕ → Outcome → Result ℕ StoreFault → State → Type 0
 Processes s k serial Plain answer new = (answer ≡ Ok (k.last + 1)) × ProcessDone s k serial new
 Processes s k serial DiscRead answer new = (answer ≡ Err DiscReadFault) × LeftByRead s k serial new

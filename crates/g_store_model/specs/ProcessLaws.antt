@@ -18,6 +18,7 @@ pub record IsThatReel (r q : ReelRow) : Type 0 where
   pub capacity : q.capacity ≡ r.capacity
   pub mounted : q.mounted ≡ r.mounted
 
+-- The reel is the same one, and has the same dumps.
 pub record KeepsDumps (r q : ReelRow) : Type 0 where
   pub reel : IsThatReel r q
   pub dumps : q.dumps ≡ r.dumps
@@ -28,6 +29,7 @@ pub record IsWrittenOrReleased (on : ℕ) (d : Shelved) (r q : ReelRow) : Type 0
   pub reel : IsThatReel r q
   pub dumps : (q.dumps ≡ r.dumps) ⊎ (((r.serial ≡ on) × (q.dumps ≡ r.dumps ++ d ∷ [])) ⊎ ((r.serial ≢ on) × (q.dumps ≡ [])))
 
+-- The dumps of a reel, if there is one.
 abbrev pub dumps_of : Option ReelRow → Option (List Shelved)
 dumps_of row = option_map (λ r. r.dumps) row
 
@@ -60,6 +62,7 @@ AllOnReel serial k None = ⊥
 AllOnReel serial k (Some new) = (full : Full) (row : FileRow) → get k.tree.files full ≡ Some row → 0 < length row.bytes
     → (copy : TapeCopy) × ((place_at new.places row.stamp).copy ≡ Some copy) × (copy.serial ≡ serial)
 
+-- The laws of PROCESS.
 pub record ProcessKeeps : Type 0 where
   -- the tree is unchanged, for any outcome of the devices
   pub tree : (s : State) (k : Holding) (serial : ℕ) (o : Outcome) (answer : Result ℕ StoreFault) (new : State)

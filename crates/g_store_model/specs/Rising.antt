@@ -12,6 +12,7 @@ use Rattle.g_store_model.specs.State.{State, Holding, Dumped, Shelved, ReelRow, 
 use Rattle.g_store_model.specs.CallStep.{Outcome, DiscRead, is_disc_read, is_tape_read, is_cut}
 use Rattle.g_store_model.specs.DumpSteps.{Event}
 
+-- A check with the fault for this serial, which holds if there is one.
 abbrev pub fault_from : (ℕ → StoreFault) → Option ℕ → Bool × StoreFault
 fault_from fault None = (false, Stopped)
 fault_from fault (Some serial) = (true, fault serial)
@@ -31,14 +32,16 @@ abbrev pub unmounted_reel : State → Option Intent → Option ℕ
 unmounted_reel s None = None
 unmounted_reel s (Some i) = if is_mounted s i.serial then None else Some i.serial
 
--- The dump is the one that the intent names; below, the intent's reel has it complete.
+-- The dump is the one that the intent names.
 abbrev pub is_intended : Intent → Shelved → Bool
 is_intended i d = (d.place == i.place) && (d.number == i.number)
 
+-- The reel has the dump that the intent names.
 abbrev pub stands_on : Intent → Option ReelRow → Bool
 stands_on i None = false
 stands_on i (Some r) = is_some (find (is_intended i) r.dumps)
 
+-- The dump that the disc's intent names is completed.
 abbrev pub is_completed : State → Option Intent → Bool
 is_completed s None = false
 is_completed s (Some i) = stands_on i (reel_at i.serial s.reels)
@@ -58,9 +61,11 @@ adopted (Some d) k = record k {
   intent = None;
 }
 
+-- The dump that START adopts, if it adopts one.
 abbrev pub dump_adopted : State → Holding → Option Dumped
 dump_adopted s k = if is_completed s k.intent then s.dumped else None
 
+-- Why START is refused, in the order of the checks.
 abbrev pub start_refuses : State → Holding → Outcome → Option StoreFault
 start_refuses s k o = first_fault (
     fault_from MountFirst (unmounted_reel s k.intent)
@@ -76,9 +81,11 @@ Starts s None o answer new = (answer ≡ Err NoFilestore) × (new ≡ s)
 Starts s (Some k) o answer new =
     Event (start_refuses s k o) (option_map (λ d. d.number) (dump_adopted s k)) s (coming_up s (adopted (dump_adopted s k) k)) answer new
 
+-- The step of START.
 abbrev pub StartStep : State → Outcome → Result (Option ℕ) StoreFault → State → Type 0
 StartStep s o answer new = Starts s s.holding o answer new
 
+-- The reel has no completed dump.
 abbrev pub has_none : ReelRow → Bool
 has_none r = is_none_of r.dumps
   where
@@ -86,6 +93,7 @@ has_none r = is_none_of r.dumps
     is_none_of [] = true
     is_none_of (d ∷ ds) = false
 
+-- What the disc holds after the dump was restored.
 abbrev pub restored : Dumped → Holding
 restored d = record { tree = d.tree; places = d.places; last = d.number; intent = None; kept = empty }
 
@@ -96,7 +104,7 @@ IsLost (Err (LostDirectory user)) = Unit {0}
 IsLost (Err (LostCopy full serial)) = Unit {0}
 IsLost answer = ⊥
 
--- The refusals before the dump of greatest number is read; below, those after.
+-- The refusals of RESTORE before the dump of greatest number is read, in their order.
 abbrev pub restore_early : State → Outcome → Option StoreFault
 restore_early s o = first_fault (
     fault_from RackNotMounted (first_reel (λ r. not r.mounted) s.reels)
@@ -104,6 +112,7 @@ restore_early s o = first_fault (
     ∷ (list_all has_none s.reels, NoDump)
     ∷ [])
 
+-- The refusals of RESTORE after that dump was read.
 abbrev pub restore_late : Outcome → Option StoreFault
 restore_late o = first_fault ((is_disc_read o, DiscReadFault) ∷ (is_cut o, Stopped) ∷ [])
 

@@ -23,6 +23,7 @@ pub record HasItsDump (s : State) (k : Holding) : Type 0 where
   pub named : k.intent ≡ Some intent
   pub stands : stands_on intent (reel_at intent.serial s.reels) ≡ true
 
+-- The laws of START.
 pub record StartsAdopt : Type 0 where
   -- a dump is adopted only if it is complete on the intent's reel
   pub only : (s : State) (k : Holding) (o : Outcome) (number : ℕ) (new : State) → s.holding ≡ Some k → StartStep s o (Ok (Some number)) new → HasItsDump s k

@@ -58,7 +58,7 @@ rec_is (c ∷ items) n have = by (c.0 == n) (c.1.number == n) (ap (λ (k : ℕ).
     by true false same rest = let no : ⊥ = cc in absurd no
     by false true same rest = let no : ⊥ = cc in absurd no
 
--- A RECORD PUT among others, and one taken out
+-- Adding a record to others, and removing one.
 pub with_numbers : (items : Records) (n : ℕ) (r : FileRec) → n ≡ r.number → HaveNumbers items → HaveNumbers (with_item n r items)
 with_numbers items n r same have =
     both (filter (λ c. nat_lt c.0 n) items) ((n, r) ∷ filter (λ c. nat_lt n c.0) items) (kept (λ k. nat_lt k n) items have) (same, kept (λ k. nat_lt n k) items have)

@@ -110,7 +110,7 @@ module _ {A : Type 0} where
         subst (AreCounts (slice_set counts g v)) (sym rest) (counts_change counts (drop 32 places) m g old new v (omega (arith, low, behind)) (omega (arith, high, behind)) (omega (arith, within)) there are.1 sum),
       )
 
-  -- ALL PLACES ARE TAKEN where there are as many items
+  -- All places are taken if there are as many items.
   taken_first : (place : Option A) → 1 ≤ weight place → is_some place ≡ true
   taken_first None some = let no : ⊥ = omega (arith, some) in absurd no
   taken_first (Some item) some = refl

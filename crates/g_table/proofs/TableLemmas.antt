@@ -106,7 +106,7 @@ module _ {A : Type 0} where
   all_high n [] greater = refl
   all_high n (c ∷ items) greater = high_in n c items greater.0 ∙ ap (λ (l : Items A). c ∷ l) (all_high n items greater.1)
 
-  -- AN ITEM PUT among others
+  -- Adding an item to others.
   pub in_front : (c : ℕ × A) (items : Items A) → ItemsAbove c.0 items → with_item c.0 c.1 items ≡ c ∷ items
   in_front c items greater = ap (λ (l : Items A). l ++ c ∷ highs c.0 items) (no_low c.0 items greater) ∙ ap (λ (l : Items A). c ∷ l) (all_high c.0 items greater)
 

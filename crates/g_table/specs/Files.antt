@@ -15,5 +15,6 @@ rec_at files number = find (λ r. r.number == number) files
 abbrev pub with_rec : FileRec → List FileRec → List FileRec
 with_rec r files = filter (λ s. nat_lt s.number r.number) files ++ r ∷ filter (λ s. nat_lt r.number s.number) files
 
+-- The records without the one with this number.
 abbrev pub without_rec : ℕ → List FileRec → List FileRec
 without_rec number files = filter (λ r. not (r.number == number)) files

@@ -23,6 +23,7 @@ module _ {A : Type 0} where
   abbrev pub with_item : ℕ → A → List (ℕ × A) → List (ℕ × A)
   with_item number item items = filter (λ c. nat_lt c.0 number) items ++ (number, item) ∷ filter (λ c. nat_lt number c.0) items
 
+  -- The items without the one with this number.
   abbrev pub without_item : ℕ → List (ℕ × A) → List (ℕ × A)
   without_item number items = filter (λ c. not (c.0 == number)) items
 
@@ -31,6 +32,7 @@ module _ {A : Type 0} where
   standing None = None
   standing (Some place) = place
 
+  -- The item at the place of a number, if there is one.
   abbrev pub standing_at : List (Option A) → ℕ → Option A
   standing_at places number = standing (slice_get places number)
 

@@ -1,4 +1,4 @@
--- The calls of a rack in memory that went through, or whose write failed, by what was done to the reel.
+-- The calls of a rack in memory that succeeded, or whose write failed, by the change of the reel.
 -- serves: read, secure, write, crates above
 use Rattle.std.proofs.Common.{◌≡◌, ℕ, ◌<◌, ◌≤◌, List, true, false, Option, Some, None, is_some, Ok, Err, Contains, length, get_or, slice_get, subst, sym, ap, ◌∙◌, refl, arith, eqb}
 use Rattle.std.specs.Option.{ForSome}
@@ -88,7 +88,7 @@ writes-torn s k i block old fuse faults was now place is allowed value burns mor
       others = refl;
     }
 
--- SECURING A REEL that is there
+-- Securing an existing reel.
 pub secures_done : (s i : ℕ) (old : Memory) → IsPlaceOf s old.rack.reels i → (Contains old.insecure s → ⊥) → MemorySecures s old (Ok tt) old
 secures_done s i old place sound = record {
   securing = (found s i old.rack.reels place, refl);

@@ -39,7 +39,7 @@ pub still-free : (refuses : Option Reel → Option TapeFault) (reels : List Reel
 still-free refuses reels i here was answer within one two asked free =
     ap (λ (r : Reel). refuses (Some r)) (sym (same-place reels i here was within one two)) ∙ sym asked ∙ free
 
--- the reel whose place was found in the rack's list is mounted or unmounted there
+-- The reel is mounted or unmounted at its place in the rack's list.
 module _ (is : Bool) (s i : ℕ) (old : Rack) (all : List Reel) (was now : Reel) (same : all ≡ old.reels) (found : IsPlaceOf s all i)
     (stood : was ≡ get_or old.reels i was) (value : now ≡ with_mounted is was) where
   place : IsPlaceOf s old.reels i

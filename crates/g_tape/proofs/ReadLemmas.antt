@@ -193,7 +193,7 @@ counted-in k (Some r) free is =
     let kept = is r refl in
     counted-once k r.times_read r.capacity (omega (arith, allowed-read k r free, kept.within)) kept.counted
 
--- a good read of block k
+-- A successful read of block k.
 pub has_read : (s k : ℕ) (old new : Rack) (into : List ℕ) → AreReels old.reels → Reading s k old (Ok tt) into new → HasRead s k old new
 has_read s k old new into are (free, block, is) =
     let found = reel-with_reel s (read_at k) (λ r. refl) old.reels in

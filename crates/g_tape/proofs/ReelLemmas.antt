@@ -28,7 +28,7 @@ allowed-write k r is =
     let tests = passes r.mounted (nat_lt r.len k) (nat_lt k r.capacity) is in
     (ltb-false r.len k tests.0, ltb-true k r.capacity tests.1)
 
--- a reel with another length, other blocks and other counts, where these agree
+-- A reel with another length, other blocks and other counts, if these agree.
 reel_made : (len : ℕ) (mounted : Bool) (blocks : Option (List (List ℕ))) (times_read : Option (List ℕ)) (r : Reel) → IsReel r → len ≤ r.capacity
     → ForSome blocks (λ bs. length bs ≡ len) → ForSome blocks (λ bs. All IsBlock bs) → ForSome times_read (λ ts. length ts ≡ r.capacity)
     → IsReel (record r { len = len; mounted = mounted; blocks = blocks; times_read = times_read })

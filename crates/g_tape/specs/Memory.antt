@@ -21,9 +21,11 @@ pub record Memory : Type 0 where
   pub reads : ℕ
   pub insecure : List ℕ
 
+-- The rack of a rack in memory.
 abbrev pub rack_of : MemoryTapes → Rack
 rack_of m = record { reels = m.reels.items; read_faults = m.read_faults; write_faults = m.write_faults; fuse = m.fuse; arms = m.arms }
 
+-- A rack in memory, as contracts see it.
 abbrev pub memory_of : MemoryTapes → Memory
 memory_of m = record { rack = rack_of m; leave = m.leave; fail = m.fail.items; reads = m.reads; insecure = m.insecure.items }
 

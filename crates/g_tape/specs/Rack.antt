@@ -41,6 +41,7 @@ with_reel s f (r ∷ rs) = if s == r.serial then f r ∷ rs else r ∷ with_reel
 abbrev pub changed : ℕ → (Reel → Reel) → Rack → Rack
 changed s f r = record r { reels = with_reel s f r.reels }
 
+-- The rack has the reel, and the reel is mounted.
 abbrev pub is_mounted : Option Reel → Bool
 is_mounted None = false
 is_mounted (Some r) = r.mounted
@@ -50,19 +51,22 @@ abbrev pub told_of : (Reel → ℕ) → Option Reel → Result ℕ TapeFault
 told_of number None = Err NoTape
 told_of number (Some r) = Ok (number r)
 
--- The refusals, in the order of their checks: of a mount, of an unmount, of a read and of a write of block k.
+-- Why a mount is refused, if it is. Refusals are in the order of their checks.
 abbrev pub refuses_mount : Option Reel → Option TapeFault
 refuses_mount None = Some NoTape
 refuses_mount (Some r) = None
 
+-- Why an unmount is refused, if it is.
 abbrev pub refuses_unmount : Option Reel → Option TapeFault
 refuses_unmount None = Some NoTape
 refuses_unmount (Some r) = if r.mounted then None else Some NotMounted
 
+-- Why a read of block k is refused, if it is.
 abbrev pub refuses_read : ℕ → Option Reel → Option TapeFault
 refuses_read k None = Some NoTape
 refuses_read k (Some r) = if r.mounted then (if nat_lt k r.len then None else Some End) else Some NotMounted
 
+-- Why a write of block k is refused, if it is.
 abbrev pub refuses_write : ℕ → Option Reel → Option TapeFault
 refuses_write k None = Some NoTape
 refuses_write k (Some r) = if r.mounted then (if nat_lt r.len k || not (nat_lt k r.capacity) then Some End else None) else Some NotMounted

@@ -19,10 +19,12 @@ abbrev pub times_in : Option Reel → Option (List ℕ)
 times_in None = None
 times_in (Some r) = r.times_read
 
+-- The read count of block k; 0 if read counts aren't exposed.
 abbrev pub count_at : ℕ → Option (List ℕ) → ℕ
 count_at k None = 0
 count_at k (Some times) = slice_index times k
 
+-- The blocks of the reel with this serial, if there is one and it exposes them.
 abbrev pub blocks_of : ℕ → Rack → Option (List (List ℕ))
 blocks_of s rack = blocks_in (reel s rack.reels)
 

@@ -45,6 +45,7 @@ pub record IsLabel (label : ℕ × ℕ) : Type 0 where
   pub sized : 2 ≤ label.1
   pub sized_most : label.1 ≤ 65_536
 
+-- The reel, mounted or not.
 abbrev pub with_mounted : Bool → Reel → Reel
 with_mounted is r = record r { mounted = is }
 
@@ -66,6 +67,7 @@ pub data Remains : Type 0 where
   Shortened : Remains
   Torn : List ℕ → Remains
 
+-- The reel after a failed write of block k that left these remains.
 abbrev pub left_by : Remains → ℕ → Reel → Reel
 left_by Unchanged k r = r
 left_by Shortened k r = cut_at k r

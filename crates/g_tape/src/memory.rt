@@ -1,4 +1,4 @@
-//! A rack of reels in memory, whose failures are set beforehand.
+//! A rack of reels in memory, whose failures are set in advance.
 ghost use Rattle.std.specs.Prelude.{◌≡◌, ◌≢◌, ◌≤◌, All, AllPairs, IfOk, Some, map, true, false, vec_len};
 ghost use Rattle.g_base.specs.Fuse.{BurnsByFailures, armed_with};
 ghost use Rattle.g_tape.specs.Reel.{IsLabel};

@@ -1,4 +1,4 @@
-//! One reel in memory: a store with memory for as many blocks as its capacity, of which the first are on the reel.
+//! One reel in memory: reserved memory for as many blocks as its capacity, with the reel's blocks at its front.
 ghost use Rattle.std.specs.Prelude.{◌≡◌, ◌<◌, ◌≤◌, [], ◌∷◌, ◌++◌, IfOk, None, Some, map, slice_get, take, vec_capacity, vec_len};
 ghost use Rattle.std.specs.Option.{ForSome};
 ghost use Rattle.g_tape.specs.Rack.{refuses_read, refuses_write};

@@ -150,7 +150,7 @@ placed (e ∷ es) user modes (suc k) at =
     let later = placed es user modes k (fits_later e es user k at) in
     grind (arith, nat_tests)
 
--- numbers rise where each is below the next
+-- Numbers are strictly increasing if each is less than the next.
 below_first : (x : ℕ) (e : ℕ × ℕ) (es : List (ℕ × ℕ)) → x < e.0 → list_all (λ pair. nat_lt e.0 pair.0) es ≡ true → list_all (λ pair. nat_lt x pair.0) es ≡ true
 below_first x e [] h b = refl
 below_first x e (f ∷ es) h b = let more = below_first x e es h in grind (arith, nat_tests)
@@ -230,7 +230,7 @@ refill_same es ws e =
     ap (λ (n : ℕ). take (length es) (ws ++ drop n es)) e ∙ ap (λ (r : List (ℕ × ℕ)). take (length es) (ws ++ r)) (drop-length es)
     ∙ ap (λ (n : ℕ). take n (ws ++ [])) (sym e) ∙ ap (take (length ws)) (append-nil ws) ∙ take-length ws
 
--- a pair written over one that is there
+-- A pair that replaces an existing one.
 pub written_there : (es ws : List (ℕ × ℕ)) (user modes k : ℕ) (d : ℕ × ℕ) → is_sorted nat_cmp es ≡ true → StandsAt user es k → ws ≡ es → false ≡ (modes == 0)
     → refill (length es) es (set ws k ((get_or ws k d).0, modes)) ≡ with_other es user modes
 written_there es ws user modes k d s at e some =

@@ -3,6 +3,7 @@ use Rattle.std.specs.Prelude.{ℕ, Bool, not, ◌==◌, bit_and}
 use Rattle.g_trap.specs.declared.mode_set.Mode.{Mode}
 use Rattle.g_trap.specs.declared.mode_set.Mode.TheVariants.{Read, Write, Append, Execute, Erase}
 
+-- The bit of a mode.
 abbrev pub mode_bit : Mode → ℕ
 mode_bit Read = 16
 mode_bit Write = 8

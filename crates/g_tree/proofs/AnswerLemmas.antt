@@ -48,7 +48,7 @@ module _ (users : List UserRec) (files : List FileRec) (bytes : FileRec → List
       ∙ ap (named who path) (newest_there ∙ ap (λ f. newest_of users f files) is ∙ sym (newest_is users files bytes next who path rules))
       ∙ ap (λ o. named who path (unwrap_or o (newest tree who path))) (sym none)
 
-  -- where there is no user of the name
+  -- If there is no user of that name.
   pub nobodys_number : (full : Full) → IsRecords users files → full.user ≡ [] → number_of users files full ≡ None
   nobodys_number full rules none = ap (option_map (λ r. r.number)) (nobodys users files full rules none)
 

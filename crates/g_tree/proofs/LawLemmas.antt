@@ -28,7 +28,7 @@ use Rattle.g_tree.proofs.PlaceLemmas.{no_file, place_for, fits_none}
 use Rattle.g_tree.proofs.ChangeLemmas.{other_number, removed_list, removed_tree}
 use Rattle.g_tree.proofs.PutLemmas.{with_new, with_other, tree_new, tree_other, named_found, number_found}
 
--- the tree with a file put, and with one taken out
+-- The tree with a file added, and with one removed.
 
 module _ (users : List UserRec) (files : List FileRec) (bytes : FileRec → List ℕ) (next : ℕ) (is : IsRecords users files) where
   abbrev tree : Tree

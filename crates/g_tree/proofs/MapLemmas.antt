@@ -15,7 +15,7 @@ use Rattle.std.proofs.lemmas.List.Elements.{All-head, All-tail, All-contains}
 use Rattle.g_plain.proofs.Found.{tied_are, apart_is, same_some}
 use Rattle.g_tree.proofs.ListLemmas.{pairs_first, pairs_rest, contains_first, contains_more, contains_cases, greatest}
 
--- the first of two that is there
+-- The first of two options that isn't None.
 abbrev pub or_else : {X : Type 0} → Option X → Option X → Option X
 or_else None p = p
 or_else (Some x) p = Some x

@@ -29,7 +29,7 @@ module _ (users : List UserRec) (files : List FileRec) (is : IsRecords users fil
   pub owner_used : (r : FileRec) → Contains files r → r.owner < length users
   owner_used r there = All-contains (λ s. s.owner < length users) files r is.among_files.owners there
 
-  -- The same for a file that was found by its number, among the users as they are returned.
+  -- The same for a file that was found by its number, among the users that a call returns.
   pub owner_within : (us : List UserRec) (number : ℕ) (r : FileRec) → us ≡ users → get (by_number files) number ≡ Some r → r.owner < length us
   owner_within us number r same got = subst (λ xs. r.owner < length xs) (sym same) (owner_used r (numbered_there number r got).0)
 

@@ -29,7 +29,7 @@ pub map_same_on : {A B : Type 0} (f g : A → B) (xs : List A) → All (λ x. f 
 map_same_on f g [] all = refl
 map_same_on f g (x ∷ xs) all = λ i. All-head (λ y. f y ≡ g y) x xs all i ∷ map_same_on f g xs (All-tail (λ y. f y ≡ g y) x xs all) i
 
--- what records say by the names of users
+-- The parts of the tree that depend on users' names.
 
 abbrev names : List UserRec → List (List ℕ)
 names users = map (λ u. u.user) users

@@ -1,4 +1,4 @@
--- Records as they are queried whether a call is refused, and what they grant.
+-- Queries on records about whether a call is refused, and what the records grant.
 use Rattle.std.specs.Prelude.{◌≡◌, ℕ, List, Some, replicate}
 use Rattle.g_entry.specs.declared.file_rec.FileRec.{FileRec}
 use Rattle.g_entry.specs.declared.user_rec.UserRec.{UserRec}

@@ -35,10 +35,11 @@ full_of users r = record { user = name_of users r.owner; local = r.local; genera
 abbrev pub traps_named : List UserRec → ℕ → TrapList → FinMap text_cmp ℕ
 traps_named users owner traps = from_entries ((name_of users owner, traps.owner) ∷ map (λ pair. (name_of users pair.0, pair.1)) traps.others)
 
--- The row of a user; below, the row of a file with these bytes.
+-- The row of a user.
 abbrev pub user_row_of : List UserRec → UserRec → UserRow
 user_row_of users u = record { superior = name_of users u.superior; space = u.space; time = u.time; money = u.money }
 
+-- The row of a file, with these bytes.
 abbrev pub file_row_of : List UserRec → (FileRec → List ℕ) → FileRec → FileRow
 file_row_of users bytes r = record { traps = traps_named users r.owner r.traps; bytes = bytes r; stamp = r.stamp }
 
@@ -58,20 +59,23 @@ HasLengths files bytes = (r : FileRec) → Contains files r → length (bytes r)
 abbrev pub ForTree : List UserRec → List FileRec → (Tree → Type 0) → Type 0
 ForTree users files P = (bytes : FileRec → List ℕ) (next : ℕ) → P (tree_of users files bytes next)
 
--- The records of users by name; below, those of files by full name, and by number.
+-- The records of users by name.
 abbrev pub users_by_name : List UserRec → FinMap text_cmp UserRec
 users_by_name users = from_entries (map (λ u. (u.user, u)) users)
 
+-- The records of files by full name.
 abbrev pub by_name : List UserRec → List FileRec → FinMap full_cmp FileRec
 by_name users files = from_entries (map (λ r. (full_of users r, r)) files)
 
+-- The records of files by number.
 abbrev pub by_number : List FileRec → FinMap nat_cmp FileRec
 by_number files = from_entries (map (λ r. (r.number, r)) files)
 
--- The number of the user with this name; below, of the file with this full name.
+-- The number of the user with this name.
 abbrev pub user_number : List UserRec → List ℕ → Option ℕ
 user_number users name = option_map (λ u. u.number) (get (users_by_name users) name)
 
+-- The number of the file with this full name.
 abbrev pub number_of : List UserRec → List FileRec → Full → Option ℕ
 number_of users files full = option_map (λ r. r.number) (get (by_name users files) full)
 

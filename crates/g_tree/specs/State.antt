@@ -36,6 +36,7 @@ versions_of full = record full { generation = 1 }
 abbrev pub number_at : Option NameEntry → Option ℕ
 number_at entry = elim entry [ Some e ↦ e.number | None ↦ None ]
 
+-- The number of the file with this full name, according to the index.
 abbrev pub number_in : FinMap full_cmp NameEntry → Full → Option ℕ
 number_in entries full = number_at (get entries full)
 
@@ -43,6 +44,7 @@ number_in entries full = number_at (get entries full)
 abbrev pub newest_at : Option NameEntry → ℕ
 newest_at entry = elim entry [ Some e ↦ e.newest | None ↦ 0 ]
 
+-- The greatest generation of the versions of this file, according to the index, or 0.
 abbrev pub newest_in : FinMap full_cmp NameEntry → Full → ℕ
 newest_in entries full = newest_at (get entries (versions_of full))
 
@@ -54,6 +56,7 @@ later generation = if nat_lt 1 generation then generation else 0
 abbrev pub top_at : Option NameEntry → Option ℕ
 top_at entry = elim entry [ Some e ↦ e.top | None ↦ None ]
 
+-- The number of the newest version of this file, according to the index.
 abbrev pub top_in : FinMap full_cmp NameEntry → Full → Option ℕ
 top_in entries full = top_at (get entries (versions_of full))
 
@@ -69,9 +72,11 @@ risen newest top generation number = if nat_lt generation newest then top else S
 abbrev pub lifted : NameEntry → ℕ → ℕ → NameEntry
 lifted entry generation number = if nat_lt generation entry.newest then entry else record entry { newest = generation; top = Some number }
 
+-- The index after a version with this generation and number was added, given the entry of the name; unchanged if there is none.
 abbrev pub raised_at : FinMap full_cmp NameEntry → Full → ℕ → ℕ → Option NameEntry → FinMap full_cmp NameEntry
 raised_at entries full generation number entry = elim entry [ Some e ↦ insert entries full (lifted e generation number) | None ↦ entries ]
 
+-- The index after a version with this generation and number was added under an existing name.
 abbrev pub raised : FinMap full_cmp NameEntry → Full → ℕ → ℕ → FinMap full_cmp NameEntry
 raised entries full generation number = raised_at entries full generation number (get entries full)
 
@@ -79,6 +84,7 @@ raised entries full generation number = raised_at entries full generation number
 abbrev pub settled_at : FinMap full_cmp NameEntry → Full → ℕ → Option ℕ → Option NameEntry → FinMap full_cmp NameEntry
 settled_at entries full generation number entry = elim entry [ Some e ↦ insert entries full (record e { newest = generation; top = number }) | None ↦ entries ]
 
+-- The index after the newest version under an existing name was set.
 abbrev pub settled : FinMap full_cmp NameEntry → Full → ℕ → Option ℕ → FinMap full_cmp NameEntry
 settled entries full generation number = settled_at entries full generation number (get entries full)
 
@@ -87,16 +93,19 @@ settled entries full generation number = settled_at entries full generation numb
 abbrev pub closed_at : FinMap full_cmp NameEntry → Full → Option NameEntry → FinMap full_cmp NameEntry
 closed_at entries full entry = elim entry [ Some e ↦ if nat_lt e.newest 2 then remove entries full else insert entries full (record e { number = None }) | None ↦ entries ]
 
+-- The index after generation 1 of this name was removed.
 abbrev pub closed : FinMap full_cmp NameEntry → Full → FinMap full_cmp NameEntry
 closed entries full = closed_at entries full (get entries full)
 
--- The entry has exactly the generations 1 and 2; below, the index after the second was removed.
+-- The entry has exactly the generations 1 and 2.
 abbrev pub is_first_of_two : NameEntry → Bool
 is_first_of_two entry = (entry.newest == 2) && is_some entry.number
 
+-- The index after generation 2 was removed, given the entry of the name; unchanged unless there are exactly two.
 abbrev pub fallen_at : FinMap full_cmp NameEntry → Full → Option NameEntry → FinMap full_cmp NameEntry
 fallen_at entries full entry = elim entry [ Some e ↦ if is_first_of_two e then insert entries full (record e { newest = 1; top = e.number }) else entries | None ↦ entries ]
 
+-- The index after generation 2 of this name was removed.
 abbrev pub fallen : FinMap full_cmp NameEntry → Full → FinMap full_cmp NameEntry
 fallen entries full = fallen_at entries full (get entries full)
 
@@ -149,6 +158,7 @@ pub record IsKept (users : List UserRec) (files : List FileRec) (entries : FinMa
 abbrev pub first_user : ℕ → List ℕ → UserRec
 first_user number name = record { number = number; user = name; superior = 0; space = 65535; time = 1000000; money = 1000000 }
 
+-- MASTER and MACROS, the first two users.
 abbrev pub first_users : List UserRec
 first_users = first_user 0 (codes "MASTER") ∷ first_user 1 (codes "MACROS") ∷ []
 
@@ -156,6 +166,7 @@ first_users = first_user 0 (codes "MASTER") ∷ first_user 1 (codes "MACROS") �
 abbrev pub with_file : FileRec → List FileRec → List FileRec
 with_file r files = with_rec r files
 
+-- The files without the one with this number.
 abbrev pub without_file : ℕ → List FileRec → List FileRec
 without_file number files = without_rec number files
 

@@ -1,4 +1,4 @@
--- The greatest generation so far, taken on over the files that are left.
+-- The greatest generation so far, combined with those of the remaining files.
 use Rattle.std.proofs.Common.{◌≡◌, fold, max}
 use Rattle.g_plain.specs.PlainTree.{generations}
 use Rattle.g_plain_store.proofs.file_map.newest_in.Given as goal

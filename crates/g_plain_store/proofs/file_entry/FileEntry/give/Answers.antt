@@ -1,4 +1,4 @@
--- Modes that are put in make the traps with them inserted.
+-- Inserting a user's modes gives the traps with them inserted.
 use Rattle.std.proofs.Common.{◌∙◌, ap}
 use Rattle.std.specs.FinMap as map
 use Rattle.g_plain.proofs.Maps.{made_insert}

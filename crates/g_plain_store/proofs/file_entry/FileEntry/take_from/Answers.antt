@@ -1,4 +1,4 @@
--- A user who is taken out makes the traps without that user.
+-- Removing a user gives the traps without that user.
 use Rattle.std.proofs.Common.{◌∙◌, ap}
 use Rattle.std.specs.FinMap as map
 use Rattle.g_plain.proofs.Maps.{made_remove}

@@ -1,4 +1,4 @@
--- A placeholder makes room under the new name, and leaves no trace.
+-- A placeholder reserves memory for the new name and is then replaced.
 use Rattle.std.proofs.Common.{◌≡◌, ◌∙◌, ap, is_some, Some}
 use Rattle.std.specs.FinMap as map
 use Rattle.g_plain_store.proofs.Rows.{moved, there_still, new_there, row_is, absent_is}

@@ -1,4 +1,4 @@
--- Where there is an entry, to put one in takes no memory.
+-- Replacing an existing entry allocates nothing.
 use Rattle.std.proofs.Common.{◌∙◌, ap, sym}
 use Rattle.std.specs.FinMap as map
 use Rattle.g_name.proofs.Order.{full_total}

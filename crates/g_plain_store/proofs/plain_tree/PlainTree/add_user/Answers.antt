@@ -1,4 +1,4 @@
--- A row that is put in makes the users with it inserted.
+-- Inserting a row gives the users with it inserted.
 use Rattle.std.proofs.Common.{◌∙◌, ap}
 use Rattle.std.specs.FinMap as map
 use Rattle.g_plain.proofs.Maps.{made_insert}

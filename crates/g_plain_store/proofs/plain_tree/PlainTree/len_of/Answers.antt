@@ -1,4 +1,4 @@
--- There are no bytes where there is no file.
+-- A file that doesn't exist has no bytes.
 use Rattle.std.proofs.Common.{ap, ◌∙◌}
 use Rattle.std.specs.FinMap as map
 use Rattle.g_plain.proofs.TreeLemmas.{length-no_row}
