@@ -13,7 +13,7 @@ use Rattle.g_run_model.specs.Devices.{AreReadAs, Devices, StandFor}
 abbrev pub NotStateless : Type 0
 NotStateless = (d : Devices) → AllTold d.disc.held (told_reels d.rack) → Belong d.disc.held d.rack → ((s : State) → s.up ≡ false → StandFor d s → ⊥) → ⊥
 
--- They represent no more than one.
+-- Devices represent at most one state.
 abbrev pub StatesAreOne : Type 0
 StatesAreOne = (d : Devices) (s t : State) → StandFor d s → StandFor d t → s ≡ t
 

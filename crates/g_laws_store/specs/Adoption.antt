@@ -29,7 +29,7 @@ pub record OwnsStand (d : OpenDump) (k : Holding) : Type 0 where
   pub noted : OwnsNoted d k
   pub older : (stamp : ℕ) → k.tree.next ≤ stamp → (get d.own stamp ≡ None) × (get d.waiting stamp ≡ None)
 
--- This holds in a state with an open dump.
+-- The state has an open dump, for which `OwnsStand` holds.
 pub record StandIn (s : State) : Type 0 where
   pub held : Holding
   pub holds : s.holding ≡ Some held

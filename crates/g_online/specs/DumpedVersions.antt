@@ -61,7 +61,7 @@ abbrev pub blocks_of : List FileRec → ℕ
 blocks_of [] = 0
 blocks_of (r ∷ rs) = blocks_for r.len + blocks_of rs
 
--- What is noted for each of them.
+-- What is noted for each version that waits.
 abbrev pub pinned_of : ℕ → ℕ → List (ℕ × DiscCopy) → FileRec → Pinned
 pinned_of serial at online r = record { stamp = r.stamp; len = r.len; copy = record { serial = serial; first = at }; blocks = copy_places (copy_at online r.number) }
 

@@ -55,7 +55,7 @@ pub record StoppedAdopting (last : ℕ) (copies : List (ℕ × TapeCopy)) (old n
   pub live : new.live ≡ false
   pub holds : ForSome new.disc.held (λ blocks. Holds blocks old.contents ⊎ Holds blocks (adopted last copies old.contents))
 
--- How it is answered: it is completed, or stopped at one of its writes.
+-- How the noting of prepared copies is answered: it is completed, or stopped at one of its writes.
 pub record IsAdopting (last : ℕ) (copies : List (ℕ × TapeCopy)) (old new : OnlineFacts) (result : Result (Unit {0}) OnlineFault) : Type 0 where
   pub ok : OnOk result (HasAdopted last copies old new)
   pub stopped : OnErr result (StoppedAdopting last copies old new)

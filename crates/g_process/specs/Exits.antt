@@ -53,8 +53,9 @@ IsReadBy serial r q = (r.serial ≡ serial) ⊎ (unread q ≡ unread r)
 abbrev pub IsBesideDump : ℕ → Reel → Reel → Type 0
 IsBesideDump serial r q = ((r.serial ≡ serial) × (0 < q.len)) ⊎ ((r.serial ≢ serial) × (unread q ≡ unread r))
 
--- The releases reached the serial `until`. Of the reels below it, those that had a completed dump now have a block, unless
--- theirs is the interrupted release. All others are unchanged except for their record of reads.
+-- The releases reached the serial `until`. The reel of the new dump isn't empty. Of the other reels below `until`, those
+-- that had a completed dump now have a block, unless theirs is the interrupted release. All others are unchanged except for
+-- their record of reads.
 abbrev pub IsClearedBy : ℕ → ℕ → Option ℕ → Rack → Reel → Reel → Type 0
 IsClearedBy serial until cut old r q =
     ((r.serial ≡ serial) × (0 < q.len))

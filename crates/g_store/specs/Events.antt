@@ -43,8 +43,8 @@ WroteBy count old (Ok reply) new = WroteCommits (count reply) old new
 WroteBy count old (Err Stopped) new = Unit {0}
 WroteBy count old (Err fault) new = WroteCommits 0 old new
 
--- How an event is answered. The clauses on its step and on belonging assume devices that expose their contents and belong
--- together; the others always hold.
+-- How an event is answered. The clauses on its step, on exposed contents and on belonging together assume that the devices
+-- satisfy this before the event; the others always hold.
 pub record AnswersEvent {A : Type 0} (by : State → Holding → Outcome → Result A StoreFault → State → Type 0) (count : A → ℕ) (old : StoreFacts) (answer : Result A StoreFault) (new : StoreFacts) : Type 0 where
   pub step : Told old → Belongs old → (s : State) → StandsForState old s → StepsBy by s old answer new
   pub wrote : WroteBy count old answer new

@@ -45,7 +45,7 @@ pub record Makes {A : Type 0} (given : Type 0) (by : State → Outcome → Resul
       → (u : State) × StandsForState new u × by s Plain (Ok reply) u
   pub belongs : AllTold disc.held (told_reels rack) → given → Belongs new
 
--- A fault counter of these devices rose.
+-- The fault counter that the outcome concerns rose. Without a failure nothing is required.
 abbrev pub Risen : Outcome → DiscState → Rack → DiscState → Rack → Type 0
 Risen Plain disc rack disc' rack' = Unit {0}
 Risen DiscRead disc rack disc' rack' = Rose disc.read_faults disc'.read_faults

@@ -69,7 +69,7 @@ has_dump (Down d) = false
 abbrev pub some_job_steps : Seen → Bool
 some_job_steps seen = not (has_none (filter (may_step (devices_in seen.system).rack) seen.crew.jobs))
 
--- If `less` is true the part leaves less to do; it never leaves more.
+-- Unless it fails, a part never leaves more to do, and leaves less if `less` is true.
 abbrev pub Falls : Bool → Seen → Option Failure → Seen → Type 0
 Falls less old failure new = failure ≡ None → left new + (if less then 1 else 0) ≤ left old
 

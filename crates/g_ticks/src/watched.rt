@@ -31,7 +31,7 @@ impl<D: Disc, T: Tapes> Model for Watched<D, T> {
 }
 
 impl<D: Disc, T: Tapes> Watched<D, T> {
-    /// Only the store.
+    /// Returns the store.
     pub(crate) fn taken(self) -> Running<D, T>
         ensures { result ≡ self.running }
     {
