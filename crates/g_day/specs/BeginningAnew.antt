@@ -14,6 +14,7 @@ abbrev pub beside_new : SystemFacts → SystemFacts
 beside_new (Up s) = Up s
 beside_new (Down d) = Down (with_new_disc d)
 
+-- What is at hand, with a new disc in place of the old one if the system is down.
 abbrev pub beside : Seen → Seen
 beside s = seen (beside_new s.system) s.crew s.count
 
@@ -39,6 +40,7 @@ abbrev pub GoesFirst : Operator → Seen → Option Failure → Seen → Option 
 GoesFirst what old failure new before after faults faults' =
     IsBlank old.system → IsUntaken what old failure new before after faults faults' ⊎ DidLine what (beside old) failure new before after faults faults'
 
+-- What each line does when starting over. Other lines are not specified.
 abbrev pub AnewLine : Operator → Seen → Option Failure → Seen → Option (List ℕ) → Option (List ℕ) → ℕ → ℕ → Type 0
 AnewLine (line.Mount serial) old failure new before after faults faults' = WentAside (line.Mount serial) old failure new before after faults faults'
 AnewLine (line.Unmount serial) old failure new before after faults faults' = WentAside (line.Unmount serial) old failure new before after faults faults'

@@ -4,6 +4,7 @@ use Rattle.g_base.specs.Fuse.{never}
 use Rattle.g_slots.specs.declared.side.Side.TheVariants.{A}
 use Rattle.g_store_meaning.specs.StoreInvariant.{StoreFacts}
 
+-- What an empty box would be seen as.
 abbrev pub nothing : StoreFacts
 nothing = record {
   online = record {
@@ -24,6 +25,7 @@ nothing = record {
   spent = false;
 }
 
+-- The store in the box.
 abbrev pub boxed : Option StoreFacts → StoreFacts
 boxed (Some store) = store
 boxed None = nothing

@@ -37,6 +37,7 @@ abbrev pub TellsWhy : NotTaken → ℕ → Option Failure → Option (List ℕ) 
 TellsWhy why.NoMemory count failure before after old new = (failure ≡ Some Memory) × (after ≡ before) × (new ≡ old)
 TellsWhy why count failure before after old new = Puts failure (operator_line count (codes "REFUSED " ++ refusal_line why)) before after old new
 
+-- A job is accepted, or refused, or memory ran out and nothing was done.
 abbrev pub TakesJob : Bool → NewJob → ℕ → CrewState → Option Failure → CrewState → Option (List ℕ) → Option (List ℕ) → ℕ → ℕ → Type 0
 TakesJob known job count c failure c' before after old new =
     ComesIn known job count c failure c' before after old new

@@ -26,6 +26,7 @@ pub record Seen : Type 0 where
   pub crew : CrewState
   pub count : ℕ
 
+-- What is at hand, from its parts.
 abbrev pub seen : SystemFacts → CrewState → ℕ → Seen
 seen system crew count = record { system = system; crew = crew; count = count }
 

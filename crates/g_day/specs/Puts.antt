@@ -16,6 +16,7 @@ abbrev pub PutsBy : Option Failure → List ℕ → Option (List ℕ) → Option
 PutsBy None text before after = after ≡ with_more before text
 PutsBy (Some failure) text before after = HasPutPart before text after
 
+-- A text was written, completely or in part, and the sink's fault counter rose only with a failed write.
 pub record Puts (failure : Option Failure) (text : List ℕ) (before after : Option (List ℕ)) (old new : ℕ) : Type 0 where
   pub put : PutsBy failure text before after
   pub cause : FaultCause failure old new

@@ -15,14 +15,17 @@ use Rattle.g_run_model.specs.Devices.{AreReadAs, Devices}
 use Rattle.g_day.specs.declared.system.System.{System}
 use Rattle.g_day.specs.declared.system.System.TheVariants as systems
 
+-- A store that is up, or the devices of a system that is down.
 pub data SystemFacts : Type 0 where
   Up : StoreFacts → SystemFacts
   Down : Devices → SystemFacts
 
+-- A system as contracts see it.
 abbrev pub facts_of : {D T : Type 0} → (D → DiscState) → (T → Rack) → System D T → SystemFacts
 facts_of disc rack (systems.Up store) = Up store
 facts_of disc rack (systems.Down d t) = Down (record { disc = disc d; rack = rack t })
 
+-- The devices of a system.
 abbrev pub devices_in : SystemFacts → Devices
 devices_in (Up s) = record { disc = s.online.disc; rack = s.rack }
 devices_in (Down d) = d
@@ -67,6 +70,7 @@ pub record BelongTogether (d : Devices) : Type 0 where
   pub told : AllTold d.disc.held (told_reels d.rack)
   pub belong : Belong d.disc.held d.rack
 
+-- The devices of the system expose their contents and belong together.
 abbrev pub SystemBelongs : SystemFacts → Type 0
 SystemBelongs (Up s) = Told s × Belongs s
 SystemBelongs (Down d) = BelongTogether d

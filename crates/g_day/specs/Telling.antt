@@ -15,6 +15,7 @@ use Rattle.g_day.specs.System.{Down, SystemFacts, Up}
 abbrev pub without_jobs : CrewState → CrewState
 without_jobs c = record c { jobs = []; accounts = [] }
 
+-- The line that reports a refusal.
 abbrev pub refusal_text : ℕ → StoreFault → List ℕ
 refusal_text count fault = operator_line count (codes "REFUSED " ++ fault_line fault)
 

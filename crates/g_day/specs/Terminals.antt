@@ -17,6 +17,7 @@ use Rattle.g_day.specs.Jobs.{TellsWhy}
 use Rattle.g_day.specs.Puts.{Puts}
 use Rattle.g_day.specs.System.{Down, SystemFacts, Up}
 
+-- Whether the system is up.
 abbrev pub is_up_in : SystemFacts → Bool
 is_up_in (Up s) = true
 is_up_in (Down d) = false
@@ -52,6 +53,7 @@ TellsSeat (why.NotTaken reason) count failure before after old new = TellsWhy re
 abbrev pub DidNothing : CrewState → Option Failure → CrewState → Option (List ℕ) → Option (List ℕ) → ℕ → ℕ → Type 0
 DidNothing c failure c' before after old new = (failure ≡ Some Memory) × (c' ≡ c) × (after ≡ before) × (new ≡ old)
 
+-- A job is accepted at a terminal, or refused, or memory ran out and nothing was done.
 abbrev pub SeatsJob : Bool → NewLogin → ℕ → CrewState → Option Failure → CrewState → Option (List ℕ) → Option (List ℕ) → ℕ → ℕ → Type 0
 SeatsJob known login count c failure c' before after old new =
     SitsDown known login count c failure c' before after old new
@@ -70,6 +72,7 @@ pub record IsNowhere (t count : ℕ) (c : CrewState) (failure : Option Failure) 
   pub crew : c' ≡ c
   pub put : Puts failure (operator_line count (codes "REFUSED " ++ none_text t)) before after old new
 
+-- The terminal's job is changed, or there is none, or memory ran out and nothing was done.
 abbrev pub ChangesAt : ℕ → (JobState → JobState) → ℕ → CrewState → Option Failure → CrewState → Option (List ℕ) → Option (List ℕ) → ℕ → ℕ → Type 0
 ChangesAt t change count c failure c' before after old new =
     IsChanged t change c failure c' before after old new

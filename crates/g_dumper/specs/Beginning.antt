@@ -39,6 +39,7 @@ plan_of serial place o = record {
   files = held_of o.changed (recs_in o.contents);
 }
 
+-- The intent that names the dump of this plan.
 abbrev pub intent_of : Plan → Intent
 intent_of plan = record { serial = plan.serial; place = plan.place; number = plan.number }
 

@@ -16,6 +16,7 @@ use Rattle.g_store_meaning.specs.StoreInvariant.{DumpFacts, IsOpen, IsUp, StoreF
 abbrev pub up_with : OnlineFacts → Rack → Option DumpFacts → StoreFacts
 up_with o rack dump = record { online = o; rack = rack; dump = dump; spent = false }
 
+-- A spent store with these devices.
 abbrev pub spent_with : OnlineFacts → Rack → StoreFacts
 spent_with o rack = record { online = o; rack = rack; dump = None; spent = true }
 

@@ -55,6 +55,7 @@ abbrev pub stepped : DumpStep → Stepped
 stepped answer.Going = Going
 stepped (answer.Completed number) = Completed number
 
+-- The code's answer or fault, as the step of a state has it.
 abbrev pub stepped_of : Result DumpStep StoreFault → Result Stepped StoreFault
 stepped_of (Ok step) = Ok (stepped step)
 stepped_of (Err fault) = Err fault

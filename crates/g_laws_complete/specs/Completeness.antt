@@ -35,6 +35,7 @@ IsAnswered tree who call (Err NoMemory) = Unit {0}
 IsAnswered tree who call (Err (NoCopy full serial)) = Unit {0}
 IsAnswered tree who call answer = answer ≡ plain_answer tree who call
 
+-- If nothing failed and the call can be done, its answer is the plain one, unless memory ran out or a copy is lost.
 pub record CallsAreComplete : Type 0 where
   -- for devices that expose their contents and belong together
   pub told : (old new : StoreFacts) (who : List ℕ) (call : StoreCall) (answer : Result StoreReply StoreFault) (s : State) (k : Holding) → Told old → Belongs old → StandsForState old s

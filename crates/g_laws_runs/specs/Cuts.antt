@@ -7,6 +7,7 @@ use Rattle.g_run_model.specs.Devices.{Devices}
 use Rattle.g_run_model.specs.Moves.{Counted, Move, not_dump, outcome_of}
 use Rattle.g_run_model.specs.World.{World}
 
+-- If the disc's count of failed writes didn't rise, only dump steps and PROCESS were interrupted.
 abbrev pub TapesCutNoCall : Type 0
 TapesCutNoCall = (moves : List Move) (last : World) (old new : Devices) → Counted moves last old new → (Rose old.disc.write_faults new.disc.write_faults → ⊥)
     → All (λ move. not_dump move ≡ true → outcome_of move ≢ Cut) moves

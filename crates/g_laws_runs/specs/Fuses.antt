@@ -42,6 +42,7 @@ abbrev pub DiscSpends : Type 0
 DiscSpends = (numbers : List ℕ) (k : ℕ) (old new : DiscState) → IsDisc new → IsArmedBy (numbers ++ k ∷ []) old.arms new.arms → IsArmedIn old.writes new.writes old.arms new.arms
     → old.arms.times < 2 ^ 64 - 1 → new.writes < 2 ^ 64 - 1 → new.fuse ≡ None → old.writes + k ≤ new.writes
 
+-- The fuse of the tapes, if it was armed in this call, is spent only if a write of theirs failed in it.
 abbrev pub RackSpends : Type 0
 RackSpends = (numbers : List ℕ) (k : ℕ) (old new : Rack) → IsRack new → IsArmedBy (numbers ++ k ∷ []) old.arms new.arms → IsArmedIn old.write_faults new.write_faults old.arms new.arms
     → old.arms.times < 2 ^ 64 - 1 → new.fuse ≡ None → Rose old.write_faults new.write_faults

@@ -35,5 +35,6 @@ pub record NewState (d : Devices) : Type 0 where
   pub stands : StandFor d state
   pub holding : state.holding ≡ None
 
+-- New devices, with a disc of more than 2,177 blocks, represent a state without a filestore.
 abbrev pub NewDevicesStand : Type 0
 NewDevicesStand = (n : ℕ) (labels : List (ℕ × ℕ)) (d : Devices) → 2177 < n → AreNew n labels d → NewState d

@@ -15,6 +15,7 @@ use Rattle.g_run_model.specs.Moves.{Move, Run}
 use Rattle.g_run_model.specs.World.{World, start}
 
 module _ {F U : Type 0} (tariffs : Shared F (Bor Usage × Unit {0}) Charge) (tariff : F) (rules : Shared U (Bor Standing × Unit {0}) ℕ) (rule : U) where
+  -- In no world of a run on devices that represent a state can a RESTORE name a lost directory or copy.
   abbrev pub NothingIsLost : Type 0
   NothingIsLost = (d : Devices) (lines : List Timed) (bad : Option ℕ) (s : State) (moves : List Move) (w : World) → StandFor d s → Run tariffs tariff rules rule (start lines bad s) moves w
       → (o : Outcome) (answer : Result ℕ StoreFault) (new : State) → RestoreStep w.store o answer new → IsLost answer → ⊥

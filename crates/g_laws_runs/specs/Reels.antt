@@ -37,6 +37,7 @@ module _ {F U : Type 0} (tariffs : Shared F (Bor Usage × Unit {0}) Charge) (tar
   RunWithout w [] new = new ≡ w
   RunWithout w (move ∷ moves) new = (mid : World) × (takes_process move ≡ false) × Step tariffs tariff rules rule w move mid × RunWithout mid moves new
 
+  -- In a run without a PROCESS each reel has its completed dumps, and at most one more for each dump step.
   abbrev pub CompletedDumpsStay : Type 0
   CompletedDumpsStay = (w last : World) (moves : List Move) → RunWithout w moves last → AreGrown (sum_by dump_steps moves) w.store.reels last.store.reels
 

@@ -25,9 +25,11 @@ KeepsTree w (TakeLine tape o) new = LeavesTree w (TakeLine tape o) ⊎ IsRefused
 KeepsTree w move new = LeavesTree w move
 
 module _ {F U : Type 0} (tariffs : Shared F (Bor Usage × Unit {0}) Charge) (tariff : F) (rules : Shared U (Bor Standing × Unit {0}) ℕ) (rule : U) where
+  -- A line that leaves the system down, and in which no write failed, leaves the tree unchanged.
   abbrev pub RefusedLinesLeave : Type 0
   RefusedLinesLeave = (w new : World) (tape : Bool) (o : Outcome) → Step tariffs tariff rules rule w (TakeLine tape o) new → IsRefusedDown w o new → tree_of new.store ≡ tree_of w.store
 
+  -- A run of moves each of which installs no other tree, or is a line refused while the system is down (`KeepsTree`).
   abbrev pub RunKeeping : World → List Move → World → Type 0
   RunKeeping w [] new = new ≡ w
   RunKeeping w (move ∷ moves) new = (mid : World) × KeepsTree w move mid × Step tariffs tariff rules rule w move mid × RunKeeping mid moves new

@@ -37,6 +37,7 @@ pub record StandIn (s : State) : Type 0 where
   pub is : s.open_dump ≡ Some dump
   pub stand : OwnsStand dump held
 
+-- A store that opens a dump satisfies `OwnsStand` afterwards, and calls, migrations and dump steps preserve it.
 pub record OwnsStay : Type 0 where
   -- a store that opens a dump satisfies the premise
   pub dumpable : (v : View) (s : StoreFacts) (plan : Plan) (pins : List Pin) (content : List (List ℕ)) (opened : Opened) → IsOpening v s plan pins content opened

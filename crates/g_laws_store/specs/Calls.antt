@@ -85,11 +85,13 @@ trapped (TrapGo path user modes) = Some (path, user)
 trapped (TrapStop path user modes) = Some (path, user)
 trapped call = None
 
+-- The modes that the user has after the call, from those before it.
 abbrev pub modes_by : StoreCall → ℕ → ℕ
 modes_by (TrapGo path user modes) had = bit_or had modes
 modes_by (TrapStop path user modes) had = had - bit_and had modes
 modes_by call had = had
 
+-- For each kind of call, the state of the store after its change is the one that the call's step makes.
 pub record CallsGoByStep : Type 0 where
   -- a call that neither writes nor brings a file back leaves the state unchanged
   pub tells : (v : View) (reels : List Reel) (o : OnlineFacts) (dump : Option DumpFacts) (who : List ℕ) (call : StoreCall) (until : ℕ)

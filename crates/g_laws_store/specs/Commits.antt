@@ -12,6 +12,8 @@ abbrev pub side_after : ℕ → Side → Side
 side_after zero side = side
 side_after (suc k) side = side_after k (other side)
 
+-- The slot that is current after n commits is that of `side_after`. They write at least n blocks, an event that made n
+-- hasn't made n + 1, and each is counted as a write of the disc.
 pub record CommitsAreTold : Type 0 where
   pub sides : (k n : ℕ) (old new : Layout) → Commits k old new n → new.side ≡ side_after k old.side
   pub gates : (k n : ℕ) (old new : Layout) → Commits k old new n → k ≤ n

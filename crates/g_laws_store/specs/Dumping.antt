@@ -30,9 +30,12 @@ SameReels old new = map (λ r. r.serial) new.reels ≡ map (λ r. r.serial) old.
 abbrev pub without_intent : StoreFacts → StoreFacts
 without_intent s = behind s (with_intent None s.online.contents) s.online.changed s.online.touched
 
+-- The store after its open dump is given up.
 abbrev pub given_up : StoreFacts → StoreFacts
 given_up s = record s { online = record s.online { pins = None }; dump = None }
 
+-- The invariant of a store that is up is preserved when users change, an intent is dropped, reels are written or mounted,
+-- and a dump continues or is given up.
 pub record EventsStayUp : Type 0 where
   pub users : (text : ℕ → List ℕ) (shelf : ℕ → List Dump) (s : StoreFacts) (users : List UserRec) (changed touched : List ℕ) → (let c = s.online.contents in
       OnlyGrow s changed touched → WereThere changed users c → IfSome s.dump (λ d. WereThere touched users c) → IsUp text shelf s
@@ -51,6 +54,7 @@ closed_with d touched s = record s {
   dump = None;
 }
 
+-- The closing of an open dump preserves the invariant of a store that is up, with the dump among the completed ones.
 abbrev pub ClosingStaysUp : Type 0
 ClosingStaysUp = (text : ℕ → List ℕ) (shelf : ℕ → List Dump) (s : StoreFacts) (d : DumpFacts) (content : List (List ℕ)) (touched : List ℕ)
     → s.dump ≡ Some d → (is : IsOpen d s.online s.rack) → content_in is.pins ≡ Some content → IsUp text shelf s
@@ -76,6 +80,7 @@ pub record AreDumpable (changed : List ℕ) (c : Contents) : Type 0 where
   pub dated : StampsBelow c.head.next_stamp (recs_in c)
   pub waits : All (WaitsByUser changed) c.files
 
+-- The store after a dump with this plan and these pins is opened: the intent is on the disc, and no user is touched.
 abbrev pub opened_with : Plan → List Pin → StoreFacts → StoreFacts
 opened_with plan pins s = record s {
   online = record s.online {
@@ -86,6 +91,7 @@ opened_with plan pins s = record s {
   dump = Some (record { plan = plan; done = 0 });
 }
 
+-- The opening of a dump by its plan preserves the invariant of a store that is up.
 abbrev pub OpeningStaysUp : Type 0
 OpeningStaysUp = (text : ℕ → List ℕ) (shelf : ℕ → List Dump) (s : StoreFacts) (plan : Plan) (pins : List Pin)
     → s.dump ≡ None → ReelsTold (told_reels s.rack) → AreShelved shelf (told_reels s.rack) → Contains (map (λ r. r.serial) (told_reels s.rack)) plan.serial

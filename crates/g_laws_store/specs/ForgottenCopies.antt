@@ -11,15 +11,19 @@ use Rattle.g_store_meaning.specs.Belonging.{DiscBelongs}
 use Rattle.g_store_meaning.specs.StoreInvariant.{IsUp, StoreFacts, with_dump}
 use Rattle.g_laws_store.specs.Dumping.{AreDumpable}
 
+-- The record without its copy on tape.
 abbrev pub bare_rec : FileRec → FileRec
 bare_rec r = record r { tape = None }
 
+-- The file without its copy on tape.
 abbrev pub bare_file : File → File
 bare_file f = record f { rec = bare_rec f.rec }
 
+-- The contents without any copy on tape.
 abbrev pub bare : Contents → Contents
 bare c = record c { files = map bare_file c.files }
 
+-- The numbers of all users.
 abbrev pub every_user : Contents → List ℕ
 every_user c = map (λ u. u.number) c.users
 
@@ -27,6 +31,8 @@ every_user c = map (λ u. u.number) c.users
 abbrev pub forgotten : StoreFacts → StoreFacts
 forgotten s = record s { online = record s.online { contents = bare s.online.contents; changed = every_user s.online.contents } }
 
+-- The invariant of a store that is up is preserved when it forgets its copies, and a dump of all its versions may be opened
+-- then.
 pub record ForgettingStaysUp : Type 0 where
   -- the invariant of a store that is up is preserved
   pub up : (text : ℕ → List ℕ) (shelf : ℕ → List Dump) (s : StoreFacts) → s.dump ≡ None → IsUp text shelf s → IsUp text shelf (forgotten s)

@@ -28,6 +28,7 @@ pub record IsOpening (v : View) (s : StoreFacts) (plan : Plan) (pins : List Pin)
   pub content_is : content_in pins ≡ Some content
   pub opens : OpensTo (told_reels s.rack) v plan content opened
 
+-- The places, the copies and the state after an opening are those of the step of an opening.
 pub record OpeningIsStep : Type 0 where
   -- The places of the dumped versions are those of the step: the existing copies, and for each version that waits a place
   -- on the reel, among the blocks of the dump's content.

@@ -19,6 +19,7 @@ pub record AreOpened (text : ℕ → List ℕ) (shelf : ℕ → List Dump) (chan
   pub pinned : ArePinned plan.serial (first_content plan) (waiting_files plan.files) pins
   pub long : All (HasLength text) c.files
 
+-- The versions that the pins have are those that wait by the state, and the plan needs as many blocks as the state says.
 pub record OpeningTakes : Type 0 where
   pub waits : (text : ℕ → List ℕ) (shelf : ℕ → List Dump) (changed : List ℕ) (c : Contents) (plan : Plan) (pins : List Pin) (kept : List UserRec)
       → AreOpened text shelf changed c plan pins → waiting_of (Some pins) ≡ waiting (holding_of text kept c)

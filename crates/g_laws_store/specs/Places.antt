@@ -23,6 +23,7 @@ pub record AreNotedIn (d : OpenDump) (pins : List Pin) : Type 0 where
   pub copies : All (λ p. (place_at d.places p.stamp).copy ≡ Some p.copy) pins
   pub apart : AllPairs (λ p q. p.stamp ≢ q.stamp) pins
 
+-- For each change of files, the places by stamp are those that the step makes.
 pub record PlacesGoByChange : Type 0 where
   pub version : (files : List File) (f : File) (old : ℕ) → AreDistinct files → AreDistinct (with_file f files) → All (IsOfStamp f.rec.number old) files
       → places_of (with_file f files) ≡ insert (remove (places_of files) old) f.rec.stamp (place_of f)

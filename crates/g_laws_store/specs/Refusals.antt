@@ -61,6 +61,7 @@ pub record ReadsOffline (before : State) (who : List ℕ) (call : StoreCall) (fu
   pub offline : (place_at grants.held.places (file_row grants.held.tree full).stamp).online ≡ false
   pub reel : (c : TapeCopy) → (place_at grants.held.places (file_row grants.held.tree full).stamp).copy ≡ Some c → c.serial ≡ serial
 
+-- For each refusal by a device or for lack of room, the calls to which it is returned, and the state in which it is.
 pub record RefusalsOfCalls : Type 0 where
   -- A lost copy, a wait and a failed read of tape are returned only to Append, Fetch and Retrieve, for the offline file of
   -- the path: the first and the last if its reel is mounted, the wait if it isn't.

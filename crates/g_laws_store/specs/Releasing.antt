@@ -24,6 +24,7 @@ pub record HasAll (text : ℕ → List ℕ) (shelf : ℕ → List Dump) (s : Sto
   pub records : All (λ r. KeepsRecord (text r.stamp) (d ∷ []) r) d.files
   pub files : All (λ f. KeepsFile (text f.rec.stamp) (d ∷ []) f) s.online.contents.files
 
+-- If one dump has everything, the dumps of another reel may be deleted, and that dump still has everything.
 pub record ReleasesStayUp : Type 0 where
   -- without the dumps of another reel the invariant of a store that is up still holds
   pub up : (text : ℕ → List ℕ) (shelf : ℕ → List Dump) (s : StoreFacts) (d : Dump) (serial : ℕ) (has : HasAll text shelf s d) → (has.reel.serial ≡ serial → ⊥)

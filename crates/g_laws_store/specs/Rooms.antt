@@ -21,6 +21,7 @@ pub record ArePins (dump : Option DumpFacts) (pins : Option (List Pin)) : Type 0
 abbrev pub held_in : View → OnlineFacts → Holding
 held_in v o = holding_of v.text (users_not_in o.changed o.contents.users) o.contents
 
+-- The room of the state of a store that is up is the room that memory counts.
 abbrev pub RoomIs : Type 0
 RoomIs = (v : View) (reels : List Reel) (o : OnlineFacts) (dump : Option DumpFacts) → IsRecords o.contents.users (recs_in o.contents)
     → All (HasLength v.text) o.contents.files → ArePins dump o.pins → room (state_up v reels o dump) (held_in v o) ≡ room_of o

@@ -16,6 +16,7 @@ use Rattle.g_laws_store.specs.Rooms.{ArePins, HasLength, held_in}
 abbrev pub is_candidate : File → Bool
 is_candidate f = f.online && nat_lt 0 f.rec.len && is_some f.rec.tape
 
+-- Whether the file is a candidate below this stamp.
 abbrev pub is_taken : ℕ → File → Bool
 is_taken until f = nat_lt f.rec.stamp until && is_candidate f
 

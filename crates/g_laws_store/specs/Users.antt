@@ -12,6 +12,7 @@ use Rattle.g_store_meaning.specs.Reading.{dumped_of, names_of, users_in, users_n
 abbrev pub IsNamed : ℕ → List ℕ → UserRec → Type 0
 IsNamed number name u = (u.number ≡ number → u.user ≡ name) × (u.user ≡ name → u.number ≡ number)
 
+-- A changed user is no longer among the kept ones, and is among the touched ones, by name.
 pub record UsersGoByChange : Type 0 where
   -- a changed user is no longer kept
   pub kept : (users : List UserRec) (changed : List ℕ) (u : UserRec) → All (IsNamed u.number u.user) users

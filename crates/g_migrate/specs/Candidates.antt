@@ -9,12 +9,15 @@ use Rattle.g_laws_store.specs.UnjamPlan.{is_candidate}
 abbrev pub candidate_of : File → Candidate
 candidate_of f = record { stamp = f.rec.stamp; number = f.rec.number; blocks = blocks_for f.rec.len }
 
+-- The file as a candidate, if it is one.
 abbrev pub candidate_in : File → Option Candidate
 candidate_in f = if is_candidate f then Some (candidate_of f) else None
 
+-- The candidates among these files.
 abbrev pub candidates_in : List File → List Candidate
 candidates_in files = map candidate_of (filter is_candidate files)
 
+-- The number of blocks of these candidates.
 abbrev pub blocks_in : List Candidate → ℕ
 blocks_in candidates = sum_by (λ c. c.blocks) candidates
 

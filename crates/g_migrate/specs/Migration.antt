@@ -17,6 +17,7 @@ refusal_by false copy = Some Offline
 refusal_by true None = Some NotDumped
 refusal_by true (Some copy) = None
 
+-- The refusal of a migration of this file, if there is one.
 abbrev pub refusal_of : File → Option StoreFault
 refusal_of f = refusal_by f.online f.rec.tape
 

@@ -93,6 +93,7 @@ refusal_of dirs.NoMemory = NoMemory
 abbrev pub empty_copy : FileRec → ℕ × DiscCopy
 empty_copy r = (r.number, record { blocks = []; len = 0 })
 
+-- The copies of all empty files among these, by number.
 abbrev pub empty_copies : List FileRec → List (ℕ × DiscCopy)
 empty_copies files = map empty_copy (filter (λ r. r.len == 0) files)
 

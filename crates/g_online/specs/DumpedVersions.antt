@@ -26,9 +26,11 @@ place_in (Some p) part = slice_get p.blocks part
 abbrev pub is_stamp_current : List FileRec → ℕ → Bool
 is_stamp_current files stamp = list_any (λ r. r.stamp == stamp) files
 
+-- The blocks of a pinned version, or none if some file has that version.
 abbrev pub lost_of : List FileRec → Pinned → List ℕ
 lost_of files p = if is_stamp_current files p.stamp then [] else p.blocks
 
+-- The blocks of all pinned versions that no file has any more.
 abbrev pub lost_places : List FileRec → List Pinned → List ℕ
 lost_places files pins = flat_map (lost_of files) pins
 
@@ -50,13 +52,16 @@ pub record MarksMade (made : FileRec → FileRec) (files : List FileRec) (old ne
 abbrev pub is_waiting : FileRec → Bool
 is_waiting r = nat_lt 0 r.len && is_none r.tape
 
+-- The files of this owner whose versions wait.
 abbrev pub waiting_of : ℕ → List FileRec → List FileRec
 waiting_of owner files = filter (λ r. (r.owner == owner) && is_waiting r) files
 
+-- The files of all owners below this number whose versions wait, by owner.
 abbrev pub waiting_below : ℕ → List FileRec → List FileRec
 waiting_below zero files = []
 waiting_below (suc owner) files = waiting_below owner files ++ waiting_of owner files
 
+-- The number of blocks of all these files together.
 abbrev pub blocks_of : List FileRec → ℕ
 blocks_of [] = 0
 blocks_of (r ∷ rs) = blocks_for r.len + blocks_of rs
@@ -65,6 +70,7 @@ blocks_of (r ∷ rs) = blocks_for r.len + blocks_of rs
 abbrev pub pinned_of : ℕ → ℕ → List (ℕ × DiscCopy) → FileRec → Pinned
 pinned_of serial at online r = record { stamp = r.stamp; len = r.len; copy = record { serial = serial; first = at }; blocks = copy_places (copy_at online r.number) }
 
+-- The files as pinned versions, with their places on tape end to end.
 abbrev pub pins_from : ℕ → ℕ → List (ℕ × DiscCopy) → List FileRec → List Pinned
 pins_from serial at online [] = []
 pins_from serial at online (r ∷ rs) = pinned_of serial at online r ∷ pins_from serial (at + blocks_for r.len) online rs

@@ -4,6 +4,7 @@ use Rattle.g_plain.specs.declared.faults.StoreFault.TheVariants as store
 use Rattle.g_online.specs.declared.fault.OnlineFault.{OnlineFault}
 use Rattle.g_online.specs.declared.fault.OnlineFault.TheVariants as online
 
+-- Each fault of the filestore as a fault of the store: a failed read is `DiscReadFault`, the others have the same name.
 abbrev pub store_fault_of : OnlineFault → StoreFault
 store_fault_of (online.DiscFull need room) = store.DiscFull need room
 store_fault_of online.ReadFault = store.DiscReadFault

@@ -33,6 +33,7 @@ pub record Memory : Type 0 where
   pub touched : List ℕ
   pub live : Bool
 
+-- The directory that is in memory.
 abbrev pub directory_in : Memory → Directory
 directory_in m = directory_of m.head m.users m.files m.online
 
@@ -45,6 +46,7 @@ pin_of held p = record {
   blocks = option_map (λ blocks. map (λ k. slice_index_or blocks k []) p.blocks) held;
 }
 
+-- The pinned versions as contracts see them, if there are any.
 abbrev pub pins_of : Option (List (List ℕ)) → Option (List Pinned) → Option (List Pin)
 pins_of held pins = option_map (map (pin_of held)) pins
 
@@ -78,6 +80,7 @@ abbrev pub orphans : Option (List Pinned) → List FileEntry → List ℕ
 orphans None files = []
 orphans (Some pins) files = flat_map (λ p. p.blocks) (filter (λ p. not (is_current files p.stamp)) pins)
 
+-- The blocks in use: those of files, and those of pinned versions that no file has any more.
 abbrev pub used_places : Option (List Pinned) → List FileEntry → List ℕ
 used_places pins files = all_places files ++ orphans pins files
 
@@ -99,6 +102,7 @@ pub record IsPinned (size next : ℕ) (files : List FileEntry) (p : Pinned) : Ty
   pub area : All (IsInArea size) p.blocks
   pub current : All (IsFileOf p) files
 
+-- Whether one of these versions has this stamp.
 abbrev pub has_stamp : List Pinned → ℕ → Bool
 has_stamp pins stamp = list_any (λ p. p.stamp == stamp) pins
 
@@ -121,6 +125,8 @@ GivesUnless false places old new = HasGiven places old new
 abbrev pub WaitsPinned : List Pinned → List ℕ → FileEntry → Type 0
 WaitsPinned pins touched f = 0 < f.0.len → f.0.tape ≡ None → (has_stamp pins f.0.stamp ≡ true) ⊎ (has touched f.0.owner ≡ true)
 
+-- The pinned versions satisfy their rules, no two have the same stamp, and each version without a copy on tape is among
+-- them or belongs to a touched user.
 pub record ArePinned (size next : ℕ) (files : List FileEntry) (touched : List ℕ) (pins : List Pinned) : Type 0 where
   pub each : All (IsPinned size next files) pins
   pub apart : AllPairs (λ p q. p.stamp ≢ q.stamp) pins

@@ -35,14 +35,17 @@ abbrev pub stamped : Option FileRec → Head → Head
 stamped (Some rec) head = record head { next_stamp = head.next_stamp + 1 }
 stamped None head = head
 
+-- The records with that of the new version, if there is one.
 abbrev pub recs_with : Option FileRec → List FileRec → List FileRec
 recs_with (Some rec) files = with_file rec files
 recs_with None files = files
 
+-- The user numbers with the owner of the new version, if there is one.
 abbrev pub users_with : Option FileRec → List ℕ → List ℕ
 users_with (Some rec) numbers = with_number rec.owner numbers
 users_with None numbers = numbers
 
+-- The user numbers with the owner of the new version, if there is one and versions are pinned.
 abbrev pub noted_for : Bool → Option FileRec → List ℕ → List ℕ
 noted_for pinned (Some rec) numbers = if pinned then with_number rec.owner numbers else numbers
 noted_for pinned None numbers = numbers
@@ -68,6 +71,7 @@ pub record Parts : Type 0 where
   pub online : List (ℕ × DiscCopy)
   pub live : Bool
 
+-- The directory of these users and files with the head and the copies of the parts.
 abbrev pub directory_with : List UserRec → List FileRec → Parts → Directory
 directory_with users files p = directory_of p.head users files p.online
 

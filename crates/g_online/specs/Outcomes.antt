@@ -15,6 +15,8 @@ use Rattle.g_online.specs.Change.{changed as changed_to, unjammed, unjammed_by, 
 abbrev pub commits_of : Change → ℕ
 commits_of change = if nat_lt 0 (length (unjammed_by change)) then 2 else 1
 
+-- The change was completed. The contents are the changed ones, the pins are unchanged, and the disc was written only by the
+-- commits and the blocks that the change needs.
 pub record HasChanged (change : Change) (old new : OnlineFacts) : Type 0 where
   pub live : new.live ≡ true
   pub contents : new.contents ≡ changed_to (is_some old.disc.held) (is_some old.pins) change old.contents
@@ -32,6 +34,8 @@ pub record AfterStop (change : Change) (old : OnlineFacts) (blocks : List (List 
       ⊎ (((0 < length (unjammed_by change)) × Holds blocks (unjammed (is_some old.pins) change old.contents))
       ⊎ Holds blocks (changed_to true (is_some old.pins) change old.contents))
 
+-- The change was stopped at a write. The filestore is no longer live, and the disc, if it exposes its contents, holds one
+-- of those that an interruption may leave.
 pub record HasStopped (change : Change) (old new : OnlineFacts) : Type 0 where
   pub live : new.live ≡ false
   pub holds : ForSome new.disc.held (AfterStop change old)
@@ -47,6 +51,8 @@ pub record HasClosed (last : ℕ) (old new : OnlineFacts) : Type 0 where
   pub commits : Commits 1 old.layout new.layout blocks
   pub writes : RoseBy blocks old.disc.writes new.disc.writes
 
+-- The closing was stopped at a write. The filestore is no longer live, and the disc holds the old contents or those of the
+-- closed dump.
 pub record StoppedClosing (last : ℕ) (old new : OnlineFacts) : Type 0 where
   pub live : new.live ≡ false
   pub holds : ForSome new.disc.held (λ blocks. Holds blocks old.contents ⊎ Holds blocks (closed last old))

@@ -19,6 +19,7 @@ pub record Readied : Type 0 where
   pub users : List UserRec
   pub files : List FileRec
 
+-- What is prepared for these copies on tape, by stamp.
 abbrev pub ready_with : List (ℕ × TapeCopy) → Contents → Readied
 ready_with copies c = record { users = c.users; files = map (copied_rec copies) (recs_in c) }
 
@@ -51,6 +52,8 @@ pub record HasAdopted (last : ℕ) (copies : List (ℕ × TapeCopy)) (old new : 
   pub commits : Commits 1 old.layout new.layout blocks
   pub writes : RoseBy blocks old.disc.writes new.disc.writes
 
+-- The noting was stopped at a write. The filestore is no longer live, and the disc holds the old contents or those with the
+-- copies.
 pub record StoppedAdopting (last : ℕ) (copies : List (ℕ × TapeCopy)) (old new : OnlineFacts) : Type 0 where
   pub live : new.live ≡ false
   pub holds : ForSome new.disc.held (λ blocks. Holds blocks old.contents ⊎ Holds blocks (adopted last copies old.contents))

@@ -7,6 +7,7 @@ use Rattle.g_store_meaning.specs.StoreInvariant.{StoreFacts}
 use Rattle.g_store.specs.Processing.{MovesDumps, StepsProcess}
 use Rattle.g_day.specs.System.{Down, SystemFacts, Up}
 
+-- The store of a system that is up has answered; a system that is down has refused, unchanged.
 abbrev pub AsksOf : {A : Type 0} → (StoreFacts → Result A StoreFault → StoreFacts → Type 0) → SystemFacts → Result A StoreFault → SystemFacts → Type 0
 AsksOf by (Up s) answer (Up t) = by s answer t
 AsksOf by (Down d) answer (Down e) = (answer ≡ Err NotStarted) × (e ≡ d)

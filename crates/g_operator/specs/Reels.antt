@@ -26,8 +26,10 @@ pub record StepsReels (by : State → Result (Unit {0}) StoreFault → State →
   pub dumps : DumpsGrow (devices_in old).rack (devices_in new).rack
   pub step : (s : State) → StandsAs old s → (u : State) × StandsAs new u × by s answer u
 
+-- The reel was mounted, or the mount was refused.
 abbrev pub MountsOn : ℕ → SystemFacts → Result (Unit {0}) StoreFault → SystemFacts → Type 0
 MountsOn serial old answer new = StepsReels (λ s a u. MountStep s serial a u) old answer new
 
+-- The reel was unmounted, or the unmount was refused.
 abbrev pub UnmountsOn : ℕ → SystemFacts → Result (Unit {0}) StoreFault → SystemFacts → Type 0
 UnmountsOn serial old answer new = StepsReels (λ s a u. UnmountStep s serial a u) old answer new

@@ -13,6 +13,7 @@ use Rattle.g_run_model.specs.Texts.{started_text}
 use Rattle.g_operator.specs.declared.rising.Rise.{Rise}
 use Rattle.g_operator.specs.declared.rising.Rise.TheVariants as rise
 
+-- The operator's line for each way of bringing the system up.
 abbrev pub line_of : Rise → Operator
 line_of rise.Format = line.Format
 line_of rise.Start = line.Start

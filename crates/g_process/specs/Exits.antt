@@ -26,6 +26,8 @@ use Rattle.g_process.specs.ProcessPlan.{IsFree, IsTaken, process_plan, versions}
 abbrev pub AreParts : (ℕ → List ℕ) → List FileRec → List (List ℕ) → Type 0
 AreParts text rs content = (i part : ℕ) (r : FileRec) (b : List ℕ) → slice_get rs i ≡ Some r → part < blocks_for r.len → slice_get content (blocks_of (take i rs) + part) ≡ Some b → IsPart (text r.stamp) part b
 
+-- The content has the right number of blocks, each of 512 bytes, and they contain the texts of the versions, which have the
+-- right lengths.
 pub record IsContentOf (text : ℕ → List ℕ) (serial : ℕ) (o : OnlineFacts) (content : List (List ℕ)) : Type 0 where
   pub long : length content ≡ content_blocks (process_plan serial o)
   pub blocks : All IsBlock content
@@ -117,6 +119,7 @@ pub data Stops (text : ℕ → List ℕ) (shelf : ℕ → List Dump) (serial : �
 abbrev pub Untouched : StoreFacts → StoreFacts → Type 0
 Untouched old new = (new.online ≡ old.online) × (map unread new.rack.reels ≡ map unread old.rack.reels)
 
+-- Where PROCESS ended, by its answer. After any other refusal nothing was written.
 abbrev pub Exits : (ℕ → List ℕ) → (ℕ → List Dump) → ℕ → StoreFacts → Result ℕ StoreFault → StoreFacts → Type 0
 Exits text shelf serial old (Ok number) new = (number ≡ old.online.contents.head.last_dump + 1)
     × ((is : HasReleased text shelf serial old new) × (is.cut ≡ None) × All (λ r. r.serial < is.until) old.rack.reels)

@@ -23,6 +23,7 @@ notes_at serial (l ∷ ls) = if l.serial == serial then l.notes else notes_at se
 abbrev pub IsNoted : List Listed → TapeCopy → ℕ → Type 0
 IsNoted lists copy blocks = (dumps : List Dump) → notes_at copy.serial lists ≡ map note_of dumps → AreInRow copy.serial 0 0 dumps → AreHeld dumps copy blocks
 
+-- The copy doesn't lie in the dumps of these notes.
 abbrev pub IsMissing : List Listed → TapeCopy → ℕ → Type 0
 IsMissing lists copy blocks = (dumps : List Dump) → notes_at copy.serial lists ≡ map note_of dumps → AreInRow copy.serial 0 0 dumps → AreHeld dumps copy blocks → ⊥
 

@@ -33,6 +33,7 @@ pub record IsGranted (serial : ℕ) (o : OnlineFacts) (rack : Rack) : Type 0 whe
   pub mounted : All (λ r. r.mounted ≡ true) rack.reels
   pub unspent : o.contents.head.last_dump ≢ 2 ^ 62 - 1
 
+-- The copies of all versions in the dump of this job, by stamp.
 abbrev pub copies_of : Job → OnlineFacts → List (ℕ × TapeCopy)
 copies_of job o = copies_from job.serial (first_content job.writer) (versions o.contents)
 

@@ -27,9 +27,11 @@ process_plan serial o = plan_of serial 0 (forgotten_online o)
 abbrev pub living : Contents → List FileRec
 living c = held_of (every_user c) (recs_in c)
 
+-- Whether the file isn't empty.
 abbrev pub is_filled : FileRec → Bool
 is_filled r = nat_lt 0 r.len
 
+-- The files of all users that aren't empty, in the order of a dump.
 abbrev pub versions : Contents → List FileRec
 versions c = filter is_filled (living c)
 
@@ -42,6 +44,7 @@ copies_from serial at (r ∷ rs) = (r.stamp, record { serial = serial; first = a
 pub record IsFree (serial : ℕ) (rack : Rack) : Type 0 where
   pub none : ForSome (blocks_of serial rack) (λ blocks. (dumps : List Dump) → AreCompleted serial blocks dumps → dumps ≡ [])
 
+-- If the reel exposes its contents, it has a completed dump.
 pub record IsTaken (serial : ℕ) (rack : Rack) : Type 0 where
   pub some : ForSome (blocks_of serial rack) (λ blocks. (dumps : List Dump) → AreCompleted serial blocks dumps → dumps ≡ [] → ⊥)
 

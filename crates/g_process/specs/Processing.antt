@@ -32,6 +32,7 @@ use Rattle.g_process.specs.ProcessPlan.{IsFirstLost, IsFree, IsTaken, process_pl
 use Rattle.g_process.specs.Releases.{zeros}
 use Rattle.g_process.specs.Progress.{IsSource}
 
+-- The number of the open dump, or 0.
 abbrev pub open_number : Option DumpFacts → ℕ
 open_number None = 0
 open_number (Some d) = d.plan.number
@@ -90,7 +91,6 @@ Wrote old (Err TapeReadFault) new = WroteCommits 0 old new ⊎ WroteCommits 1 ol
 Wrote old (Err fault) new = WroteCommits 0 old new
 
 -- A released reel has exactly one block, of zeros.
-
 pub record IsReleased (r : Reel) : Type 0 where
   pub len : r.len ≡ 1
   pub block : ForSome r.blocks (λ blocks. blocks ≡ zeros ∷ [])
@@ -100,6 +100,8 @@ pub record IsReleased (r : Reel) : Type 0 where
 abbrev pub IsOther : ℕ → Rack → (Reel → Reel → Type 0) → Reel → Reel → Type 0
 IsOther serial old Became r q = (r.serial ≢ serial) × ((IsFree r.serial old × (unread q ≡ unread r)) ⊎ (IsTaken r.serial old × Became r q))
 
+-- The reel that was written has exactly the blocks of the dump. Each other reel is unchanged except for its record of reads
+-- if it was free, and released otherwise.
 abbrev pub IsLeftBy : ℕ → ℕ → Rack → Reel → Reel → Type 0
 IsLeftBy serial need old r q = ((r.serial ≡ serial) × (q.len ≡ need)) ⊎ IsOther serial old (λ x y. IsReleased y) r q
 
@@ -107,10 +109,11 @@ IsLeftBy serial need old r q = ((r.serial ≡ serial) × (q.len ≡ need)) ⊎ I
 abbrev pub IsCutBy : ℕ → Rack → Reel → Reel → Type 0
 IsCutBy serial old r q = (r.serial ≡ serial) ⊎ IsOther serial old (λ x y. (unread y ≡ unread x) ⊎ (IsReleased y ⊎ ((how : Remains) × (unread y ≡ unread (left_by how 0 x))))) r q
 
--- Each block of the copy of an offline file was read in this call.
+-- The number of blocks of the versions before the i-th.
 abbrev pub blocks_in_front : ℕ → List FileRec → ℕ
 blocks_in_front i rs = blocks_of (take i rs)
 
+-- Each block of the copy of an offline file was read in this call.
 abbrev pub HasReadFile : StoreFacts → StoreFacts → File → Type 0
 HasReadFile old new f = f.online ≡ false → (copy : TapeCopy) → f.rec.tape ≡ Some copy → (i : ℕ) → copy.first ≤ i → i < copy.first + blocks_for f.rec.len → HasRead copy.serial i old.rack new.rack
 
@@ -122,6 +125,8 @@ pub record IsDumped (serial : ℕ) (old : StoreFacts) (new : Rack) (blocks : Lis
   pub sources : (i part : ℕ) (r : FileRec) → slice_get (versions old.online.contents) i ≡ Some r → part < blocks_for r.len
       → (block : List ℕ) × (slice_get content (blocks_in_front i (versions old.online.contents) + part) ≡ Some block) × IsSource old.online old.rack new r part block
 
+-- PROCESS was done. The disc names the new copies, no user counts as changed, the dump is the only one on its reel, all
+-- other reels have none, and every offline file was read.
 pub record HasProcessed (serial number : ℕ) (old new : StoreFacts) : Type 0 where
   pub number_is : number ≡ old.online.contents.head.last_dump + 1
   pub contents : new.online.contents ≡ moved_by serial old.online
@@ -150,6 +155,7 @@ pub record ReadLeaves (serial : ℕ) (old new : StoreFacts) : Type 0 where
   pub changed : new.online.changed ≡ old.online.changed
   pub reels : AllZip (IsReadBy serial) old.rack.reels new.rack.reels
 
+-- What PROCESS did, by its answer. After any other refusal this specifies nothing.
 abbrev pub Does : ℕ → StoreFacts → Result ℕ StoreFault → StoreFacts → Type 0
 Does serial old (Ok number) new = HasProcessed serial number old new
 Does serial old (Err Stopped) new = StopLeaves serial old new

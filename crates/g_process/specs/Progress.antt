@@ -76,6 +76,7 @@ abbrev pub ReadsSource : FileRec → ℕ → OnlineFacts → Rack → Result (Un
 ReadsSource r part o old (Ok _) block o' new = (o' ≡ o) × IsSource o old new r part block × OnlyReads old new × (new.read_faults ≡ old.read_faults)
 ReadsSource r part o old (Err fault) block o' new = FailsReading fault o o' old new
 
+-- Block k of the dump was built, or a read failed.
 abbrev pub Fills : Plan → List FileRec → ℕ → OnlineFacts → Rack → Result (Unit {0}) StoreFault → List ℕ → OnlineFacts → Rack → Type 0
 Fills p rs k o old (Ok _) block o' new = (o' ≡ o) × IsBlockOf p rs o old new k block × OnlyReads old new × (new.read_faults ≡ old.read_faults)
 Fills p rs k o old (Err fault) block o' new = FailsReading fault o o' old new
@@ -98,6 +99,7 @@ pub record WroteAt (serial : ℕ) (p : Plan) (rs : List FileRec) (o : OnlineFact
   pub block_is : IsBlockOf p rs o old mid k block
   pub rack : new ≡ record (changed serial (ending k block) mid) { fuse = new.fuse }
 
+-- Block k of the dump was written, or its write failed, or a read failed.
 abbrev pub WritesBlock : ℕ → Plan → List FileRec → ℕ → OnlineFacts → Rack → Result (Unit {0}) StoreFault → OnlineFacts → Rack → Type 0
 WritesBlock serial p rs k o old (Ok _) o' new = (o' ≡ o) × WroteAt serial p rs o k old new
 WritesBlock serial p rs k o old (Err Stopped) o' new = (o' ≡ o) × FailedAt serial k old new

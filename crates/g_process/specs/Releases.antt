@@ -7,6 +7,7 @@ use Rattle.g_tape.specs.Reel.{Reel, Remains, ending, left_by}
 use Rattle.g_disc_contents.specs.Contents.{has}
 use Rattle.g_shelf.specs.declared.rack.Listed.{Listed}
 
+-- A block of zeros.
 abbrev pub zeros : List ℕ
 zeros = replicate 512 0
 
@@ -14,6 +15,7 @@ zeros = replicate 512 0
 abbrev pub is_taken : ℕ → Listed → Bool
 is_taken serial l = not (l.serial == serial) && nat_lt 0 (length l.notes)
 
+-- The serials of the other reels that have a completed dump.
 abbrev pub taken : ℕ → List Listed → List ℕ
 taken serial lists = map (λ l. l.serial) (filter (is_taken serial) lists)
 
@@ -21,6 +23,7 @@ taken serial lists = map (λ l. l.serial) (filter (is_taken serial) lists)
 abbrev pub released : List ℕ → Reel → Reel
 released serials r = if has serials r.serial then ending 0 zeros r else r
 
+-- All reels with these serials are released, and nothing else has changed except the fuse.
 abbrev pub AreReleased : List ℕ → Rack → Rack → Type 0
 AreReleased serials old new = new ≡ record old { reels = map (released serials) old.reels; fuse = new.fuse }
 

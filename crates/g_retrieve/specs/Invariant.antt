@@ -21,6 +21,8 @@ pub record IsOver (o : OnlineFacts) (rack : Rack) (s : StoreFacts) : Type 0 wher
   pub rack_is : s.rack ≡ rack
   pub unspent : s.spent ≡ false
 
+-- A store on these devices satisfies its invariant afterwards if it did before, its devices still expose their contents,
+-- and they still belong together.
 pub record KeepsDevices (old new : OnlineFacts) (before after : Rack) : Type 0 where
   pub store : (s : StoreFacts) → IsOver old before s → IsStore s → IsStore (with_devices new after s)
   pub told : (s : StoreFacts) → IsOver old before s → Told s → Told (with_devices new after s)

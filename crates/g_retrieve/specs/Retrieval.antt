@@ -53,6 +53,7 @@ pub record ReadsTapes {A : Type 0} (before after : Rack) (result : Result A Stor
 abbrev pub IsTapeRefusal : TapeCopy → StoreFault → Type 0
 IsTapeRefusal c e = (e ≡ WaitTape c.serial) ⊎ ((e ≡ TapeReadFault) ⊎ (((name : Full) × (e ≡ NoCopy name c.serial)) ⊎ (e ≡ NoMemory)))
 
+-- How the reading of a copy is answered, for a file of this name. The rack is only read.
 pub record HasReadCopy (full : Option Full) (c : TapeCopy) (len : ℕ) (before after : Rack) (result : Result (List ℕ) StoreFault) : Type 0 where
   pub waits : (result ≡ Err (WaitTape c.serial)) ↔ (is_mounted (reel c.serial before.reels) ≡ false)
   pub lost : (name : Full) (serial : ℕ) → result ≡ Err (NoCopy name serial) → (full ≡ Some name) × (serial ≡ c.serial) × IsNowhere c len before

@@ -31,9 +31,11 @@ IsCall s who call o answer new = (k : Holding) × (s.holding ≡ Some k) × Call
 abbrev pub IsDumpStep : State → Outcome → Result Stepped StoreFault → State → Type 0
 IsDumpStep s o r new = (k : Holding) × (d : OpenDump) × (s.holding ≡ Some k) × (s.open_dump ≡ Some d) × DumpStep s k d o r new × IsTold o r
 
+-- The opening of a dump.
 abbrev pub IsOpening : State → ℕ → Outcome → Result ℕ StoreFault → State → Type 0
 IsOpening s serial o r new = (k : Holding) × (s.holding ≡ Some k) × OpenStep s k serial o r new × IsTold o r
 
+-- A PROCESS.
 abbrev pub IsProcessing : State → ℕ → Outcome → Result ℕ StoreFault → State → Type 0
 IsProcessing s serial o r new = (k : Holding) × (s.holding ≡ Some k) × ProcessStep s k serial o r new × IsTold o r
 
@@ -45,9 +47,11 @@ IsMigration s path o r new = (k : Holding) × (s.holding ≡ Some k) × MigrateS
 abbrev pub IsFormat : State → Outcome → Result (Unit {0}) StoreFault → State → Type 0
 IsFormat s o r new = FormatStep s o r new × IsTold o r
 
+-- START of a system that is down.
 abbrev pub IsStart : State → Outcome → Result (Option ℕ) StoreFault → State → Type 0
 IsStart s o r new = StartStep s o r new × IsTold o r
 
+-- RESTORE of a system that is down.
 abbrev pub IsRestore : State → Outcome → Result ℕ StoreFault → State → Type 0
 IsRestore s o r new = RestoreStep s o r new × IsTold o r
 
@@ -55,5 +59,6 @@ IsRestore s o r new = RestoreStep s o r new × IsTold o r
 abbrev pub IsMounting : State → ℕ → Outcome → Result (Unit {0}) StoreFault → State → Type 0
 IsMounting s serial o r new = (o ≡ Plain) × MountStep s serial r new
 
+-- An unmount, without a read or a write.
 abbrev pub IsUnmounting : State → ℕ → Outcome → Result (Unit {0}) StoreFault → State → Type 0
 IsUnmounting s serial o r new = (o ≡ Plain) × UnmountStep s serial r new

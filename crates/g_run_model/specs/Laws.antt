@@ -33,19 +33,23 @@ abbrev pub tree_of_dump : Option Dumped → Option Tree → Option Tree
 tree_of_dump None tree = tree
 tree_of_dump (Some d) tree = Some d.tree
 
+-- The tree after a line that brings the system up, if it succeeds; otherwise the current tree.
 abbrev pub tree_by_line : Operator → State → Option Tree
 tree_by_line line.Format s = Some formatted
 tree_by_line line.Restore s = tree_of_dump s.dumped (tree_of s)
 tree_by_line what s = tree_of s
 
+-- The tree after the next line, which can replace it only while the system is down.
 abbrev pub tree_by_lines : List Timed → State → Option Tree
 tree_by_lines [] s = tree_of s
 tree_by_lines (next ∷ lines) s = if s.up then tree_of s else tree_by_line next.what s
 
+-- The tree after a call of the job, if it is granted.
 abbrev pub tree_by_call : Option Tree → Option JobState → StoreCall → Option Tree
 tree_by_call (Some tree) (Some job) call = Some (plain_tree tree job.user call)
 tree_by_call tree job call = tree
 
+-- The tree after the next call of a turn's program, if there is one.
 abbrev pub tree_by_turn : World → Option (ℕ × Asks Work) → Option Tree
 tree_by_turn w None = tree_of w.store
 tree_by_turn w (Some (number, Gives work)) = tree_of w.store
@@ -61,6 +65,7 @@ tree_behind w move = tree_of w.store
 abbrev pub LeavesTree : World → Move → Type 0
 LeavesTree w move = tree_behind w move ≡ tree_of w.store
 
+-- Whether the line is a MOUNT.
 abbrev pub is_mount : Timed → Bool
 is_mount next = by next.what
   where
@@ -86,6 +91,7 @@ IsTimed next = by next.what
     by (line.Login t user time) = (1 ≤ time) × (time ≤ 1000000)
     by what = Unit {0}
 
+-- Every job of these lines has a TIME within its limits.
 abbrev pub AreTimed : List Timed → Type 0
 AreTimed lines = All IsTimed lines
 
@@ -94,10 +100,12 @@ abbrev pub free_in : ℕ → Move → ℕ
 free_in number (TurnOver n None) = if n == number then 1 else 0
 free_in number move = 0
 
+-- Whether a move ends a turn of this job with a charge, as 1 or 0.
 abbrev pub charged_in : ℕ → Move → ℕ
 charged_in number (TurnOver n (Some charge)) = if n == number then 1 else 0
 charged_in number move = 0
 
+-- No device failed in the move.
 abbrev pub IsPlain : Move → Type 0
 IsPlain move = outcome_of move ≡ Plain
 
@@ -111,6 +119,7 @@ HasDumped s = s.dumped ≡ None → list_all has_none s.reels ≡ true
 abbrev pub IsShort : Tree → Type 0
 IsShort tree = (full : Full) (row : FileRow) → get tree.files full ≡ Some row → length row.bytes ≤ 65536
 
+-- Every file of the trees of the state has at most 65,536 bytes.
 pub record AreShort (s : State) : Type 0 where
   pub held : IfSome s.holding (λ k. IsShort k.tree)
   pub dumped : IfSome s.dumped (λ d. IsShort d.tree)

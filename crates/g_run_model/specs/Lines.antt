@@ -29,16 +29,20 @@ abbrev pub disc_arms : Operator → List ℕ
 disc_arms (line.StopDisc k) = k ∷ []
 disc_arms what = []
 
+-- The number with which a line arms the tapes.
 abbrev pub tape_arms : Operator → List ℕ
 tape_arms (line.StopTape k) = k ∷ []
 tape_arms what = []
 
+-- Whether the system is up.
 abbrev pub is_up : World → Bool
 is_up w = w.store.up
 
+-- A refusal with this text is printed.
 abbrev pub refusal : List ℕ → World → World
 refusal text w = says (codes "REFUSED " ++ text) w
 
+-- The refusal of a line for this fault is printed.
 abbrev pub line_refused : StoreFault → World → World
 line_refused fault w = refusal (fault_line fault) w
 
@@ -53,6 +57,7 @@ tells done (Err fault) s w = line_refused fault (record w { store = s })
 abbrev pub up_with : List ℕ → State → World → World
 up_with text s w = record (says text w) { store = s; accounts = with_new s [] }
 
+-- The text is printed, and the store has this state.
 abbrev pub now_stands : List ℕ → State → World → World
 now_stands text s w = says text (record w { store = s })
 
@@ -73,16 +78,20 @@ room_checks w time money a =
     ∷ (nat_lt (money_left a w.jobs) money, with_numbers (codes "42 NO MONEY ") money (money_left a w.jobs))
     ∷ []
 
+-- The refusals of JOB in their order, with their texts.
 abbrev pub job_checks : World → List ℕ → ℕ → ℕ → Opened → List (Bool × List ℕ)
 job_checks w user time money a = (not (knows_user w.store user), fault_line NoUser) ∷ room_checks w time money a
 
+-- The text of the first refusal of a JOB that applies, if any.
 abbrev pub job_refusal : World → List ℕ → ℕ → ℕ → Option (List ℕ)
 job_refusal w user time money = first_text (job_checks w user time money (unwrap_or (account_of w.accounts user) (no_account user)))
 
+-- The job is accepted: it gets the next number, and the acceptance is printed.
 abbrev pub taken_in : List ℕ → List ℕ → ℕ → ℕ → List (List ℕ) → World → World
 taken_in name user time money lines w =
     record (says (job_text w.next_job (name ++ codes " IN")) w) { jobs = w.jobs ++ job_begun w.next_job name user time money lines ∷ []; next_job = w.next_job + 1 }
 
+-- The job is accepted, or its refusal is printed.
 abbrev pub job_line : Option (List ℕ) → World → World → World
 job_line None taken w = taken
 job_line (Some text) taken w = refusal text w
@@ -92,12 +101,15 @@ abbrev pub is_terminal : ℕ → Option ℕ → Bool
 is_terminal t None = false
 is_terminal t (Some x) = x == t
 
+-- Whether the job is at this terminal.
 abbrev pub sits_at : ℕ → JobState → Bool
 sits_at t j = is_terminal t j.terminal
 
+-- The unfinished job of a terminal.
 abbrev pub job_at : ℕ → List JobState → Option JobState
 job_at t jobs = find (sits_at t) jobs
 
+-- The unfinished job of a terminal, if its document is held open.
 abbrev pub open_at : ℕ → List JobState → Option JobState
 open_at t jobs = find (λ j. sits_at t j && j.desk.levels.held) jobs
 
@@ -109,6 +121,7 @@ login_checks w t user time a =
     ∷ (is_some (job_at t w.jobs), busy_text t)
     ∷ room_checks w time 1000 a
 
+-- The text of the first refusal of a LOGIN that applies, if any.
 abbrev pub login_refusal : World → ℕ → List ℕ → ℕ → Option (List ℕ)
 login_refusal w t user time = first_text (login_checks w t user time (unwrap_or (account_of w.accounts user) (no_account user)))
 
@@ -129,6 +142,7 @@ abbrev pub changed_at : ℕ → (JobState → JobState) → Option JobState → 
 changed_at t change None w = refusal (none_text t) w
 changed_at t change (Some j) w = record w { jobs = with_job (change j) w.jobs }
 
+-- The job of the terminal that wasn't logged out is changed, or the line is refused.
 abbrev pub at_terminal : ℕ → (JobState → JobState) → World → World
 at_terminal t change w = changed_at t change (open_at t w.jobs) w
 

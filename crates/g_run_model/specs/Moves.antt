@@ -61,6 +61,7 @@ turn_told j (turns.Ended units money) w =
     record w { jobs = without_job j.number w.jobs; accounts = with_new w.store (settled j w.accounts); text = w.text ++ ended_file j }
 
 module _ {F U : Type 0} (tariffs : Shared F (Bor Usage × Unit {0}) Charge) (tariff : F) (rules : Shared U (Bor Standing × Unit {0}) ℕ) (rule : U) where
+  -- What each move requires of the world, and the world after it.
   abbrev pub Step : World → Move → World → Type 0
   Step w (TakeLine tape outcome) new = (line : Timed) × (rest : List Timed) × (w.lines ≡ line ∷ rest) × (w.phase ≡ Between) × (w.turn ≡ None)
       × ((is_due w ≡ true) ⊎ (nothing_steps w ≡ true)) × (tape ≡ is_process line.what) × LineGives outcome line.what (record w { lines = rest }) new
@@ -82,6 +83,7 @@ module _ {F U : Type 0} (tariffs : Shared F (Bor Usage × Unit {0}) Charge) (tar
       × (new ≡ record w { count = w.count + 1; phase = Between })
   Step w Over new = (w.phase ≡ Between) × (w.turn ≡ None) × (w.lines ≡ []) × (nothing_steps w ≡ true) × (w.over ≡ false) × (new ≡ closed w)
 
+  -- The moves lead from the first world to the last one.
   abbrev pub Run : World → List Move → World → Type 0
   Run w [] new = new ≡ w
   Run w (move ∷ moves) new = (mid : World) × Step w move mid × Run mid moves new
@@ -93,18 +95,21 @@ outcome_of (Dumped outcome) = outcome
 outcome_of (Answered outcome) = outcome
 outcome_of move = Plain
 
+-- The number of failed reads of the disc with this outcome.
 abbrev pub disc_reads_in : Outcome → ℕ
 disc_reads_in Plain = 0
 disc_reads_in DiscRead = 1
 disc_reads_in TapeRead = 0
 disc_reads_in Cut = 0
 
+-- The number of failed reads of tape with this outcome.
 abbrev pub tape_reads_in : Outcome → ℕ
 tape_reads_in Plain = 0
 tape_reads_in DiscRead = 0
 tape_reads_in TapeRead = 1
 tape_reads_in Cut = 0
 
+-- The number of failed writes with this outcome.
 abbrev pub cuts_in : Outcome → ℕ
 cuts_in Plain = 0
 cuts_in DiscRead = 0
@@ -122,6 +127,7 @@ is_dump (TakeLine tape outcome) = tape
 is_dump (Dumped outcome) = true
 is_dump move = false
 
+-- Whether the move is neither a dump step nor a PROCESS.
 abbrev pub not_dump : Move → Bool
 not_dump (TakeLine tape outcome) = not tape
 not_dump (Dumped outcome) = false
@@ -131,6 +137,7 @@ not_dump move = true
 abbrev pub cuts_of_calls : List Move → ℕ
 cuts_of_calls moves = counted cuts_in (filter not_dump moves)
 
+-- The number of failed writes in dump steps and in PROCESS.
 abbrev pub cuts_of_dumps : List Move → ℕ
 cuts_of_dumps moves = counted cuts_in (filter is_dump moves)
 
@@ -162,13 +169,16 @@ pub record Happened (disc_reads tape_reads calls dumps : ℕ) (disc_arms tape_ar
 abbrev pub EventCounted : Outcome → List ℕ → List ℕ → Devices → Devices → Type 0
 EventCounted o disc_arms tape_arms old new = Happened (disc_reads_in o) (tape_reads_in o) (cuts_in o) 0 disc_arms tape_arms old new
 
+-- The counts of a dump step with this outcome.
 abbrev pub DumpCounted : Outcome → Devices → Devices → Type 0
 DumpCounted o old new = Happened (disc_reads_in o) (tape_reads_in o) 0 (cuts_in o) [] [] old new
 
+-- The counts of a line with this outcome; the flag says whether it is a PROCESS.
 abbrev pub LineCounted : Bool → Outcome → List ℕ → List ℕ → Devices → Devices → Type 0
 LineCounted true o disc_arms tape_arms old new = Happened (disc_reads_in o) (tape_reads_in o) 0 (cuts_in o) disc_arms tape_arms old new
 LineCounted false o disc_arms tape_arms old new = EventCounted o disc_arms tape_arms old new
 
+-- The counts of these moves, in which the devices were armed with these numbers.
 abbrev pub MovesCounted : List Move → List ℕ → List ℕ → Devices → Devices → Type 0
 MovesCounted moves disc_arms tape_arms old new =
     Happened (counted disc_reads_in moves) (counted tape_reads_in moves) (cuts_of_calls moves) (cuts_of_dumps moves) disc_arms tape_arms old new

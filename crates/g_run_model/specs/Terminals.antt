@@ -30,10 +30,12 @@ pub data Piece : Type 0 where
   At : (number : ℕ) → (t : ℕ) → (added : List ℕ) → Piece
   Other : List ℕ → Piece
 
+-- The text of a piece; at a terminal each line has the terminal's mark.
 abbrev pub piece_text : Piece → List ℕ
 piece_text (At number t added) = shown_at t added
 piece_text (Other text) = text
 
+-- The text of pieces, one after another.
 abbrev pub text_of_pieces : List Piece → List ℕ
 text_of_pieces [] = []
 text_of_pieces (piece ∷ pieces) = piece_text piece ++ text_of_pieces pieces
@@ -42,6 +44,7 @@ text_of_pieces (piece ∷ pieces) = piece_text piece ++ text_of_pieces pieces
 abbrev pub IsJobFile : List ℕ → Type 0
 IsJobFile text = (j : JobState) × (last : List ℕ) × (j.terminal ≡ None) × (text ≡ j.monitor ++ last)
 
+-- The piece is one of a terminal's, or one of these.
 abbrev pub IsOther : Piece → Type 0
 IsOther (At number t added) = Unit {0}
 IsOther (Other text) = ((count : ℕ) × (what : List ℕ) × (text ≡ operator_line count what)) ⊎ (IsJobFile text ⊎ ((bad : Option ℕ) × (text ≡ closing bad)))
@@ -60,6 +63,7 @@ IsEnding (ending.MoneyUp units) = Unit {0}
 IsEnding ending.Full = Unit {0}
 IsEnding other = ⊥
 
+-- The text is a last line of a job's file: its ending, or BREAK, or the line of a job that still waits.
 abbrev pub IsLastLine : List ℕ → Type 0
 IsLastLine text = ((what : JobLine) × IsEnding what × (text ≡ job_line what)) ⊎ ((text ≡ codes "BREAK") ⊎ ((wants : Option ℕ) × (text ≡ waiting_line wants)))
 
@@ -74,14 +78,17 @@ abbrev pub is_number : ℕ → Option JobState → Bool
 is_number number None = false
 is_number number (Some j) = j.number == number
 
+-- The line that an operator's line types for the job, unless it is refused.
 abbrev pub typed_line : World → ℕ → Operator → List (List ℕ)
 typed_line w number (line.Typed t text) = if is_up w && is_number number (open_at t w.jobs) then text ∷ [] else []
 typed_line w number what = []
 
+-- The line that the next of these lines types for the job.
 abbrev pub typed_of : World → ℕ → List Timed → List (List ℕ)
 typed_of w number [] = []
 typed_of w number (next ∷ lines) = typed_line w number next.what
 
+-- The line that the move types for the job, if it takes a line.
 abbrev pub typed_by : World → Move → ℕ → List (List ℕ)
 typed_by w (TakeLine tape o) number = typed_of w number w.lines
 typed_by w move number = []

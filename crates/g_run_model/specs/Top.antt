@@ -49,6 +49,7 @@ module _ {F U : Type 0} (tariffs : Shared F (Bor Usage × Unit {0}) Charge) (tar
   abbrev pub EndsWhole : List Timed → Option ℕ → Devices → Devices → Option (List ℕ) → Option (List ℕ) → Type 0
   EndsWhole lines bad old new before after = (s : State) → StandFor old s → Ended lines bad s old new before after
 
+  -- The same for a run that was cut short.
   abbrev pub EndsShort : List Timed → Option ℕ → Devices → Devices → Option (List ℕ) → Option (List ℕ) → Type 0
   EndsShort lines bad old new before after = (s : State) → StandFor old s → CutShort lines bad s old new before after
 
@@ -58,6 +59,7 @@ module _ {F U : Type 0} (tariffs : Shared F (Bor Usage × Unit {0}) Charge) (tar
   IsCut left old new before after = ((new ≡ old) × (after ≡ before))
       ⊎ ((lines : List Timed) × (bad : Option ℕ) × IsParsed (lines_of left) lines bad × EndsShort lines bad old new before after)
 
+-- The line that is printed if the words of the command line aren't known.
 abbrev pub words_line : List ℕ
 words_line = ended (codes "WORDS NOT KNOWN")
 

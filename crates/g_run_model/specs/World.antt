@@ -72,16 +72,20 @@ has_reel s j = may s j.wants
 abbrev pub can_step : State → JobState → Bool
 can_step s j = has_reel s j && is_ready j
 
+-- The jobs that can step.
 abbrev pub able : World → List JobState
 able w = filter (can_step w.store) w.jobs
 
+-- Whether a dump is open.
 abbrev pub is_dumping : World → Bool
 is_dumping w = is_some w.store.open_dump
 
+-- Whether there are no jobs in the list.
 abbrev pub has_none : List JobState → Bool
 has_none [] = true
 has_none (j ∷ jobs) = false
 
+-- No dump is open, and no job can step.
 abbrev pub nothing_steps : World → Bool
 nothing_steps w = not (is_dumping w) && has_none (able w)
 
@@ -93,12 +97,15 @@ is_due w = due w.lines w.count
     due [] count = false
     due (line ∷ lines) count = nat_le line.turn count
 
+-- The job of this number, if there is one.
 abbrev pub job_of : World → ℕ → Option JobState
 job_of w number = find (λ j. j.number == number) w.jobs
 
+-- The jobs with this one in place of the one of its number.
 abbrev pub with_job : JobState → List JobState → List JobState
 with_job j jobs = map (λ k. if k.number == j.number then j else k) jobs
 
+-- The jobs without the one of this number.
 abbrev pub without_job : ℕ → List JobState → List JobState
 without_job number jobs = filter (λ j. not (j.number == number)) jobs
 
@@ -106,6 +113,7 @@ without_job number jobs = filter (λ j. not (j.number == number)) jobs
 abbrev pub shows : JobState → JobState → World → World
 shows old new w = record w { text = w.text ++ shown old new }
 
+-- A line for the operator is printed.
 abbrev pub says : List ℕ → World → World
 says what w = record w { text = w.text ++ operator_line w.count what }
 
@@ -118,6 +126,7 @@ goes_down what s w = record w {
   text = (w.text ++ operator_line w.count what) ++ broken_files w.jobs;
 }
 
+-- The system is down after a failed write, which is printed.
 abbrev pub system_stopped : State → World → World
 system_stopped s w = goes_down (codes "SYSTEM STOPPED") s w
 

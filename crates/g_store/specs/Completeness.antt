@@ -28,6 +28,7 @@ pub record NoDeviceFailed (disc : DiscState) (rack : Rack) (disc' : DiscState) (
   pub disc_writes : Rose disc.write_faults disc'.write_faults → ⊥
   pub tape_reads : Rose rack.read_faults rack'.read_faults → ⊥
 
+-- FORMAT, START and RESTORE, if refused although no fault counter rose and their own premises hold, ran out of memory.
 pub record MakingIsComplete : Type 0 where
   -- FORMAT on empty reels
   pub format : (disc : DiscState) (rack : Rack) (fault : StoreFault) (disc' : DiscState) (rack' : Rack) → first_used rack.reels ≡ None → NoDeviceFailed disc rack disc' rack'

@@ -15,11 +15,13 @@ use Rattle.g_store_meaning.specs.StoreInvariant.{DumpFacts, StoreFacts, content_
 use Rattle.g_dumper.specs.Beginning.{Begins, IsTooLong, StoppedOpening}
 use Rattle.g_dumper.specs.Steps.{Stepping}
 
+-- The new store has an open dump, which `Begins` describes.
 pub record OpensAs (serial : ℕ) (old new : StoreFacts) : Type 0 where
   pub dump : DumpFacts
   pub dump_is : new.dump ≡ Some dump
   pub begins : Begins serial old.online old.rack dump new.online new.rack
 
+-- If the opening is granted, the dump is opened so.
 abbrev pub OpensDump : ℕ → StoreFacts → Result ℕ StoreFault → StoreFacts → Type 0
 OpensDump serial old answer new = OnOk answer (OpensAs serial old new)
 

@@ -74,10 +74,12 @@ pub record Opens (serial : ℕ) (old : StoreFacts) (answer : Result ℕ StoreFau
 abbrev pub IsStepOfDump : State → Holding → Outcome → Result Stepped StoreFault → State → Type 0
 IsStepOfDump s k o answer new = (d : OpenDump) × (s.open_dump ≡ Some d) × DumpStep s k d o answer new
 
+-- The number of commits of a dump step: one if it completes the dump.
 abbrev pub commits_of_step : Stepped → ℕ
 commits_of_step Going = 0
 commits_of_step (Completed number) = 1
 
+-- How a step of the open dump is answered.
 abbrev pub StepsDump : StoreFacts → Result Stepped StoreFault → StoreFacts → Type 0
 StepsDump old answer new = AnswersEvent IsStepOfDump commits_of_step old answer new
 
@@ -109,6 +111,7 @@ pub record Mounts (serial : ℕ) (old : StoreFacts) (answer : Result (Unit {0}) 
   pub event : AnswersEvent (λ s k o a n. MountStep s serial a n) (λ reply. 0) old answer new
   pub exact : DoneOr (mount_refuses serial old) (record old { rack = changed serial (with_mounted true) old.rack }) old answer new
 
+-- Unmounting changes only that reel.
 pub record Unmounts (serial : ℕ) (old : StoreFacts) (answer : Result (Unit {0}) StoreFault) (new : StoreFacts) : Type 0 where
   pub event : AnswersEvent (λ s k o a n. UnmountStep s serial a n) (λ reply. 0) old answer new
   pub exact : DoneOr (unmount_refuses serial old) (record old { rack = changed serial (with_mounted false) old.rack }) old answer new

@@ -52,6 +52,7 @@ Risen DiscRead disc rack disc' rack' = Rose disc.read_faults disc'.read_faults
 Risen TapeRead disc rack disc' rack' = Rose rack.read_faults rack'.read_faults
 Risen Cut disc rack disc' rack' = Rose disc.write_faults disc'.write_faults
 
+-- The devices then represent a state, which the step makes of the previous one, with an outcome whose counter rose.
 pub record LeadsDown {A : Type 0} (by : State → Outcome → Result A StoreFault → State → Type 0) (before : State) (disc : DiscState) (rack : Rack) (fault : StoreFault) (disc' : DiscState) (rack' : Rack) : Type 0 where
   pub after : State
   pub left : DevicesStandFor disc'.size disc'.held (told_reels rack') after
@@ -59,6 +60,7 @@ pub record LeadsDown {A : Type 0} (by : State → Outcome → Result A StoreFaul
   pub raised : Risen outcome disc rack disc' rack'
   pub step : by before outcome (Err fault) after
 
+-- Out of memory, the devices represent the previous state; any other refusal is the step's.
 abbrev pub StepsDown : {A : Type 0} → (State → Outcome → Result A StoreFault → State → Type 0) → State → DiscState → Rack → StoreFault → DiscState → Rack → Type 0
 StepsDown by before disc rack NoMemory disc' rack' = DevicesStandFor disc'.size disc'.held (told_reels rack') before
 StepsDown by before disc rack fault disc' rack' = LeadsDown by before disc rack fault disc' rack'
@@ -79,6 +81,7 @@ pub record Refuses {A : Type 0} (given : Type 0) (by : State → Outcome → Res
 abbrev pub new_holding : Holding
 new_holding = record { tree = formatted; places = empty; last = 0; intent = None; kept = empty }
 
+-- The contents are those of a new filestore, for any texts.
 abbrev pub IsNew : Contents → Type 0
 IsNew c = (text : ℕ → List ℕ) → holding_of text [] c ≡ new_holding
 
@@ -120,12 +123,14 @@ IsOfStart Stopped = Unit {0}
 IsOfStart NoMemory = Unit {0}
 IsOfStart fault = ⊥
 
+-- START made the store. The reel of its intent is mounted.
 pub record Begun (disc : DiscState) (rack : Rack) (adopted : Option ℕ) (new : StoreFacts) : Type 0 where
   pub makes : Makes (Belong disc.held rack) StartStep commits_of_start disc rack adopted new
   pub intent : IfSome new.online.contents.head.intent (λ i. is_mounted (reel i.serial rack.reels) ≡ true)
   -- what the disc holds, unchanged or with the dump of its intent adopted, whether or not disc and rack belong together
   pub loaded : (o : OnlineFacts) × HasLoaded disc o × Takes o rack (Ok adopted) new.online
 
+-- Why START made no store. `MountFirst` names the reel of the intent, which isn't mounted.
 pub record RefusesStart (disc : DiscState) (rack : Rack) (fault : StoreFault) (disc' : DiscState) (rack' : Rack) : Type 0 where
   pub refuses : Refuses (Belong disc.held rack) StartStep disc rack fault disc' rack'
   pub first : (serial : ℕ) → fault ≡ MountFirst serial → is_mounted (reel serial rack.reels) ≡ false

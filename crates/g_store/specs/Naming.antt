@@ -22,6 +22,7 @@ pub record IsNamedBy (path : Path) (full : Full) (tree : Tree) : Type 0 where
   pub full_is : full ≡ input_name tree [] path
   pub granted : naming_refuses tree path ≡ None
 
+-- The file of this number has this name, and the operator's path names it.
 pub record IsNamedFile (users : List UserRec) (files : List FileRec) (path : Path) (number : ℕ) (full : Full) : Type 0 where
   pub rules : IsRecords users files
   pub rec : FileRec

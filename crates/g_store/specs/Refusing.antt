@@ -31,13 +31,16 @@ abbrev pub number_in : Option DumpFacts → ℕ
 number_in None = 0
 number_in (Some d) = d.plan.number
 
+-- Whether the open dump is on this reel.
 abbrev pub is_on : ℕ → Option DumpFacts → Bool
 is_on serial None = false
 is_on serial (Some d) = d.plan.serial == serial
 
+-- The refusal of a mount, if any: the reel isn't in the rack.
 abbrev pub mount_refuses : ℕ → StoreFacts → Option StoreFault
 mount_refuses serial s = first_fault ((is_none (reel serial s.rack.reels), NoTape) ∷ [])
 
+-- The first refusal of an unmount that applies, in their order.
 abbrev pub unmount_refuses : ℕ → StoreFacts → Option StoreFault
 unmount_refuses serial s = first_fault (
     (is_none (reel serial s.rack.reels), NoTape)
@@ -67,6 +70,7 @@ needs_now o =
     let files = filter (λ r. holds o.changed r.owner) (recs_in o.contents) in
     2 + length o.contents.users + length files + blocks_of (waiting files)
 
+-- The capacity of the reel in blocks, or 0 if it doesn't exist.
 abbrev pub capacity_of : Option Reel → ℕ
 capacity_of None = 0
 capacity_of (Some r) = r.capacity

@@ -46,9 +46,11 @@ NamesNone i rack = ForSome (blocks_of i.serial rack) (λ blocks. (dumps : List D
 abbrev pub has_empty : List FileRec → ℕ → Bool
 has_empty files stamp = list_any (λ r. (r.stamp == stamp) && (r.len == 0)) files
 
+-- The copy that a dump's record names, by stamp, unless an empty file has the stamp.
 abbrev pub copy_named : List FileRec → FileRec → List (ℕ × TapeCopy)
 copy_named files r = if has_empty files r.stamp then [] else copy_entry r.stamp r.tape
 
+-- The copies that these records of a dump name, by stamp, except those of empty files.
 abbrev pub copies_named : List FileRec → List FileRec → List (ℕ × TapeCopy)
 copies_named files dumped = flat_map (copy_named files) dumped
 
@@ -56,6 +58,7 @@ copies_named files dumped = flat_map (copy_named files) dumped
 abbrev pub adoption : ℕ → List FileRec → OnlineFacts → Change
 adoption number dumped o = Adopt number (copies_named (recs_in o.contents) dumped)
 
+-- The dump was adopted by one commit, or that was stopped, or memory ran out and nothing has changed.
 pub record Adopts (number : ℕ) (dumped : List FileRec) (old : OnlineFacts) (result : Result (Unit {0}) StoreFault) (new : OnlineFacts) : Type 0 where
   pub ok : OnOk result (HasChanged (adoption number dumped old) old new)
   pub stopped : result ≡ Err Stopped → HasStopped (adoption number dumped old) old new
@@ -83,6 +86,7 @@ pub record TakesNamed (old : OnlineFacts) (rack : Rack) (Leaves : Change → Typ
   pub found : HasNamed intent rack files
   pub leaves : Leaves (adoption intent.number files old)
 
+-- How adopting the dump of the intent is answered, by each answer.
 abbrev pub Takes : OnlineFacts → Rack → Result (Option ℕ) StoreFault → OnlineFacts → Type 0
 Takes old rack (Ok None) new = TakesNone old rack new
 Takes old rack (Ok (Some number)) new = (taken : TakesNamed old rack (λ change. HasChanged change old new)) × (number ≡ taken.intent.number)

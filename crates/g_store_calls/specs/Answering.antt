@@ -10,6 +10,7 @@ use Rattle.g_store_meaning.specs.Answers.{Answers, IsStore}
 use Rattle.g_store_meaning.specs.StoreInvariant.{DumpFacts, StoreFacts}
 use Rattle.g_migrate.specs.Invariant.{with_online}
 
+-- Every store with this filestore that isn't spent answers the call so, with the new filestore in place of its own.
 abbrev pub AnswersIn : List ℕ → StoreCall → OnlineFacts → Result StoreReply StoreFault → OnlineFacts → Type 0
 AnswersIn who call old answer new = (s : StoreFacts) → s.online ≡ old → s.spent ≡ false → IsStore s → Answers s who call answer (with_online new s)
 
@@ -17,6 +18,7 @@ AnswersIn who call old answer new = (s : StoreFacts) → s.online ≡ old → s.
 abbrev pub KeepsPlan : Option DumpFacts → Type 0
 KeepsPlan dump = IfSome dump (λ d. IsPlan d.plan)
 
+-- The store with this filestore and this rack in place of its own. It is spent once a write has failed.
 abbrev pub with_devices : OnlineFacts → Rack → StoreFacts → StoreFacts
 with_devices o rack s = record s { online = o; rack = rack; spent = not o.live }
 

@@ -9,6 +9,8 @@ use Rattle.g_disc_contents.specs.Facts.{IsTied, OnlineFacts}
 use Rattle.g_online.specs.declared.change.Change.{Change}
 use Rattle.g_online.specs.Outcomes.{HasChanged, HasStopped}
 
+-- How a store makes a change of records: completely by one commit, or stopped at one of its writes, or not at all because
+-- memory ran out.
 pub record HasApplied (change : Change) (old new : OnlineFacts) (result : Result (Unit {0}) StoreFault) : Type 0 where
   pub ok : OnOk result (HasChanged change old new)
   pub stopped : result ≡ Err Stopped → HasStopped change old new

@@ -47,6 +47,7 @@ pub record IsStarved (old new : OnlineFacts) (before after : Rack) (result : Res
   pub online : new ≡ old
   pub rack : after ≡ before
 
+-- How bringing back the file of this number is answered, if it is only on tape.
 abbrev pub HasComeBack : ℕ → OnlineFacts → OnlineFacts → Rack → Rack → Result (List ℕ) StoreFault → Type 0
 HasComeBack number old new before after result =
     (f : File) (c : TapeCopy) → IsOnTape number old f c → IsStarved old new before after result ⊎ ComesBack number f c old new before after result

@@ -14,6 +14,7 @@ use Rattle.g_disc_contents.specs.Facts.{OnlineFacts}
 use Rattle.g_store_calls.specs.Answering.{AnswersIn, AnswersOver}
 use Rattle.g_store_calls.specs.Replies.{RefusesAs}
 
+-- The call isn't refused by users and files, and names this file.
 pub record Grants (o : OnlineFacts) (who : List ℕ) (call : StoreCall) (granted : Granted) : Type 0 where
   pub allowed : RefusesAs o.contents.users (recs_in o.contents) o.contents.head.next_stamp who call None
   pub file : ForTree o.contents.users (recs_in o.contents) (λ t. IsGranted o.contents.users (recs_in o.contents) (name_in t who call) granted)
@@ -27,6 +28,7 @@ GrantsOne o granted call = (who : List ℕ) × Grants o who call granted
 abbrev pub AnswersGranted : OnlineFacts → Granted → Result StoreReply StoreFault → OnlineFacts → StoreCall → Type 0
 AnswersGranted old granted answer new call = (who : List ℕ) → Grants old who call granted → AnswersIn who call old answer new
 
+-- The same for a call that adds bytes or brings them back, on disc and rack.
 abbrev pub AnswersGrantedOver : OnlineFacts → Rack → Granted → Result StoreReply StoreFault → OnlineFacts → Rack → StoreCall → Type 0
 AnswersGrantedOver old rack granted answer new after call = (who : List ℕ) → Grants old who call granted → AnswersOver who call old rack answer new after
 
@@ -37,10 +39,12 @@ names_none (Budget user kind amount) = true
 names_none (ListFiles user) = true
 names_none call = false
 
+-- The call that names a file for output.
 abbrev pub names_output : StoreCall → Bool
 names_output (Put path bytes) = true
 names_output call = false
 
+-- The calls that name a file for input.
 abbrev pub names_input : StoreCall → Bool
 names_input (NewUser user space time money) = false
 names_input (Budget user kind amount) = false

@@ -11,6 +11,7 @@ use Rattle.g_plain.specs.PlainStep.{fault_of}
 use Rattle.g_plain.specs.PlainTree.{lengths}
 use Rattle.g_tree.specs.Records.{HasLengths, by_number, full_of, tree_of}
 
+-- The call is refused for this reason, or not, exactly as the plain step says of every tree that the records represent.
 abbrev pub RefusesAs : List UserRec → List FileRec → ℕ → List ℕ → StoreCall → Option StoreFault → Type 0
 RefusesAs users files next who call refusal = (bytes : FileRec → List ℕ) → HasLengths files bytes → refusal ≡ fault_of (tree_of users files bytes next) who call
 
@@ -23,6 +24,7 @@ abbrev pub row_by : List UserRec → Option FileRec → Full × ℕ
 row_by users None = (record { user = []; local = []; generation = 0; lang = [] }, 0)
 row_by users (Some r) = (full_of users r, r.len)
 
+-- The name and the length of the file of this number.
 abbrev pub row_of : List UserRec → List FileRec → ℕ → Full × ℕ
 row_of users files number = row_by users (get (by_number files) number)
 

@@ -27,6 +27,7 @@ pub record HasRoom (need : ℕ) (o : OnlineFacts) (take : List ℕ) (room : ℕ)
   pub plan : IsUnjamPlan need o take room
   pub enough : need ≤ room
 
+-- The version was put: enough room was reached by a plan, and no write failed.
 pub record HasPut (r : FileRec) (bytes : List ℕ) (old new : OnlineFacts) : Type 0 where
   pub take : List ℕ
   pub room : ℕ
@@ -34,6 +35,7 @@ pub record HasPut (r : FileRec) (bytes : List ℕ) (old new : OnlineFacts) : Typ
   pub done : HasChanged (PutFile r bytes take) old new
   pub causes : Causes ⊥ ⊥ old.disc new.disc
 
+-- The putting was stopped at a write, after enough room was reached by a plan.
 pub record HasStoppedPut (r : FileRec) (bytes : List ℕ) (old new : OnlineFacts) : Type 0 where
   pub take : List ℕ
   pub room : ℕ
@@ -49,6 +51,7 @@ pub record IsFull (bytes : List ℕ) (old new : OnlineFacts) (need room : ℕ) :
   pub plan : IsUnjamPlan (blocks_for (length bytes)) old take room
   pub short : room < blocks_for (length bytes)
 
+-- What creating the version does, by its answer.
 abbrev pub Makes : FileRec → List ℕ → OnlineFacts → OnlineFacts → Result (Unit {0}) StoreFault → Type 0
 Makes r bytes old new (Ok u) = HasPut r bytes old new
 Makes r bytes old new (Err Stopped) = HasStoppedPut r bytes old new

@@ -56,6 +56,7 @@ HasRoom (Some turn) s = turn ≤ 1000000000
 abbrev pub IsAtRest : World → Type 0
 IsAtRest w = (is_due w ≡ true) ⊎ (nothing_steps w ≡ true)
 
+-- No condition.
 abbrev pub Anything : World → Type 0
 Anything w = Unit {0}
 
@@ -169,6 +170,7 @@ module _ {F U : Type 0} (tariffs : Shared F (Bor Usage × Unit {0}) Charge) (tar
     pub other : IsOther next.lines
     pub text : HasGrown (with_more before added) after
 
+  -- `Misses`, from each world that matches what is at hand with a new disc.
   abbrev pub PartMisses : List Timed → Seen → Seen → Option (List ℕ) → Option (List ℕ) → Type 0
   PartMisses lines old new before after = (w : World) → Matches w (beside old) → IsBetween w → w.lines ≡ lines → Misses w old new before after
 

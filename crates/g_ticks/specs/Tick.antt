@@ -48,6 +48,7 @@ abbrev pub reel_there : Rack → Option ℕ → Bool
 reel_there rack None = true
 reel_there rack (Some serial) = is_mounted (reel serial rack.reels)
 
+-- Whether the job can step.
 abbrev pub may_step : Rack → JobState → Bool
 may_step rack j = reel_there rack j.wants && is_ready j
 
@@ -55,17 +56,21 @@ may_step rack j = reel_there rack j.wants && is_ready j
 abbrev pub share_in : Rack → JobState → ℕ
 share_in rack j = (j.allowance - j.used) + (if may_step rack j then 1 else 0)
 
+-- The number of blocks that the open dump still needs, plus one, or 0.
 abbrev pub dump_left : SystemFacts → ℕ
 dump_left (Up s) = elim s.dump [ None ↦ 0 | Some d ↦ needs d.plan - d.done + 1 ]
 dump_left (Down d) = 0
 
+-- All that is left to do, by the jobs and the open dump.
 abbrev pub left : Seen → ℕ
 left seen = sum_by (share_in (devices_in seen.system).rack) seen.crew.jobs + dump_left seen.system
 
+-- Whether a dump is open.
 abbrev pub has_dump : SystemFacts → Bool
 has_dump (Up s) = elim s.dump [ None ↦ false | Some d ↦ true ]
 has_dump (Down d) = false
 
+-- Whether some job can step.
 abbrev pub some_job_steps : Seen → Bool
 some_job_steps seen = not (has_none (filter (may_step (devices_in seen.system).rack) seen.crew.jobs))
 
@@ -110,6 +115,7 @@ pub record StepsNothing (w : World) (old new : SystemFacts) (next : World) (adde
   pub same : new ≡ old
   pub text : added ≡ []
 
+-- The dump's part of a tick was done, or no dump is open.
 abbrev pub DumpComes : World → SystemFacts → SystemFacts → World → List ℕ → Type 0
 DumpComes w old new next added = StepsNothing w old new next added ⊎ StepsTo w old new next added
 

@@ -73,6 +73,7 @@ abbrev pub left_by : Bool → StoreFacts → SystemFacts
 left_by true s = Down (record { disc = s.online.disc; rack = s.rack })
 left_by false s = Up s
 
+-- The system after a tick, from its store: down if the store is spent, otherwise up.
 abbrev pub left_of : StoreFacts → SystemFacts
 left_of s = left_by s.spent s
 
@@ -106,6 +107,7 @@ module _ {F : Type 0} (tariffs : Shared F (Bor Usage × Unit {0}) Charge) (tarif
     pub put : after ≡ before
     pub cause : faults' ≡ faults
 
+  -- A turn was taken, or only its first part because memory ran out.
   abbrev pub Takes : StoreFacts → CrewState → ℕ → ℕ → Option Failure → SystemFacts → CrewState → Option (List ℕ) → Option (List ℕ) → ℕ → ℕ → Type 0
   Takes old c count number failure system c' before after faults faults' =
       TookTurn old c count number failure system c' before after faults faults' ⊎ TookPart old c number failure system before after faults faults'

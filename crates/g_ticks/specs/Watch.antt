@@ -8,6 +8,7 @@ use Rattle.g_store_meaning.specs.StoreInvariant.{StoreFacts}
 use Rattle.g_job_table.specs.Accounts.{HaveAccounts}
 use Rattle.g_job_table.specs.Crew.{CrewState}
 
+-- A store that is up, and whether it was used.
 pub record WatchedFacts : Type 0 where
   pub running : StoreFacts
   pub asked : Bool
