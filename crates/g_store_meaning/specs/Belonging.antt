@@ -32,7 +32,8 @@ pub record IsPlaced (shelf : ℕ → List Dump) (reels : List Reel) (last : ℕ)
   pub number : i.number ≡ last + 1
   pub place : i.place ≡ end_of (filter (λ d. nat_le d.number last) (shelf i.serial))
 
--- `text` gives the bytes of every version, by stamp.
+-- Completed dumps agree with each other: their numbers are distinct, and stamps don't fall from one dump to a newer one. If there are any,
+-- together they give a tree, and every copy that its records name is in a completed dump. `text` is the content of each version, by its stamp.
 pub record RackBelongs (text : ℕ → List ℕ) (dumps : List Dump) : Type 0 where
   pub apart : (d e : Dump) → Contains dumps d → Contains dumps e → d.number ≡ e.number → d ≡ e
   pub rising : (d e : Dump) → Contains dumps d → Contains dumps e → d.number ≤ e.number → d.next ≤ e.next
@@ -40,7 +41,9 @@ pub record RackBelongs (text : ℕ → List ℕ) (dumps : List Dump) : Type 0 wh
   pub tree : (d : Dump) → Contains dumps d → DumpedDirectory dumps
   pub records : (t : DumpedDirectory dumps) → All (λ r. KeepsRecord (text r.stamp) dumps r) (files_in t)
 
--- `shelf` has the completed dumps of each reel, by serial.
+-- A disc agrees with the completed dumps: each file's bytes on disc and its copy on tape are the content of its stamp. No dump has a number
+-- above the disc's last one, except the one that its intent names; that last dump exists; no stamp on tape is above the disc's next one.
+-- `shelf` is the list of completed dumps of each reel, by serial.
 pub record DiscBelongs (text : ℕ → List ℕ) (shelf : ℕ → List Dump) (reels : List Reel) (c : Contents) : Type 0 where
   pub files : All (λ f. KeepsFile (text f.rec.stamp) (all_dumps shelf reels) f) c.files
   pub numbers : (d : Dump) → Contains (all_dumps shelf reels) d
@@ -49,15 +52,17 @@ pub record DiscBelongs (text : ℕ → List ℕ) (shelf : ℕ → List Dump) (re
   pub stamps : (d : Dump) → Contains (all_dumps shelf reels) d → d.next ≤ c.head.next_stamp
   pub intent : IfSome c.head.intent (IsPlaced shelf reels c.head.last_dump)
 
--- A disc and reels belong together. The conditions on the disc apply if it represents something.
+-- A DISC AND REELS BELONG TOGETHER: they agree about the content of every version, the completed dumps agree with each other, and, if the disc
+-- holds a filestore, it agrees with them about files, dump numbers, stamps and the intent.
 pub record BelongWith (held : Option (List (List ℕ))) (reels : List Reel) : Type 0 where
-  -- the bytes of every version on disc or tape, by stamp; below, the completed dumps of each reel, by serial
+  -- the content of every version on disc or tape, by stamp
   pub text : ℕ → List ℕ
+  -- the completed dumps of each reel, by serial
   pub shelf : ℕ → List Dump
   pub shelved : AreShelved shelf reels
   pub rack : RackBelongs text (all_dumps shelf reels)
   pub disc : (blocks : List (List ℕ)) (c : Contents) → held ≡ Some blocks → Holds blocks c → DiscBelongs text shelf reels c
 
--- Disc and rack belong together.
+-- The same of what a disc holds and a rack, if their blocks are exposed.
 abbrev pub Belong : Option (List (List ℕ)) → Rack → Type 0
 Belong held rack = BelongWith held (told_reels rack)
