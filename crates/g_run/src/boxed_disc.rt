@@ -2,7 +2,7 @@
 use g_base::{Block, ReadFailed, WriteFailed};
 use g_disc::Disc;
 
-/// A disc in a box. A system that is down holds its devices themselves, and is handed on by value: so what moves is a pointer.
+/// A disc in a box. A system that is down holds its devices themselves and is passed on by value, so that only a pointer moves.
 #[derive(Drop)]
 pub(crate) struct BoxedDisc<D: Disc> {
     pub(crate) disc: Box<D>,

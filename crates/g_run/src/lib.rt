@@ -1,4 +1,4 @@
-//! The run: a script read whole, its lines done when they are due, a tick as long as something can step, and its text put.
+//! The run: a script is read whole, its lines are done when they are due, the system ticks as long as something can step, and the text is printed.
 #![tactic(auto)]
 
 mod boxed_disc;

@@ -25,7 +25,7 @@ use g_tape::Tapes;
 use g_ticks::{Rules, tick_until_due};
 use std::alloc::{AllocFailed, Global};
 
-/// Both devices behind a script, and why it was cut short, if it was.
+/// Both devices after a script, and the failure that cut it short, if one did.
 #[derive(Drop)]
 pub(crate) struct ScriptEnd<D: Disc, T: Tapes> {
     pub(crate) disc: D,
@@ -75,8 +75,8 @@ pub(crate) fn run_script<
     }
 }
 
-/// The same over devices that are put into boxes for it: a run hands its system on at every line, and of a system that is down
-/// then two pointers move, and the list of what is known of the reels. Without memory for the boxes nothing is done.
+/// The same on devices that it moves into boxes: a run passes its system on at every line, so that for a system that is down only
+/// two pointers and the list of known reels move. If memory for the boxes runs out, nothing is done.
 pub(crate) fn run_boxed<
     K: Sink,
     D: Disc,
@@ -109,7 +109,7 @@ pub(crate) fn run_boxed<
     }
 }
 
-/// Both devices in boxes; without memory for them they come back as they are.
+/// Moves both devices into boxes. If memory for these runs out, it returns the devices unchanged.
 fn in_boxes<D: Disc, T: Tapes>(
     alloc: Global,
     devices: (D, T),
@@ -128,7 +128,7 @@ fn in_boxes<D: Disc, T: Tapes>(
     }
 }
 
-/// The end of a script, with the devices out of their boxes.
+/// The end of a script, with the devices moved out of their boxes.
 fn unboxed<D: Disc, T: Tapes>(over: ScriptEnd<BoxedDisc<D>, BoxedTapes<T>>) -> ScriptEnd<D, T>
     ensures disc { D.state result.disc ≡ D.state over.disc.disc.value }
     ensures tapes { T.rack result.tapes ≡ T.rack over.tapes.tapes.value }
@@ -177,8 +177,8 @@ fn run_lines<K: Sink, D: Disc, T: Tapes, F: Fn(&Usage) -> Charge, U: Fn(&Standin
     }
 }
 
-/// Puts what stands at the end of a run, if it came to it: the files of unfinished jobs, and the bad line of the script, if there
-/// is one.
+/// Prints the end of a run: the files of unfinished jobs, and the bad line of the script, if there is one. After a failure it prints
+/// nothing and returns that failure.
 fn close<K: Sink>(
     alloc: Global,
     crew: &Crew,
@@ -209,7 +209,7 @@ fn end_text(alloc: Global, crew: &Crew, bad: Option<u64>) -> Result<Text, NoMemo
     Ok(text)
 }
 
-/// Both devices of a day whose run is over.
+/// Takes the system down, and returns both devices.
 fn taken_down<D: Disc, T: Tapes>(day: Day<D, T>) -> (D, T)
     ensures { TakenDown day.system (both (D.state result.0) (T.rack result.1)) }
 {

@@ -45,7 +45,7 @@ pub(crate) fn do_lines<
     ended
 }
 
-/// Ticks until the line is due or nothing can step, and then does it.
+/// Ticks until the line is due or nothing can step, and then does the line; nothing happens after it. A failure ends it earlier.
 fn next_line<K: Sink, D: Disc, T: Tapes, F: Fn(&Usage) -> Charge, U: Fn(&Standing) -> u64>(
     alloc: Global,
     next: Timed,
