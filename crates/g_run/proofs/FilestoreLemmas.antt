@@ -19,7 +19,7 @@ use Rattle.g_day.specs.declared.progress.Failure.{Failure}
 use Rattle.g_run.specs.Top.{EndsBy}
 
 -- the state that such devices represent
-state_there : (d : Devices) → BelongTogether d → HasFilestore d → (s : State) × StandFor d s
+pub state_there : (d : Devices) → BelongTogether d → HasFilestore d → (s : State) × StandFor d s
 state_there d both has =
     let (s, reads) = have_states.devices d.disc.size d.disc.held (told_reels d.rack) (Some has.contents)
     (record { are = (has.blocks, has.held, has.holds); none = λ no. absurd (let never : ⊥ = cc in never) }) both.belong in

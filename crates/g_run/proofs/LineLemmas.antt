@@ -1,5 +1,5 @@
 -- A line after the ticks that precede it, and lines in sequence.
--- serves: do_lines, next_line, run_lines
+-- serves: do_lines, next_line, run_lines, NextLemmas
 use Rattle.std.proofs.Common.{◌≡◌, ◌⊎◌, ◌≤◌, ◌++◌, ℕ, Bool, true, false, List, [], ◌∷◌, Option, Some, None, is_some, append_assoc, append-nil, refl, sym, ◌∙◌, subst, inl, inr, arith}
 use Rattle.std.proofs.lemmas.Option.{none-some}
 use Rattle.std.proofs.lemmas.List.Elements.{All-cons, All-head, All-nil, All-pop}
@@ -70,10 +70,10 @@ due_parts most done next due = All-pop (λ (t : Timed). t.turn ≤ most) (done +
 
 module _ {F U : Type 0} (tariffs : Shared F (Bor Usage × Unit {0}) Charge) (tariff : F) (rules : Shared U (Bor Standing × Unit {0}) ℕ) (rule : U) where
   -- the world before the line's step
-  abbrev without : List Timed → World → World
+  abbrev pub without : List Timed → World → World
   without rest w = record w { lines = rest }
 
-  matches_without : (w : World) (rest : List Timed) (s : Seen) → Matches w s → Matches (without rest w) s
+  pub matches_without : (w : World) (rest : List Timed) (s : Seen) → Matches w s → Matches (without rest w) s
   matches_without w rest s m = record {
     stands = m.stands;
     crew = record { jobs = m.crew.jobs; accounts = m.crew.accounts; next_job = m.crew.next_job };
@@ -81,7 +81,7 @@ module _ {F U : Type 0} (tariffs : Shared F (Bor Usage × Unit {0}) Charge) (tar
   }
 
   -- the line is a move
-  line_leads : (w : World) (next : Timed) (rest : List Timed) → IsBetween w → IsAtRest w → w.lines ≡ next ∷ rest → (old new : SystemFacts) (added : List ℕ) (d : DoesLine next.what (without rest w) old new added)
+  pub line_leads : (w : World) (next : Timed) (rest : List Timed) → IsBetween w → IsAtRest w → w.lines ≡ next ∷ rest → (old new : SystemFacts) (added : List ℕ) (d : DoesLine next.what (without rest w) old new added)
       → Leads tariffs tariff rules rule w old new (TakeLine (is_process next.what) d.outcome ∷ []) d.next added
   line_leads w next rest between due is old new added d =
       let left = line_leaves d.outcome next.what (without rest w) d.next d.gives in record {

@@ -78,7 +78,7 @@ taken_beside : (f : SystemFacts) (new : Devices) → TakenDown f new → IsBlank
 taken_beside (Up s) new is blank = absurd blank
 taken_beside (Down d) new is blank = subst (λ (x : Devices). TakenDown (Down (with_new_disc d)) (with_new_disc x)) (sym is.devices) (down_taken_down (with_new_disc d))
 
-belongs_of : (f : SystemFacts) → SystemBelongs f → BelongTogether (devices_in f)
+pub belongs_of : (f : SystemFacts) → SystemBelongs f → BelongTogether (devices_in f)
 belongs_of (Up s) is = record { told = is.0; belong = is.1.devices }
 belongs_of (Down d) is = is
 

@@ -27,10 +27,10 @@ use std::alloc::{AllocFailed, Global};
 
 /// Both devices after a script, and the failure that cut it short, if one did.
 #[derive(Drop)]
-pub(crate) struct ScriptEnd<D: Disc, T: Tapes> {
-    pub(crate) disc: D,
-    pub(crate) tapes: T,
-    pub(crate) failure: Option<Failure>,
+pub struct ScriptEnd<D: Disc, T: Tapes> {
+    pub disc: D,
+    pub tapes: T,
+    pub failure: Option<Failure>,
 }
 
 /// Does a script over devices under no store, and takes the system down again.
@@ -110,7 +110,7 @@ pub(crate) fn run_boxed<
 }
 
 /// Moves both devices into boxes. If memory for these runs out, it returns the devices unchanged.
-fn in_boxes<D: Disc, T: Tapes>(
+pub fn in_boxes<D: Disc, T: Tapes>(
     alloc: Global,
     devices: (D, T),
 ) -> Result<(BoxedDisc<D>, BoxedTapes<T>), (D, T)>
@@ -129,7 +129,7 @@ fn in_boxes<D: Disc, T: Tapes>(
 }
 
 /// The end of a script, with the devices moved out of their boxes.
-fn unboxed<D: Disc, T: Tapes>(over: ScriptEnd<BoxedDisc<D>, BoxedTapes<T>>) -> ScriptEnd<D, T>
+pub fn unboxed<D: Disc, T: Tapes>(over: ScriptEnd<BoxedDisc<D>, BoxedTapes<T>>) -> ScriptEnd<D, T>
     ensures disc { D.state result.disc ≡ D.state over.disc.disc.value }
     ensures tapes { T.rack result.tapes ≡ T.rack over.tapes.tapes.value }
     ensures failure { result.failure ≡ over.failure }
@@ -179,7 +179,7 @@ fn run_lines<K: Sink, D: Disc, T: Tapes, F: Fn(&Usage) -> Charge, U: Fn(&Standin
 
 /// Prints the end of a run: the files of unfinished jobs, and the bad line of the script, if there is one. After a failure it prints
 /// nothing and returns that failure.
-fn close<K: Sink>(
+pub fn close<K: Sink>(
     alloc: Global,
     crew: &Crew,
     bad: Option<u64>,
@@ -210,7 +210,7 @@ fn end_text(alloc: Global, crew: &Crew, bad: Option<u64>) -> Result<Text, NoMemo
 }
 
 /// Takes the system down, and returns both devices.
-fn taken_down<D: Disc, T: Tapes>(day: Day<D, T>) -> (D, T)
+pub fn taken_down<D: Disc, T: Tapes>(day: Day<D, T>) -> (D, T)
     ensures { TakenDown day.system (both (D.state result.0) (T.rack result.1)) }
 {
     let Day { system, .. } = day;

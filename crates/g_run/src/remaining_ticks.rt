@@ -9,7 +9,7 @@ use g_tape::Tapes;
 
 /// States that at most this many ticks of work remain: 64 jobs have at most 1,000,000 units each, and an open dump has fewer than 2^32
 /// blocks. Nothing is done.
-pub(crate) fn remaining_ticks_fit<D: Disc, T: Tapes>(day: &Day<D, T>)
+pub fn remaining_ticks_fit<D: Disc, T: Tapes>(day: &Day<D, T>)
     ensures { left day.now ≤ 4358967360 }
 {
     let _jobs = day.crew.jobs();

@@ -167,8 +167,8 @@ pub fn george<
     }
 }
 
-/// Nothing was done.
-fn not_begun<D: Disc, T: Tapes>(status: Status, disc: D, tapes: T) -> Finish<D, T>
+/// The end of a run that did nothing, with this status; both devices are returned unchanged.
+pub fn not_begun<D: Disc, T: Tapes>(status: Status, disc: D, tapes: T) -> Finish<D, T>
     ensures made { result ≡ record { status = status; disc = disc; tapes = tapes } }
     ensures fuses { AreFused (both (D.state disc) (T.rack tapes)) }
 {
@@ -181,7 +181,7 @@ fn not_begun<D: Disc, T: Tapes>(status: Status, disc: D, tapes: T) -> Finish<D, 
 }
 
 /// States what the fuse of each device is; nothing is done.
-fn tell_fuses<D: Disc, T: Tapes>(disc: &D, tapes: &T)
+pub fn tell_fuses<D: Disc, T: Tapes>(disc: &D, tapes: &T)
     ensures { AreFused (both (D.state disc.now) (T.rack tapes.now)) }
 {
     let _blocks = disc.size();
