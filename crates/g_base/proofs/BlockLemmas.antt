@@ -1,10 +1,11 @@
 -- What follows of blocks.
+-- serves: crates above
 use Rattle.std.proofs.Common.{◌≡◌, ℕ, replicate, get_or, arith, refl, inl, inr, ◌∙◌, sym}
 use Rattle.std.proofs.lemmas.List.{length-replicate, get_or-replicate, get_or_past}
 use Rattle.std.proofs.lemmas.Bool.{cases_lt}
 use Rattle.g_base.specs.Block.{IsBlock}
 
--- a zero, wherever it is looked for
+-- Every item of a list of zeros is zero, as is the default.
 zero_at : (n i z : ℕ) → z ≡ 0 → get_or (replicate n z) i 0 ≡ z
 zero_at n i z zero =
     elim (cases_lt i n) [

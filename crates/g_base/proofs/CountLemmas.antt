@@ -1,4 +1,5 @@
 -- How risen counts add up.
+-- serves: FuseLemmas, crates above
 use Rattle.std.proofs.Common.{◌≡◌, ℕ, ◌+◌, ◌≤◌, arith}
 use Rattle.g_base.specs.Counts.{one_more, Rose, HasRisenBy, RoseBy}
 
@@ -6,7 +7,7 @@ use Rattle.g_base.specs.Counts.{one_more, Rose, HasRisenBy, RoseBy}
 pub Rose-later : {a b : ℕ} → Rose a b → a ≤ b
 Rose-later rose = omega arith
 
--- what doesn't fall before or behind a rise leaves it one
+-- If the count fell neither before nor after a rise, the whole interval is a rise.
 pub Rose-behind : {a b c : ℕ} → a ≤ b → Rose b c → Rose a c
 Rose-behind later rose = record { more = omega arith }
 

@@ -1,11 +1,12 @@
 -- How armings follow each other, and how a fuse burns.
+-- serves: crates above
 use Rattle.std.proofs.Common.{◌≡◌, ◌⊎◌, ℕ, ◌+◌, ◌-◌, ◌<◌, ◌≤◌, Bool, List, [], ◌∷◌, ◌++◌, Option, Some, None, append_assoc, append-nil, subst, refl, sym, ap, ◌∙◌, inl, inr, arith, if◌then◌else◌}
 use Rattle.std.proofs.lemmas.Bool.{cases_lt, le-leb, le-ltb, lt-leb, lt-ltb}
 use Rattle.g_base.specs.Counts.{Rose, one_more}
 use Rattle.g_base.specs.Fuse.{Arms, BurnsByFailures, BurnsByWrites, IsArmedBy, IsArmedWithin, armed_with, burnt, burnt_by, most, never}
 use Rattle.g_base.proofs.CountLemmas.{Rose-behind, Rose-later}
 
--- nobody armed it; it was armed once; and armings of two parts
+-- Never armed; armed once; armings concatenated.
 pub armed_then : (first later : List ℕ) (old mid new : Arms) → IsArmedBy first old mid → IsArmedBy later mid new → IsArmedBy (first ++ later) old new
 armed_then [] later old mid new is more = subst (λ (x : Arms). IsArmedBy later x new) is more
 armed_then (k ∷ first) later old mid new (since, is) more = (since, armed_then first later (armed_with k since old) mid new is more)
@@ -14,7 +15,8 @@ armed_then (k ∷ first) later old mid new (since, is) more = (since, armed_then
 pub armed_none : (numbers : List ℕ) (old new : Arms) → numbers ≡ [] → new ≡ old → IsArmedBy numbers old new
 armed_none numbers old new none same = subst (λ (ks : List ℕ). IsArmedBy ks old new) (sym none) same
 
--- WITH THE FIRST OF SOME NUMBERS: with none of them; with all; and of two parts, where the second wasn't come to, or the first was gone through
+-- Armed with a prefix of a list: of the empty list; with all of it; and concatenations, where the second part was not reached or the first was
+-- completed.
 pub within_none : (numbers : List ℕ) (old new : Arms) → new ≡ old → IsArmedWithin numbers old new
 within_none numbers old new same = ([], numbers, refl, same)
 
@@ -61,7 +63,7 @@ pub fused_never : (writes : ℕ) (arms : Arms) (fuse : Option ℕ) → arms ≡ 
 fused_never writes arms fuse is none =
     subst (λ (a : Arms). BurnsByWrites writes a fuse) (sym is) (subst (BurnsByWrites writes never) (sym none) (burns_never writes))
 
--- THE FUSE OF A RACK: never armed, armed, and after a good write and a failed one
+-- The fuse of a rack: never armed, armed, after a successful write, and after a failed one.
 fails_never : (failed : ℕ) → BurnsByFailures failed never None
 fails_never failed = record { later = omega arith; left = λ j e. absurd (let no : ⊥ = cc in no); spent = λ e k is. absurd (let no : ⊥ = cc in no) }
 

@@ -1,4 +1,5 @@
--- The size of a set of keys tells whether the keys that it was collected from are distinct.
+-- A set of keys is as large as the list that it was collected from if and only if the keys are distinct.
+-- serves: are_distinct
 use Rattle.std.proofs.Common.{◌≡◌, ◌≢◌, ◌↔◌, ℕ, ◌<◌, Bool, true, false, List, [], ◌∷◌, length, subst, map, AllPairs, refl, sym, ◌∙◌, ap, arith, nat_eq, HashSet}
 use Rattle.std.specs.Prelude.{IsTrue}
 use Rattle.std.specs.Bool.{Decides}

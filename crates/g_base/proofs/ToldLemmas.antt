@@ -1,4 +1,5 @@
--- How changes of told content follow each other, and what is known from them.
+-- How changes of exposed content compose, and what follows from them.
+-- serves: crates above
 use Rattle.std.proofs.Common.{◌≡◌, ℕ, List, Option, Some, None, refl, sym, ◌∙◌, ap, subst}
 use Rattle.std.proofs.Math.ListN.{set}
 use Rattle.g_base.specs.Block.{with_block}
@@ -40,18 +41,18 @@ Changes-weaken first weaker = record {
   untold = first.untold;
 }
 
--- where the content now is told, that before it was
+-- Content that is exposed now was exposed before.
 pub Changes-back : {X : Type 0} (R : X → X → Type 0) (x y : Option X) → Changes R x y → (a : X) → y ≡ Some a → (b : X) × (x ≡ Some b) × R b a
 Changes-back R None y all a now = absurd (not_told a (sym (all.untold refl) ∙ now))
 Changes-back R (Some b) y all a now =
     let end = all.told b refl in (b, refl, subst (R b) (inside end.0 a (sym end.1 ∙ now)) end.2)
 
--- what holds of the content behind a change
+-- What holds of the content after a change.
 pub told_after : {X : Type 0} {R : X → X → Type 0} {x y : Option X} {P : X → Type 0} → Changes R x y → ((b a : X) → x ≡ Some b → R b a → P a) → (a : X) → y ≡ Some a → P a
 told_after {R = R} {x = x} {y = y} all each a now =
     let from = Changes-back R x y all a now in each from.0 a from.1 from.2
 
--- what holds of the content behind one write
+-- What holds of the content after one write.
 pub told_after_write : (P : List (List ℕ) → Type 0) (k : ℕ) (v : List ℕ) (before now : Option (List (List ℕ))) → now ≡ with_block k v before → ((b : List (List ℕ)) → before ≡ Some b → P (set b k v)) → (a : List (List ℕ)) → now ≡ Some a → P a
 told_after_write P k v None now is each a told = absurd (not_told a (sym is ∙ told))
 told_after_write P k v (Some b) now is each a told = subst P (inside (set b k v) a (sym is ∙ told)) (each b refl)

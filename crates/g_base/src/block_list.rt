@@ -4,7 +4,7 @@ ghost use Rattle.std.specs.Prelude.{◌≡◌, ◌≤◌, ◌<◌, ◌↔◌, []
 use arrayvec::ArrayVec;
 use std::marker::Model;
 
-/// Up to 128 block numbers, as many as the greatest file takes, in the order of what stands in them.
+/// Up to 128 block numbers, as many as the largest file occupies, in the order of their content.
 #[derive(Drop, PartialEq, Eq)]
 pub struct BlockList {
     blocks: ArrayVec<u32, 128>,
@@ -21,7 +21,7 @@ impl Model for BlockList {
 }
 
 impl BlockList {
-    /// No block.
+    /// The empty list.
     pub fn new() -> BlockList
         ensures { result ≡ [] }
     {
@@ -30,7 +30,7 @@ impl BlockList {
         }
     }
 
-    /// The list of these numbers: none where there are more than 128.
+    /// The list of these numbers, or `None` if there are more than 128.
     pub fn from_slice(blocks: &[u32]) -> Option<BlockList>
         ensures fits { IsSome result ↔ (length blocks.now ≤ 128) }
         ensures value { IfSome result (λ l. l ≡ blocks.now) }
@@ -39,14 +39,14 @@ impl BlockList {
         Some(BlockList { blocks })
     }
 
-    /// Takes all numbers out, where the list stands.
+    /// Empties the list in place.
     pub fn clear(&mut self)
         ensures { self.new ≡ [] }
     {
         self.blocks.clear();
     }
 
-    /// Puts a number behind the others.
+    /// Appends a number.
     pub fn push(&mut self, block: u32)
         requires { length self.old < 128 }
         ensures { self.new ≡ self.old ++ block ∷ [] }
@@ -54,7 +54,7 @@ impl BlockList {
         self.blocks.push(block);
     }
 
-    /// The numbers.
+    /// The numbers, in order.
     pub fn as_slice(&self) -> &[u32]
         ensures value { result.now ≡ self.now }
         ensures fits { length self.now ≤ 128 }
@@ -62,7 +62,7 @@ impl BlockList {
         self.blocks.as_slice()
     }
 
-    /// The same list once more, which takes no memory.
+    /// A copy of the list. It allocates nothing.
     pub fn copy(&self) -> BlockList
         ensures { result ≡ self.now }
     {

@@ -1,4 +1,4 @@
-//! Whether things have distinct keys.
+//! Checks whether keys are distinct.
 ghost use Rattle.std.specs.Prelude.{◌≡◌, ◌≢◌, ◌↔◌, AllPairs, IfOk, IsTrue};
 ghost use Rattle.std.specs.Bool.{Decides};
 
@@ -7,7 +7,7 @@ use std::alloc::Global;
 use std::collections::HashSet;
 use std::hash::Hash;
 
-/// Whether no two of the items have one key. It takes the memory for a set of the keys.
+/// Whether the items have distinct keys. It allocates a set of the keys.
 pub fn are_distinct<T, K, F>(alloc: Global, items: &[T], key: F) -> Result<bool, NoMemory>
 where
     K: Eq + Hash + Drop,

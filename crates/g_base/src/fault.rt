@@ -1,8 +1,8 @@
-//! The two answers of a device, a source or a sink that fails.
+//! The two errors of a device, a source or a sink.
 use std::error::Error;
 use std::fmt;
 
-/// A read failed: nothing was read. It comes only where the count of read faults rose.
+/// A read failed. Returned only if the count of read faults rose.
 #[derive(Clone, Copy, Debug, PartialEq, Eq)]
 pub struct ReadFailed;
 
@@ -14,8 +14,7 @@ impl fmt::Display for ReadFailed {
 
 impl Error for ReadFailed {}
 
-/// A write failed: what it was to replace is as it was, or torn. It comes only where the count of
-/// write faults rose.
+/// A write failed: what it should have replaced is unchanged or torn. Returned only if the count of write faults rose.
 #[derive(Clone, Copy, Debug, PartialEq, Eq)]
 pub struct WriteFailed;
 

@@ -1,11 +1,11 @@
-//! The fuse of a device, which makes one write to come fail, and what the device was armed with.
+//! The fuse of a device, which makes one later write fail, and what the device was armed with.
 ghost use Rattle.std.specs.Prelude.{◌≡◌, ◌≤◌, ◌↔◌, IsTrue, Some, None};
 ghost use Rattle.g_base.specs.Fuse.{armed_with, burnt, never};
 
 use crate::counter::raised;
 use std::marker::Model;
 
-/// A fuse: none, or the number of the write to come that fails, where 1 is the next one.
+/// A fuse: none, or a number k, which makes the k-th next write fail.
 #[derive(Drop)]
 pub struct Fuse {
     left: Option<u32>,
@@ -27,7 +27,7 @@ impl Fuse {
         Fuse { left: None }
     }
 
-    /// From now on the k-th next write fails. A fuse that was armed before is replaced.
+    /// From now on the k-th next write fails. It replaces any earlier fuse.
     pub fn arm(&mut self, k: u32)
         requires { 1 ≤ k }
         ensures { self.new ≡ Some k }
@@ -35,7 +35,7 @@ impl Fuse {
         self.left = Some(k);
     }
 
-    /// One write goes by. The answer is whether it is the one that fails; the fuse is then spent.
+    /// Counts one write. Returns whether it is the one that must fail; the fuse is then spent.
     pub fn burn(&mut self) -> bool
         ensures left { self.new ≡ burnt self.old }
         ensures fires { IsTrue result ↔ (self.old ≡ Some 1) }
@@ -49,8 +49,8 @@ impl Fuse {
     }
 }
 
-/// What a device was armed with: how often, which stands still at 2^64 - 1; with which number last; and what it had
-/// counted then, a disc its writes and a rack its failed writes.
+/// What a device was armed with: how often (saturating at 2^64 - 1), the last number, and the device's count at that
+/// time. A disc counts writes for this, a rack failed writes.
 #[derive(Drop)]
 pub struct Armings {
     times: u64,
@@ -67,7 +67,7 @@ impl Model for Armings {
 }
 
 impl Armings {
-    /// Those of a device that was never armed.
+    /// A device that was never armed.
     pub fn new() -> Self
         ensures { result ≡ never }
     {
@@ -78,7 +78,7 @@ impl Armings {
         }
     }
 
-    /// The device is armed with k, and has counted this.
+    /// Records that the device was armed with `k` when its count was `since`.
     pub fn arm(&mut self, k: u32, since: u64)
         ensures { self.new ≡ armed_with k since self.old }
     {

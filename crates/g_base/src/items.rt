@@ -5,8 +5,7 @@ use crate::NoMemory;
 use std::alloc::Global;
 use std::marker::Model;
 
-/// Items in order. Contracts see a list. It is made from a `Vec` and gives it back without taking
-/// memory.
+/// An ordered list of items, which contracts see as a list. Converting from a `Vec` and back allocates nothing.
 #[derive(Drop)]
 pub struct Items<T> {
     items: Vec<T>,
@@ -21,7 +20,7 @@ impl<T> Model for Items<T> {
 }
 
 impl<T: Drop> Items<T> {
-    /// No items, which takes no memory yet.
+    /// The empty list. It allocates nothing.
     pub fn new(alloc: Global) -> Items<T>
         ensures { result ≡ [] }
     {
@@ -30,14 +29,14 @@ impl<T: Drop> Items<T> {
         }
     }
 
-    /// How many items there are.
+    /// The number of items.
     pub fn len(&self) -> usize
         ensures { result ≡ length self.now }
     {
         self.items.len()
     }
 
-    /// Puts an item behind the others; without memory the list stays as it was.
+    /// Appends an item. If memory runs out, the list is unchanged.
     pub fn push(&mut self, item: T) -> Result<(), NoMemory>
         ensures ok { OnOk result (self.new ≡ self.old ++ item ∷ []) }
         ensures err { OnErr result (self.new ≡ self.old) }
@@ -46,7 +45,7 @@ impl<T: Drop> Items<T> {
         Ok(())
     }
 
-    /// The items.
+    /// The items, in order.
     pub fn as_slice(&self) -> &[T]
         ensures { result.now ≡ self.now }
     {

@@ -1,6 +1,5 @@
-//! What all layers share: the limits of the filestore, blocks and lists of their numbers, counts that
-//! stand still at the end of their type, the fuse of a device, what is told of a device's content,
-//! want of memory, the fields of blocks, and items in order.
+//! Shared by all layers: the limits of the filestore, blocks and lists of their numbers, saturating counts, the fuse of
+//! a device, the content that a device exposes, out of memory, the fields of blocks, and ordered lists of items.
 #![tactic(auto)]
 
 mod block;

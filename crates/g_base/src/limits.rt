@@ -1,60 +1,60 @@
-//! The limits of the filestore: of users and files, of a disc and its parts, of reels, of accounts,
-//! of numbers that go up, and of a script. docs/FORMATS.md has the layout that they stand in.
+//! The limits of the filestore: of users and files, a disc and its parts, reels, accounts, increasing numbers and
+//! scripts. docs/FORMATS.md has the layout that they are part of.
 ghost use Rattle.std.specs.Prelude.{◌≡◌};
 ghost use Rattle.g_base.specs.Limits as limit;
 
-/// Users of a filestore.
+/// The maximum number of users of a filestore.
 pub const MAX_USERS: usize = 63;
 
-/// Files of a filestore.
+/// The maximum number of files of a filestore.
 pub const MAX_FILES: usize = 1_024;
 
-/// The bytes of a file.
+/// The maximum size of a file, in bytes.
 pub const MAX_FILE_BYTES: u32 = 65_536;
 
-/// The blocks that so many bytes take.
+/// The maximum size of a file, in blocks.
 pub const MAX_FILE_BLOCKS: usize = 128;
 
-/// The last generation of a name; the first is 1.
+/// The last generation number of a name. The first is 1.
 pub const MAX_GENERATION: u16 = 4_095;
 
-/// Users other than the owner who are trapped on one file.
+/// The maximum number of trapped users of a file, not counting its owner.
 pub const MAX_TRAPPED: usize = 8;
 
-/// The first block of a slot that keeps a file's record. Those before it keep the head and the users.
+/// The index of the first block of a slot that holds a file's record. The blocks before it hold the head and the users.
 pub const FIRST_FILE_BLOCK: u32 = 64;
 
-/// The blocks of a slot.
+/// The number of blocks of a slot.
 pub const SLOT_BLOCKS: u32 = 1_088;
 
-/// The first block behind the gate and the two slots.
+/// The first block after the gate and the two slots.
 pub const FIRST_COPY_BLOCK: u32 = 2_177;
 
-/// The blocks of a disc: a block number has twenty bits.
+/// The maximum number of blocks of a disc: a block number has twenty bits.
 pub const MAX_DISC_BLOCKS: u32 = 1_048_576;
 
-/// Reels of a rack.
+/// The maximum number of reels of a rack.
 pub const MAX_REELS: usize = 16;
 
-/// The last serial of a reel; the first is 1.
+/// The last serial of a reel. The first is 1.
 pub const MAX_SERIAL: u32 = 999_999;
 
-/// A user's SPACE, in blocks.
+/// The maximum SPACE of a user, in blocks.
 pub const MAX_SPACE: u32 = 65_535;
 
-/// A user's TIME and MONEY, in units of each.
+/// The maximum TIME and MONEY of a user, in units of each.
 pub const MAX_BALANCE: u64 = 1_000_000_000;
 
-/// The TIME that a job may ask for, and the most that it may be charged at once.
+/// The maximum TIME that a job may request, and that it may be charged at once.
 pub const MAX_ALLOWANCE: u64 = 1_000_000;
 
-/// What a stamp of a version and the number of a dump stay below.
+/// The upper limit, exclusive, of version stamps and of dump numbers.
 pub const STAMP_END: u64 = 4_611_686_018_427_387_904;
 
-/// The bytes of a script.
+/// The maximum size of a script, in bytes.
 pub const MAX_SCRIPT_BYTES: usize = 16_777_216;
 
-/// Each constant has the value that the definitions give to it.
+/// Each constant has the value that the definitions give it.
 pub fn limits_are_those_defined()
     ensures users { MAX_USERS ≡ limit.max_users }
     ensures files { MAX_FILES ≡ limit.max_files }

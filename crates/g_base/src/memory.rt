@@ -1,9 +1,9 @@
-//! Want of memory, where it is the only thing that a call can lack.
+//! Out of memory, as the error of calls that can fail in no other way.
 use std::alloc::{AllocError, AllocFailed};
 use std::error::Error;
 use std::fmt;
 
-/// The memory that a call asked for was refused. Such a call leaves all as it was.
+/// An allocation failed. The call that returns this has changed nothing.
 #[derive(Clone, Copy, Debug, PartialEq, Eq)]
 pub struct NoMemory;
 

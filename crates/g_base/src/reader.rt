@@ -1,11 +1,11 @@
-//! Reads the fields of a block one behind the other.
+//! Reads the fields of a block in order.
 ghost use Rattle.std.specs.Prelude.{◌≡◌, ℕ, ◌^◌, ◌<◌, ◌≤◌, List, ◌∷◌, ◌++◌, length, drop};
 ghost use Rattle.g_base.specs.Fields.{number};
 
 use byteorder::{BigEndian, ByteOrder};
 use std::marker::Model;
 
-/// Bytes that are being read, which contracts see as those that are left.
+/// A reader over bytes. Contracts see the bytes that are still unread.
 #[derive(Drop)]
 pub struct BlockReader<'a> {
     rest: &'a [u8],
@@ -20,14 +20,14 @@ impl<'a> Model for BlockReader<'a> {
 }
 
 impl<'a> BlockReader<'a> {
-    /// Nothing taken yet.
+    /// A reader at the first byte.
     pub fn new(bytes: &'a [u8]) -> Self
         ensures { result ≡ bytes.now }
     {
         BlockReader { rest: bytes }
     }
 
-    /// One byte.
+    /// Reads one byte.
     pub fn take_u8(&mut self) -> u8
         requires { 1 ≤ length self.old }
         ensures { self.old ≡ result ∷ self.new }
@@ -37,7 +37,7 @@ impl<'a> BlockReader<'a> {
         x
     }
 
-    /// So many bytes.
+    /// Reads the next `count` bytes.
     pub fn take_bytes(&mut self, count: usize) -> &'a [u8]
         requires { count ≤ length self.old }
         ensures all { self.old ≡ result.now ++ self.new }
@@ -48,7 +48,7 @@ impl<'a> BlockReader<'a> {
         taken
     }
 
-    /// A number of two bytes.
+    /// Reads a big-endian number of two bytes.
     pub fn take_u16(&mut self) -> u16
         requires { 2 ≤ length self.old }
         ensures left { self.new ≡ drop 2 self.old }
@@ -58,7 +58,7 @@ impl<'a> BlockReader<'a> {
         BigEndian::read_u16(self.take_bytes(2))
     }
 
-    /// A number of three bytes.
+    /// Reads a big-endian number of three bytes.
     pub fn take_u24(&mut self) -> u32
         requires { 3 ≤ length self.old }
         ensures left { self.new ≡ drop 3 self.old }
@@ -68,7 +68,7 @@ impl<'a> BlockReader<'a> {
         BigEndian::read_u24(self.take_bytes(3))
     }
 
-    /// A number of four bytes.
+    /// Reads a big-endian number of four bytes.
     pub fn take_u32(&mut self) -> u32
         requires { 4 ≤ length self.old }
         ensures left { self.new ≡ drop 4 self.old }
@@ -78,7 +78,7 @@ impl<'a> BlockReader<'a> {
         BigEndian::read_u32(self.take_bytes(4))
     }
 
-    /// A number of eight bytes.
+    /// Reads a big-endian number of eight bytes.
     pub fn take_u64(&mut self) -> u64
         requires { 8 ≤ length self.old }
         ensures left { self.new ≡ drop 8 self.old }

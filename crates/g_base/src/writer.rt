@@ -1,4 +1,4 @@
-//! Writes the fields of a block one behind the other.
+//! Writes the fields of a block in order.
 ghost use Rattle.std.specs.Prelude.{◌≡◌, ◌+◌, ◌^◌, ◌<◌, ◌≤◌, [], ◌∷◌, ◌++◌, length, replicate};
 ghost use Rattle.g_base.specs.Fields.{number, padded};
 
@@ -6,8 +6,7 @@ use crate::block::Block;
 use byteorder::{BigEndian, ByteOrder};
 use std::marker::Model;
 
-/// A block that is being written, which contracts see as the bytes that were put so far. What isn't
-/// put is zero.
+/// A block under construction. Contracts see the bytes that were written so far; the others are zero.
 #[derive(Drop)]
 pub struct BlockWriter {
     block: Block,
@@ -26,7 +25,7 @@ impl Model for BlockWriter {
 }
 
 impl BlockWriter {
-    /// Nothing put yet.
+    /// A writer at the first byte of a block of zeros.
     pub fn new() -> Self
         ensures { result ≡ [] }
     {
@@ -36,7 +35,7 @@ impl BlockWriter {
         }
     }
 
-    /// One byte.
+    /// Writes one byte.
     pub fn put_u8(&mut self, x: u8)
         requires { length self.old < 512 }
         ensures { self.new ≡ self.old ++ x ∷ [] }
@@ -45,7 +44,7 @@ impl BlockWriter {
         self.at += 1;
     }
 
-    /// The bytes as they are.
+    /// Writes the bytes.
     pub fn put_bytes(&mut self, bytes: &[u8])
         requires { length self.old + length bytes.now ≤ 512 }
         ensures { self.new ≡ self.old ++ bytes.now }
@@ -55,7 +54,7 @@ impl BlockWriter {
         self.at = end;
     }
 
-    /// So many zeros. They stand there already.
+    /// Skips `count` bytes, which are already zero.
     pub fn put_zeros(&mut self, count: usize)
         requires { length self.old + count ≤ 512 }
         ensures { self.new ≡ self.old ++ replicate count 0 }
@@ -63,7 +62,7 @@ impl BlockWriter {
         self.at += count;
     }
 
-    /// A field of `width` bytes: the bytes, and zeros behind them.
+    /// Writes a field of `width` bytes: the bytes, padded with zeros.
     #[tactic(auto, unfolding(crate::specs::Fields::padded))]
     pub fn put_padded(&mut self, width: usize, bytes: &[u8])
         requires fits { length bytes.now ≤ width }
@@ -74,7 +73,7 @@ impl BlockWriter {
         self.put_zeros(width - bytes.len());
     }
 
-    /// A number of two bytes.
+    /// Writes a big-endian number of two bytes.
     #[tactic(auto, unfolding(crate::specs::Fields::number))]
     pub fn put_u16(&mut self, x: u16)
         requires { length self.old + 2 ≤ 512 }
@@ -85,7 +84,7 @@ impl BlockWriter {
         self.put_bytes(&bytes);
     }
 
-    /// A number of three bytes.
+    /// Writes a big-endian number of three bytes.
     #[tactic(auto, unfolding(crate::specs::Fields::number))]
     pub fn put_u24(&mut self, x: u32)
         requires fits { x < 2 ^ 24 }
@@ -97,7 +96,7 @@ impl BlockWriter {
         self.put_bytes(&bytes);
     }
 
-    /// A number of four bytes.
+    /// Writes a big-endian number of four bytes.
     #[tactic(auto, unfolding(crate::specs::Fields::number))]
     pub fn put_u32(&mut self, x: u32)
         requires { length self.old + 4 ≤ 512 }
@@ -108,7 +107,7 @@ impl BlockWriter {
         self.put_bytes(&bytes);
     }
 
-    /// A number of eight bytes.
+    /// Writes a big-endian number of eight bytes.
     #[tactic(auto, unfolding(crate::specs::Fields::number))]
     pub fn put_u64(&mut self, x: u64)
         requires { length self.old + 8 ≤ 512 }
@@ -119,7 +118,7 @@ impl BlockWriter {
         self.put_bytes(&bytes);
     }
 
-    /// What was put so far.
+    /// The bytes that were written so far.
     pub fn as_slice(&self) -> &[u8]
         ensures value { result.now ≡ self.now }
         ensures fits { length self.now ≤ 512 }
@@ -127,25 +126,25 @@ impl BlockWriter {
         &self.block[..self.at]
     }
 
-    /// The block: what was put, and zeros behind it.
+    /// The block: the bytes that were written, padded with zeros.
     pub fn finish(self) -> Block
         ensures { result ≡ padded 512 self }
     {
         self.block
     }
 
-    /// The same by reference, so that no block moves.
+    /// The same by reference, so that no block is moved.
     pub fn block(&self) -> &Block
         ensures { result.now ≡ padded 512 self.now }
     {
         &self.block
     }
 
-    /// Begins another block in the place of this one.
+    /// Begins another block in the memory of this one.
     pub fn restart(&mut self)
         ensures { self.new ≡ [] }
     {
-        // Behind the place nothing was put.
+        // The bytes from `at` on are already zero.
         self.block[..self.at].fill(0);
         self.at = 0;
     }

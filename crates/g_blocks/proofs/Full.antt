@@ -1,4 +1,5 @@
--- Groups of flags that are noted as full: what keeps the notes true, and what they tell.
+-- Groups of flags that are noted as full: what preserves the notes, and what follows from them.
+-- serves: all_free, mark_free, mark_taken, skip_taken
 use Rattle.std.proofs.Common.{◌≡◌, ◌≢◌, ℕ, ◌+◌, ◌-◌, ◌/◌, ◌<◌, ◌≤◌, List, Bool, true, false, Some, length, slice_get, get_or, replicate, sym, ◌∙◌, ap, subst, inl, inr, arith, length-set}
 use Rattle.std.specs.Prelude.{◌⊎◌}
 use Rattle.std.proofs.Math.ListN.{set}
@@ -47,7 +48,7 @@ full-none full flags n is size = record {
       let no : ⊥ = cc in absurd no;
 }
 
--- groups in front of a place before which all flags are set are full
+-- If all flags before a place are set, the groups before it are full.
 pub full-noted : (full now flags : List Bool) (low : ℕ) → AreFull full flags → AreSetBefore low flags → length now ≡ length full
     → ((group : ℕ) → slice_get now group ≡ Some true → (slice_get full group ≡ Some true) ⊎ (group < low / 128)) → AreFull now flags
 full-noted full now flags low are before long noted = record {

@@ -1,4 +1,5 @@
 -- The free blocks that the search has found so far.
+-- serves: least_free, put_least_free
 use Rattle.std.proofs.Common.{◌≡◌, ℕ, zero, suc, ◌+◌, ◌-◌, ◌<◌, ◌≤◌, ◌⊎◌, List, [], ◌∷◌, ◌++◌, Bool, true, false, not, Some, length, take, drop, All, Contains, slice_get, get_or, refl, sym, ◌∙◌, ap, subst, inl, inr, arith, length-append, length-drop}
 use Rattle.std.proofs.Math.Seq.{get_or-append_seam}
 use Rattle.std.proofs.lemmas.Bool.{cases_lt}
@@ -23,7 +24,7 @@ pub record AreFound (pool : List Bool) (seen : ℕ) (blocks : List ℕ) : Type 0
 below_or_next : (block seen : ℕ) → block < first_copy_block + (seen + 1) → (block < first_copy_block + seen) ⊎ (block ≡ first_copy_block + seen)
 below_or_next block seen h = search arith
 
--- a number behind all others keeps them rising
+-- Appending a number greater than all others keeps the list strictly increasing.
 rising-push : (numbers : List ℕ) (x : ℕ) → IsStrictlyIncreasing numbers → All (λ n. n < x) numbers → IsStrictlyIncreasing (numbers ++ x ∷ [])
 rising-push numbers x rising below k h =
     let within : k < length numbers = omega (arith, length-append numbers (x ∷ []), h) in
@@ -40,7 +41,7 @@ rising-push numbers x rising below k h =
           omega (arith, first, second, under)
     ]
 
--- The next block of the pool was free, and was put behind the others; or it was taken.
+-- The next block of the pool was free and was appended, or it was taken.
 pub AreFound-free : (pool : List Bool) (seen : ℕ) (blocks : List ℕ) → AreFound pool seen blocks → seen < length pool → get_or pool seen false ≡ false → AreFound pool (seen + 1) (blocks ++ (first_copy_block + seen) ∷ [])
 AreFound-free pool seen blocks found within is =
     let block = first_copy_block + seen in
@@ -81,7 +82,7 @@ AreFound-taken pool seen blocks found within is =
           ];
     }
 
--- Where the blocks before a place are taken, the search finds none there.
+-- If all blocks before a place are taken, the search finds none there.
 AreFound-front : (pool : List Bool) (n : ℕ) → n ≤ length pool → ((i : ℕ) → i < n → slice_get pool i ≡ Some true) → AreFound pool n []
 AreFound-front pool zero within each = record {
   count = refl;
@@ -101,7 +102,7 @@ AreFound-before pool low before =
     let same : low ≡ low + 0 = omega arith in
     subst (λ (m : ℕ). AreFound pool m []) same (AreFound-front pool low before.within before.each)
 
--- The same step by the place in what stands behind the first ones.
+-- The same step, by the place within the flags after the first ones.
 module _ (pool slice : List Bool) (low place : ℕ) (blocks : List ℕ)
     (is_slice : slice ≡ drop low pool) (found : AreFound pool (low + place) blocks) (within : place < length slice) where
   within_pool : low + place < length pool

@@ -1,4 +1,5 @@
 -- One flag after another: what a loop that marks blocks has changed so far.
+-- serves: all_free, give, least_free, mark_all_taken, mark_free (count), mark_taken (count), new (ok), put_least_free, take, take_into, Full, crates above
 use Rattle.std.proofs.Common.{◌≡◌, ◌≢◌, ℕ, zero, suc, ◌+◌, ◌-◌, ◌*◌, ◌<◌, ◌≤◌, List, [], ◌∷◌, ◌++◌, Bool, true, false, not, cond, Some, length, take, drop, All, AllPairs, Contains, slice_get, get_or, replicate, refl, sym, ◌∙◌, ap, subst, inl, inr, arith, length-set, length-take, length-drop}
 use Rattle.std.proofs.Math.ListN.{set}
 use Rattle.std.proofs.lemmas.List.{take_all, take_more, get_or-set_same, get_or-take, get_or_default, get_or-replicate, length-replicate}
@@ -114,7 +115,7 @@ HasGiven-more blocks i old now given below taken =
       count = omega (arith, count, given.count, length-take (i + 1) blocks, length-take i blocks);
     }
 
--- No block before the place where the search begins is free: when a flag is set, and when one is cleared.
+-- No block before the start of the search is free: after a flag is set, and after one is cleared.
 AreSetBefore-set : (low : ℕ) (flags : List Bool) (i : ℕ) → i < length flags → AreSetBefore low flags → AreSetBefore low (set flags i true)
 AreSetBefore-set low flags i below before = record {
   within = omega (arith, length-set flags i true, before.within);
@@ -128,14 +129,14 @@ AreSetBefore-cleared low now flags i lower none before = record {
   each = λ j h. slice_get-set_other flags i j false (omega (arith, h)) ∙ before.each j (omega (arith, h));
 }
 
--- none at all; one more that is set; those behind the place
+-- No flag; one more that is set; the flags after the place.
 pub AreSetBefore-none : (flags : List Bool) → AreSetBefore 0 flags
 AreSetBefore-none flags = record { within = omega arith; each = λ j h. absurd (omega (arith, h)) }
 
 pub slice_from : {X : Type 0} (n : ℕ) (xs : List X) → take (length xs - n) (drop n xs) ≡ drop n xs
 slice_from n xs = take_all (length xs - n) (drop n xs) (omega (arith, length-drop n xs))
 
--- The count beside the flags, when the flag of a free block is set, and when that of a taken one is cleared.
+-- The number of free flags when a free block is taken, and when a taken one is freed.
 pub count-taken : (free low : ℕ) (flags pool : List Bool) (i : ℕ) → flags ≡ pool → slice_get pool i ≡ Some false
     → (free ≡ free_flags flags) × (2177 + length flags ≤ 1_048_576) × AreSetBefore low flags
     → (free - 1 ≡ free_flags (set flags i true)) × (2177 + length (set flags i true) ≤ 1_048_576) × AreSetBefore low (set flags i true)
@@ -189,7 +190,7 @@ HasTaken-next blocks i old now after taken apart free below is =
 pub apart-rising : (blocks : List ℕ) → IsStrictlyIncreasing blocks → AllPairs (λ one other. one ≢ other) blocks
 apart-rising blocks rising i j d before below same = absurd (omega (arith, AllPairs-from_increasing blocks rising i j d before below, same))
 
--- where no block was taken, just these are taken now
+-- If no block was taken before, exactly these are taken now.
 pub IsFresh-taken : (size : ℕ) (used : List ℕ) (old new : List Bool) → first_copy_block < size → old ≡ replicate (size - first_copy_block) false → HasTaken used old new → IsFresh size used new
 IsFresh-taken size used old new low empty taken =
     let n = size - first_copy_block in

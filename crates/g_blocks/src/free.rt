@@ -1,4 +1,4 @@
-//! The search for free blocks: one pass over the flags, from the least that may be free on.
+//! The search for free blocks: one pass over the flags, from a lower bound of the free ones.
 ghost use Rattle.g_blocks.specs.Flags.{AreFull, AreSetBefore};
 ghost use Rattle.g_blocks.specs.Pool.{AreLeastFree, free_count};
 ghost use Rattle.std.specs.Prelude.{◌≡◌, ◌⊎◌, ℕ, ◌+◌, ◌<◌, ◌≤◌, ◌^◌, true, false, Some, [], length, IfOk, slice_get, slice_index_or};
@@ -6,7 +6,7 @@ ghost use Rattle.std.specs.Prelude.{◌≡◌, ◌⊎◌, ℕ, ◌+◌, ◌<◌,
 use g_base::{BlockList, FIRST_COPY_BLOCK};
 use std::alloc::{AllocError, Global};
 
-/// The n least blocks whose flag isn't set, in rising order. None of them is before the place `low`.
+/// The n least blocks whose flag isn't set, in increasing order. None of them is before the place `low`.
 pub(crate) fn least_free(
     alloc: Global,
     taken: &[bool],
@@ -30,8 +30,8 @@ pub(crate) fn least_free(
     Ok(blocks)
 }
 
-/// Puts the n least blocks whose flag isn't set, in rising order, into a list that has none yet. None of them is before the
-/// place `low`.
+/// Appends the n least blocks whose flag isn't set, in increasing order, to an empty list. None of them is before the place
+/// `low`.
 pub(crate) fn put_least_free(taken: &[bool], low: usize, n: usize, blocks: &mut BlockList)
     requires empty { blocks.old ≡ [] }
     requires few { n ≤ 128 }
@@ -50,11 +50,11 @@ pub(crate) fn put_least_free(taken: &[bool], low: usize, n: usize, blocks: &mut 
     }
 }
 
-/// How many flags go by one note.
+/// The number of flags in a group.
 pub(crate) const GROUP: usize = 128;
 
-/// The first flag from this place on that isn't set, or their number. Those before the place are set. Groups that are noted
-/// as full are passed whole.
+/// The first place from `from` on whose flag isn't set, or the number of flags. All flags before `from` are set. Groups
+/// that are noted as full are skipped as a whole.
 pub(crate) fn first_free(taken: &[bool], full: &[bool], from: usize) -> usize
     requires before { AreSetBefore from taken.now }
     requires full { AreFull full.now taken.now }
@@ -70,7 +70,8 @@ pub(crate) fn first_free(taken: &[bool], full: &[bool], from: usize) -> usize
     place
 }
 
-/// The place behind this one, whose flag is set; behind its group, where it is the first of one that is noted as full.
+/// The place after this one, whose flag is set; or after its group, if it is the first of a group that is noted as
+/// full.
 fn behind(taken: &[bool], full: &[bool], place: usize) -> usize
     requires within { place < length taken.now }
     requires is_set { slice_index_or taken.now place false ≡ true }
@@ -86,7 +87,7 @@ fn behind(taken: &[bool], full: &[bool], place: usize) -> usize
     }
 }
 
-/// Notes as full the groups from one on and in front of another.
+/// Notes the groups from `first` up to `end`, exclusive, as full.
 pub(crate) fn note_full(full: &mut Vec<bool>, first: usize, end: usize)
     requires { end ≤ length full.old.items }
     ensures size { length full.new.items ≡ length full.old.items }

@@ -1,4 +1,4 @@
-//! The pool of copy blocks: a flag for each, how many are free, and where the search begins.
+//! The pool of copy blocks: a flag for each, the number of free ones, and where the search for free ones begins.
 ghost use Rattle.std.specs.Prelude.{◌≡◌, ◌≢◌, ◌+◌, ◌-◌, ◌<◌, ◌≤◌, ◌↔◌, ◌⊎◌, All, AllPairs, IfOk, IfErr, OnErr, IsErrOf, IsOkUnless, slice_set, replicate, [], length, true, false};
 
 use crate::free::{GROUP, first_free, least_free, note_full, put_least_free};
@@ -7,7 +7,7 @@ use std::alloc::{AllocError, Global};
 use std::marker::Model;
 use thiserror::Error;
 
-/// Why a pool is not made, or gives no blocks. Both leave all as before.
+/// Why a pool isn't created, or provides no blocks. In both cases everything is unchanged.
 #[derive(Clone, Copy, Debug, PartialEq, Eq, Error)]
 pub enum PoolFault {
     /// More blocks are needed than are free.
@@ -17,9 +17,9 @@ pub enum PoolFault {
     NoMemory,
 }
 
-/// The copy blocks of one disc. Contracts see the list of their flags, true where a block is taken:
-/// the flag at place i is that of block 2,177 + i. The search for free blocks begins at the place
-/// `low`, before which none is free, and passes groups of 128 that are noted as full.
+/// The copy blocks of one disc. Contracts see the list of their flags, true for a taken block: the flag at place i is
+/// that of block 2,177 + i. The search for free blocks begins at the place `low`, before which no block is free, and
+/// skips groups of 128 that are noted as full.
 #[derive(Drop)]
 pub struct Pool {
     taken: Vec<bool>,
@@ -60,15 +60,15 @@ impl Pool {
         Ok(pool)
     }
 
-    /// How many blocks are free.
+    /// The number of free blocks.
     pub fn free(&self) -> u32
         ensures { result ≡ free_count self.now }
     {
         self.free
     }
 
-    /// Takes the n least free blocks, in rising order. Room for all of them is looked for first: where
-    /// there isn't enough, or no memory for the list, no block is taken.
+    /// Takes the n least free blocks, in increasing order. Space is checked first: if too few blocks are free, or
+    /// memory for the list runs out, no block is taken.
     pub fn take(&mut self, alloc: Global, n: u32) -> Result<Vec<u32>, PoolFault>
         ensures least { IfOk result (λ blocks. AreLeastFree self.old n blocks.items) }
         ensures taken { IfOk result (λ blocks. HasTaken blocks.items self.old self.new) }
@@ -84,7 +84,7 @@ impl Pool {
                 room: self.free,
             });
         }
-        // The walk to the least free block comes only now: where that block is given back first, there is none.
+        // The search for the least free block is postponed to here: if it is freed again before, no search is needed.
         self.skip_taken();
         let Ok(blocks) = least_free(alloc, &self.taken, self.low, n as usize) else {
             return Err(PoolFault::NoMemory);
@@ -93,8 +93,8 @@ impl Pool {
         Ok(blocks)
     }
 
-    /// Takes the n least free blocks, at most 128, and puts them in rising order into a list that has none yet. There are so
-    /// many free ones, and it takes no memory.
+    /// Takes the n least free blocks, at most 128, and appends them in increasing order to an empty list. At least n blocks
+    /// must be free. It allocates nothing.
     pub fn take_into(&mut self, n: u32, blocks: &mut BlockList)
         requires empty { blocks.old ≡ [] }
         requires few { n ≤ 128 }
@@ -107,7 +107,7 @@ impl Pool {
         self.mark_all_taken(blocks.as_slice());
     }
 
-    /// Gives blocks back.
+    /// Frees blocks.
     pub fn give(&mut self, blocks: &[u32])
         requires apart { AllPairs (λ one other. one ≢ other) blocks.now }
         requires taken { All (IsTaken self.old) blocks.now }
@@ -118,7 +118,7 @@ impl Pool {
         }
     }
 
-    /// Takes blocks again that were given back, which needs no memory.
+    /// Takes blocks again that were freed. It allocates nothing.
     pub fn retake(&mut self, blocks: &[u32])
         requires apart { AllPairs (λ one other. one ≢ other) blocks.now }
         requires free { All (IsFree self.old) blocks.now }
@@ -140,7 +140,7 @@ impl Pool {
         })
     }
 
-    /// Lets the search begin at the least free block.
+    /// Moves `low` to the least free block.
     fn skip_taken(&mut self)
         ensures { self.new ≡ self.old }
     {

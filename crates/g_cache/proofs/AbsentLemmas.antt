@@ -1,4 +1,5 @@
 -- Blocks that are known to be absent, when one is asked for, kept or written.
+-- serves: forget (absent, others), new, read
 use Rattle.std.proofs.Common.{◌≡◌, ◌≢◌, ◌⊎◌, ◌∙◌, ℕ, zero, suc, ◌%◌, ◌==◌, Bool, true, false, cond, List, [], ◌∷◌, take, replicate, get_or, Option, Some, None, is_some, refl, sym, ap, subst, inl, inr, arith, nat_eq, true≢false}
 use Rattle.std.proofs.lemmas.Bool.Decides.{nat_tests}
 use Rattle.std.specs.Map.{remove_entry}

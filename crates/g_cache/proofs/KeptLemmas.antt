@@ -1,4 +1,5 @@
 -- What is kept behind a cache, when a block is asked for, kept or written.
+-- serves: read, write
 use Rattle.std.proofs.Common.{◌≡◌, ◌≢◌, ◌⊎◌, ◌∙◌, ℕ, List, ◌∷◌, take, length, Contains, Option, Some, None, Ok, Err, refl, sym, ap, subst, inl, inr, nat_eq, eqb-true, true≢false, length-set, slice_get}
 use Rattle.std.proofs.Math.ListN.{set}
 use Rattle.std.proofs.lemmas.List.{get_or-set_other}

@@ -1,4 +1,5 @@
 -- Blocks at places: which is found, taken out and put in, and which places stay free.
+-- serves: forget (gone, others), keep, recall (block, first, found, missed)
 use Rattle.std.proofs.Common.{◌≡◌, ◌≢◌, ◌∙◌, ℕ, zero, suc, ◌+◌, ◌-◌, ◌<◌, ◌≤◌, Bool, true, false, cond, List, [], ◌∷◌, ◌++◌, take, length, get_or, Option, Some, None, is_some, Result, Ok, Err, is_ok, is_err, refl, sym, ap, subst, arith, nat_eq, eqb-true, true≢false, slice_get}
 use Rattle.std.proofs.Math.ListN.{set}
 use Rattle.std.proofs.lemmas.Map.{lookup-remove_entry}

@@ -1,4 +1,5 @@
 -- Texts as blocks: block i of a text, and the blocks of given numbers after a write.
+-- serves: put_part, Reading, Writing, crates above
 use Rattle.std.proofs.Common.{◌≡◌, ◌≢◌, ℕ, suc, ◌+◌, ◌-◌, ◌*◌, ◌<◌, ◌≤◌, min, List, [], ◌∷◌, ◌++◌, length, take, drop, replicate, get_or, refl, sym, ap, ◌∙◌, inl, inr, arith}
 use Rattle.std.specs.Prelude.{All, Contains, Option, slice_index_or, unwrap_or}
 use Rattle.std.specs.List.{flat_map}

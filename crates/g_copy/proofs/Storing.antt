@@ -1,4 +1,5 @@
 -- Free blocks of a pool make a copy.
+-- serves: store_copy (copy), crates above
 use Rattle.std.proofs.Common.{◌≡◌, ℕ, ◌+◌, List, length, Bool, false, arith}
 use Rattle.std.proofs.lemmas.List.Kept.{AllPairs-from_increasing}
 use Rattle.std.proofs.lemmas.Option.{slice_get_within}

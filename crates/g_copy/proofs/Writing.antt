@@ -1,4 +1,5 @@
 -- Blocks that are written one behind the other into those of given numbers.
+-- serves: write_copy (ok, stopped)
 use Rattle.std.proofs.Common.{◌≡◌, ◌≢◌, ℕ, ◌+◌, ◌-◌, ◌*◌, ◌<◌, ◌≤◌, List, [], ◌++◌, length, take, drop, get_or, replicate, Some, Ok, Err, length-append, refl, sym, ap, subst, ◌∙◌, arith, length-set}
 use Rattle.std.specs.Prelude.{All, AllPairs, Contains, slice_index_or}
 use Rattle.std.proofs.Math.ListN.{set}

@@ -1,4 +1,5 @@
--- WHAT IS AT HAND BESIDE A NEW DISC.
+-- What is at hand with a new disc.
+-- serves: crates above
 use Rattle.g_job_table.specs.Crew.{CrewState}
 use Rattle.g_day.specs.BeginningAnew.{beside_new}
 use Rattle.g_day.specs.Parts.{IsReady}

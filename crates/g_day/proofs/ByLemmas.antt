@@ -1,4 +1,5 @@
 -- WHAT A LINE COUNTS AND LEAVES OF COMPLETED DUMPS: a line but a PROCESS as any event of the disc, and a PROCESS as one of both devices.
+-- serves: LineLemmas, UpLemmas, crates above
 use Rattle.std.proofs.Common.{◌≡◌, ℕ, Bool, true, false, List, [], ◌∷◌, map, refl, sym, ◌∙◌, ap, subst}
 use Rattle.g_tape.specs.Rack.{Rack}
 use Rattle.g_tape.specs.Reads.{unread}

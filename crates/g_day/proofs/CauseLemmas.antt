@@ -1,4 +1,5 @@
 -- WHAT DEVICES COUNT in an event, by its answer.
+-- serves: UpLemmas, crates above
 use Rattle.std.proofs.Common.{◌≡◌, ◌≤◌, [], refl}
 use Rattle.std.specs.Prelude.{Result, Err}
 use Rattle.g_base.specs.Counts.{Rose}
@@ -63,7 +64,7 @@ module _ {A : Type 0} (answer : Result A StoreFault) (old new : Devices) (is : O
         tape_armed = is.tape_arms;
       }
 
--- NO COUNT OF THE DISC FALLS, whatever is answered
+-- no counter of the disc falls, for any answer
 pub reads_later : {A : Type 0} (answer : Result A StoreFault) (old new : DiscState) → Causes (answer ≡ Err DiscReadFault) (answer ≡ Err Stopped) old new → old.read_faults ≤ new.read_faults
 reads_later (Err DiscReadFault) old new is = Rose-later (is.reads_rose refl)
 reads_later answer old new is = stands_still old.read_faults new.read_faults (is.reads_kept (λ e. let no : ⊥ = cc in no))
@@ -72,7 +73,7 @@ pub writes_later : {A : Type 0} (answer : Result A StoreFault) (old new : DiscSt
 writes_later (Err Stopped) old new is = Rose-later (is.writes_rose refl)
 writes_later answer old new is = stands_still old.write_faults new.write_faults (is.writes_kept (λ e. let no : ⊥ = cc in no))
 
--- nor of the tapes, where they were only read
+-- nor of the tapes, if they were only read
 pub same_caused : {A : Type 0} (answer : Result A StoreFault) (old new : Devices) → Causes (answer ≡ Err DiscReadFault) (answer ≡ Err Stopped) old.disc new.disc → OnlyReads old.rack new.rack → SameDevices old new
 same_caused answer old new is reads = record {
   size = is.size;

@@ -1,4 +1,6 @@
--- COMPLETED DUMPS STAY: what reads, mounts and arms leaves them as they are, and the step that completes a dump puts it behind the others of its reel.
+-- Completed dumps stay: reads, mounts and arming leave them unchanged, and the step that completes a dump appends it to
+-- those of its reel.
+-- serves: JobLemmas, LineLemmas, UpLemmas, crates above
 use Rattle.std.proofs.Common.{◌≡◌, ◌==◌, ℕ, Bool, true, false, List, [], ◌∷◌, ◌++◌, append-nil, append_assoc, refl, sym, ◌∙◌, ap, subst, inl, inr}
 use Rattle.std.specs.Prelude.{Result, Ok, Err, if◌then◌else◌}
 use Rattle.std.specs.Option.{ForSome}

@@ -1,4 +1,5 @@
 -- A JOB'S LINE, AND SHUT.
+-- serves: crates above
 use Rattle.std.proofs.Common.{◌≡◌, ℕ, ◌+◌, ◌++◌, Bool, true, false, List, [], ◌∷◌, Option, Some, None, refl, sym, ◌∙◌, ap, subst, inl, inr}
 use Rattle.std.specs.Prelude.{◌⊎◌, Err, Result, codes, is_some, option_map, if◌then◌else◌}
 use Rattle.std.specs.FinMap as finmap
@@ -42,7 +43,7 @@ use Rattle.g_day.proofs.UserLemmas.{user_known}
 use Rattle.g_day.proofs.LabelLemmas.{same_itself}
 use Rattle.g_day.proofs.PutLemmas.{puts_grown}
 
--- it isn't taken in, and is told why
+-- the job isn't accepted, and the reason is printed
 pub turned_away_is : (known : Bool) (job : NewJob) (count : ℕ) (c : CrewState) (w : NotTaken) (failure : Option Failure) (c' : CrewState) (before after : Option (List ℕ)) (old new : ℕ)
     → RefusesAsIn c known job.user job.time job.money (let answer : Result ℕ NotTaken = Err w in printed answer) → c' ≡ c → TellsWhy w count failure before after old new
     → TakesJob known job count c failure c' before after old new
@@ -62,13 +63,13 @@ comes_in_is known job count c number failure c' before after old new granted num
 abbrev job_of_line : NewJob → Operator
 job_of_line job = line.Job job.name job.user job.time job.money job.lines
 
--- what the line gives where the system is up
+-- the effect of the line while the system is up
 gives_up : (job : NewJob) (w next : World) → w.store.up ≡ true → next ≡ job_line (job_refusal w job.user job.time job.money) (taken_in job.name job.user job.time job.money job.lines w) w
     → LineGives Plain (job_of_line job) w next
 gives_up job w next up is =
     (refl, is ∙ sym (ap (λ (b : Bool). if b then job_line (job_refusal w job.user job.time job.money) (taken_in job.name job.user job.time job.money job.lines w) w else line_refused NotStarted w) up))
 
--- behind those that are there comes a job of the next number
+-- a job with the next number is added after the others
 pub jobs_more : (born : ℕ → JobState) (w : World) (c : CrewState) → IsCrewOf w c → w.jobs ++ born w.next_job ∷ [] ≡ c.jobs ++ born c.next_job ∷ []
 jobs_more born w c crew = ap (λ (js : List JobState). js ++ born w.next_job ∷ []) crew.jobs ∙ ap (λ (n : ℕ). c.jobs ++ born n ∷ []) crew.next_job
 
@@ -82,7 +83,7 @@ module _ (job : NewJob) (s : StoreFacts) (known : Bool) (known_is : (u : State) 
   abbrev before : Seen
   before = seen (Up s) c count
 
-  -- it comes in
+  -- the job is accepted
   module _ (granted : (w : World) → IsCrewOf w c → knows_user w.store job.user ≡ known → job_refusal w job.user job.time job.money ≡ None) where
     in_does : (w : World) → Matches w before → DoesLine (job_of_line job) w (Up s) (Up s) (operator_line count (job_text c.next_job (job.name ++ codes " IN")))
     in_does w m = record {
@@ -114,7 +115,7 @@ module _ (job : NewJob) (s : StoreFacts) (known : Bool) (known_is : (u : State) 
   abbrev Did : Option Failure → CrewState → Option (List ℕ) → Option (List ℕ) → ℕ → ℕ → Type 0
   Did failure c' before_text after faults faults' = DidLine (job_of_line job) before failure (seen (Up s) c' count) before_text after faults faults'
 
-  -- by how it came out
+  -- by its outcome
   pub taken_line : (failure : Option Failure) (c' : CrewState) (before_text after : Option (List ℕ)) (faults faults' : ℕ) → TakesJob known job count c failure c' before_text after faults faults'
       → Did failure c' before_text after faults faults'
   taken_line failure c' before_text after faults faults' (inl comes) =
@@ -134,7 +135,7 @@ down_takes_none job d c count failure before after faults faults' ready puts =
     (λ w m. (refl, sym (ap (λ (b : Bool). if b then job_line (job_refusal w job.user job.time job.money) (taken_in job.name job.user job.time job.money job.lines w) w else line_refused NotStarted w) m.stands.0)))
     failure before after faults faults' ready puts
 
--- A JOB'S LINE, where the system knows its user or doesn't, or is down
+-- A JOB'S LINE, if the system knows its user or doesn't, or is down
 pub job_on : (job : NewJob) (f : SystemFacts) (known : Bool) → KnowsIn job.user f (Some known) → (c : CrewState) → IsReady f c → (count : ℕ) (failure : Option Failure) (c' : CrewState) (before after : Option (List ℕ)) (faults faults' : ℕ)
     → TakesJob known job count c failure c' before after faults faults' → DidLine (job_of_line job) (seen f c count) failure (seen f c' count) before after faults faults'
 job_on job f known knows c ready count failure c' before after faults faults' takes =
@@ -149,7 +150,7 @@ no_job_on job (Down d) is c ready count failure c' before after faults faults' t
     subst (λ (k : CrewState). DidLine (job_of_line job) (seen (Down d) c count) failure (seen (Down d) k count) before after faults faults') (sym crew)
     (down_takes_none job d c count failure before after faults faults' ready puts)
 
--- whether the user has a budget tells whether the user is known
+-- the user has a budget if and only if the user is known
 pub known_by : (s : StoreFacts) → s.spent ≡ false → (user : List ℕ) (time : Option ℕ) (known : Bool) → time ≡ option_map (λ (u : UserRec). u.time) (finmap.get (users_by_name s.online.contents.users) user)
     → known ≡ is_some time → (u : State) → StandsForState s u → knows_user u user ≡ known
 known_by s unspent user time known time_is known_is u here =
@@ -159,7 +160,7 @@ known_by s unspent user time known time_is known_is u here =
     is_some-map None = refl
     is_some-map (Some r) = refl
 
--- the number of the open dump tells whether there is one
+-- the number of the open dump shows whether there is one
 pub some_dump : (o : Option DumpFacts) (n : ℕ) → option_map (λ (d : DumpFacts). d.plan.number) o ≡ Some n → (d : DumpFacts) × (o ≡ Some d) × (d.plan.number ≡ n)
 some_dump None n is = absurd (none-some n is)
 some_dump (Some d) n is = (d, refl, same_Some d.plan.number n is)

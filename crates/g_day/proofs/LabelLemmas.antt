@@ -1,4 +1,5 @@
--- THE SAME DEVICES behind an event: what is read, written, mounted and armed leaves disc and reels what they are.
+-- The same devices after an event: reads, writes, mounts and arming preserve the identity of disc and reels.
+-- serves: CauseLemmas, JobLemmas, LineLemmas, UpLemmas, crates above
 use Rattle.std.proofs.Common.{◌≡◌, ◌==◌, ◌≤◌, ℕ, Bool, true, false, List, [], ◌∷◌, map, refl, sym, ◌∙◌, ap, if◌then◌else◌, arith}
 use Rattle.g_script.specs.declared.operator.Operator.{Operator}
 use Rattle.g_script.specs.declared.operator.Operator.TheVariants as line
@@ -9,7 +10,7 @@ use Rattle.g_run_model.specs.Devices.{Devices}
 use Rattle.g_day.specs.Parts.{FusesBy, disc_arms, tape_arms}
 use Rattle.g_day.specs.System.{SameDevices, labels}
 
--- what a reel that is changed keeps, all keep
+-- what one changed reel preserves, all preserve
 pub parts_with : {X : Type 0} (part : Reel → X) (s : ℕ) (f : Reel → Reel) → ((r : Reel) → part (f r) ≡ part r) → (reels : List Reel) → map part (with_reel s f reels) ≡ map part reels
 parts_with part s f keeps [] = refl
 parts_with {X = X} part s f keeps (r ∷ reels) = by (s == r.serial) (parts_with part s f keeps reels)
@@ -30,14 +31,14 @@ labels_unread (r ∷ reels) = ap (λ (ls : List (ℕ × ℕ)). (r.serial, r.capa
 pub labels_read : (old new : List Reel) → map unread new ≡ map unread old → labels new ≡ labels old
 labels_read old new is = sym (labels_unread new) ∙ ap labels is ∙ labels_unread old
 
--- a count that stands still, and one that doesn't fall twice
+-- a counter that doesn't move, and one that doesn't fall in two steps
 pub stands_still : (a b : ℕ) → b ≡ a → a ≤ b
 stands_still a b same = omega (arith, same)
 
 twice_later : (a b c : ℕ) → a ≤ b → b ≤ c → a ≤ c
 twice_later a b c first later = omega (arith, first, later)
 
--- where no failure of the disc was counted
+-- if no failure of the disc was counted
 pub same_still : (a b : Devices) → b.disc.size ≡ a.disc.size → b.disc.read_faults ≡ a.disc.read_faults → b.disc.write_faults ≡ a.disc.write_faults → a.disc.writes ≤ b.disc.writes
     → a.rack.read_faults ≤ b.rack.read_faults → a.rack.write_faults ≤ b.rack.write_faults → labels b.rack.reels ≡ labels a.rack.reels → SameDevices a b
 same_still a b size reads faults writes tape_reads tape_writes reels = record {
@@ -50,7 +51,7 @@ same_still a b size reads faults writes tape_reads tape_writes reels = record {
   reels = reels;
 }
 
--- nor anything else
+-- or anything else
 pub same_counts : (a b : Devices) → b.disc.size ≡ a.disc.size → b.disc.read_faults ≡ a.disc.read_faults → b.disc.write_faults ≡ a.disc.write_faults → b.disc.writes ≡ a.disc.writes
     → b.rack.read_faults ≡ a.rack.read_faults → b.rack.write_faults ≡ a.rack.write_faults → labels b.rack.reels ≡ labels a.rack.reels → SameDevices a b
 same_counts a b size reads faults writes tape_reads tape_writes reels =

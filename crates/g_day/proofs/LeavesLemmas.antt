@@ -1,4 +1,5 @@
--- WHAT A LINE LEAVES OF THE CREW, whether devices tell or not.
+-- What a line leaves of the crew, whether or not the devices expose their contents.
+-- serves: JobLemmas, LineLemmas, UpLemmas, crates above
 use Rattle.std.proofs.Common.{◌≡◌, ℕ, false, List, Option, sym, subst, refl, arith}
 use Rattle.std.proofs.lemmas.List.Elements.{All-nil, All-push}
 use Rattle.g_entry.specs.declared.user_rec.UserRec.{UserRec}
@@ -32,7 +33,7 @@ leaves_joined job c = record {
   numbers = omega arith;
 }
 
--- a fault that is told leaves the jobs as they were, or, where it is a stop, none
+-- a fault that is reported leaves the jobs unchanged, or, if it is a stop, none
 pub leaves_told : (fault : StoreFault) (count : ℕ) (c : CrewState) (failure : Option Failure) (c' : CrewState) (before after : Option (List ℕ)) (faults faults' : ℕ)
     → TellsFault fault count c failure c' before after faults faults' → LeavesCrew c c'
 leaves_told NoMemory count c failure c' before after faults faults' tells = leaves_is c c' tells.1

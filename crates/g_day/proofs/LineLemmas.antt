@@ -1,4 +1,6 @@
--- HOW A LINE COMES OUT: it was done and told, or, for want of memory, it wasn't; and what a refusal and a stop make of the world.
+-- How a line ends: it was done and reported, or memory ran out and it wasn't; and what a refusal and a stop make of the
+-- world.
+-- serves: JobLemmas, UpLemmas, crates above
 use Rattle.std.proofs.Common.{◌≡◌, ℕ, ◌++◌, true, false, List, [], ◌∷◌, Option, Some, None, refl, sym, ◌∙◌, ap, subst, arith, inl, inr}
 use Rattle.std.specs.Prelude.{◌≢◌, ◌⊎◌, Result, Err, codes}
 use Rattle.std.proofs.lemmas.List.{append_assoc}
@@ -31,7 +33,7 @@ use Rattle.g_day.proofs.LabelLemmas.{no_fuse, same_itself}
 use Rattle.g_day.proofs.PutLemmas.{puts_grown, same_grown}
 use Rattle.g_day.specs.Terminals.{DidNothing}
 
--- done, and its text put whole or in part
+-- done, and its text written completely or in part
 pub was_done : (what : Operator) (old new : Seen) (failure : Option Failure) (added : List ℕ) (before after : Option (List ℕ))
     → (does : (w : World) → Matches w old → DoesLine what w old.system new.system added)
     → ((w : World) (m : Matches w old) → failure ≡ None → Matches (does w m).next new) → PutsBy failure added before after → LineGoes what old failure new before after
@@ -57,7 +59,7 @@ none_armed what failure old new no_disc no_tape disc tape = record {
   tape_since = in_none old.rack.write_faults new.rack.write_faults old.rack.arms new.rack.arms tape;
 }
 
--- A LINE that leaves the system as it is, and tells something
+-- a line that leaves the system unchanged, and prints something
 pub quiet_line : (what : Operator) → disc_arms what ≡ [] → tape_arms what ≡ [] → (f : SystemFacts) (c c' : CrewState) (count : ℕ) (failure : Option Failure) (added : List ℕ)
     (before after : Option (List ℕ)) (faults faults' : ℕ) → IsReady f c' → (does : (w : World) → Matches w (seen f c count) → DoesLine what w f f added)
     → ((w : World) (m : Matches w (seen f c count)) → failure ≡ None → Matches (does w m).next (seen f c' count)) → (failure ≡ None → LeavesCrew c c')
@@ -76,7 +78,7 @@ quiet_line what no_disc no_tape f c c' count failure added before after faults f
   grows = puts_grown puts;
 }
 
--- A REFUSAL, whatever it says: nothing changes but the text
+-- a refusal, for any text: nothing changes but the text
 module _ (what : Operator) (no_disc : disc_arms what ≡ []) (no_tape : tape_arms what ≡ []) (text : List ℕ) (f : SystemFacts) (c : CrewState) (count : ℕ)
     (gives : (w : World) → Matches w (seen f c count) → LineGives Plain what w (refusal text w)) where
   refused_does : (w : World) → Matches w (seen f c count) → DoesLine what w f f (operator_line count (codes "REFUSED " ++ text))
@@ -98,13 +100,13 @@ module _ (what : Operator) (no_disc : disc_arms what ≡ []) (no_tape : tape_arm
   says_refused failure before after faults faults' ready puts =
       quiet_line what no_disc no_tape f c c count failure (operator_line count (codes "REFUSED " ++ text)) before after faults faults' ready refused_does (λ w m e. refused_matches w m) (λ none. leaves_same c) puts
 
--- and by a fault, before anything is asked
+-- and by a fault, before anything is called
 pub refused_line : (what : Operator) → disc_arms what ≡ [] → tape_arms what ≡ [] → (fault : StoreFault) (f : SystemFacts) (c : CrewState) (count : ℕ)
     → ((w : World) → Matches w (seen f c count) → LineGives Plain what w (line_refused fault w)) → (failure : Option Failure) (before after : Option (List ℕ)) (faults faults' : ℕ) → IsReady f c
     → Puts failure (refusal_text count fault) before after faults faults' → DidLine what (seen f c count) failure (seen f c count) before after faults faults'
 refused_line what no_disc no_tape fault = says_refused what no_disc no_tape (fault_line fault)
 
--- NOTHING WAS TRIED, for want of memory
+-- nothing was tried, because memory ran out
 pub untried_line : (what : Operator) → disc_arms what ≡ [] → tape_arms what ≡ [] → (old new : SystemFacts) (c : CrewState) (count : ℕ) → new ≡ old → IsReady old c → (failure : Option Failure) → failure ≡ Some Memory
     → (text : Option (List ℕ)) (faults : ℕ) → DidLine what (seen old c count) failure (seen new c count) text text faults faults
 untried_line what no_disc no_tape old new c count same ready failure is text faults =
@@ -126,7 +128,7 @@ untried_line what no_disc no_tape old new c count same ready failure is text fau
       grows = same_grown text text refl;
     }
 
--- nothing was done, for want of memory
+-- nothing was done, because memory ran out
 pub nothing_done : (what : Operator) → disc_arms what ≡ [] → tape_arms what ≡ [] → (f : SystemFacts) (c : CrewState) (count : ℕ) → IsReady f c → (failure : Option Failure) (c' : CrewState) (before after : Option (List ℕ)) (faults faults' : ℕ)
     → DidNothing c failure c' before after faults faults' → DidLine what (seen f c count) failure (seen f c' count) before after faults faults'
 nothing_done what no_disc no_tape f c count ready failure c' before after faults faults' (failed, same, text, still) =
@@ -135,7 +137,7 @@ nothing_done what no_disc no_tape f c count ready failure c' before after faults
     (subst (λ (n : ℕ). DidLine what (seen f c count) failure (seen f c count) before before faults n) (sym still)
     (untried_line what no_disc no_tape f f c count refl ready failure failed before faults)))
 
--- WHAT A FAULT MAKES OF THE WORLD: a stop takes it down, and any other fault is a refusal
+-- WHAT A FAULT DOES TO THE WORLD: a stop takes it down, and any other fault is a refusal
 abbrev pub told_of : StoreFault → State → World → World
 told_of Stopped u w = system_stopped u w
 told_of fault u w = line_refused fault (record w { store = u })
@@ -201,7 +203,7 @@ module _ (what : Operator) where
       count = m.count;
     }
 
-  -- A FAULT IS TOLD
+  -- a fault is reported
   pub tells_fault : (old : Seen) (system : SystemFacts) (fault : StoreFault) → Faulted what old system fault → (failure : Option Failure) (c' : CrewState) (before after : Option (List ℕ)) (faults faults' : ℕ)
       → TellsFault fault old.count old.crew failure c' before after faults faults' → LineGoes what old failure (seen system c' old.count) before after × FaultCause failure faults faults'
   tells_fault old system NoMemory faulted failure c' before after faults faults' tells =

@@ -1,4 +1,5 @@
--- WHAT WAS PUT, one text behind the other.
+-- What was written, one text after another.
+-- serves: JobLemmas, LineLemmas, UpLemmas, crates above
 use Rattle.std.proofs.Common.{◌≡◌, ℕ, ◌++◌, List, [], Option, Some, None, append_assoc, append-nil, refl, sym, ◌∙◌, ap, take}
 use Rattle.g_io.specs.Streams.{HasPutPart, with_more}
 use Rattle.g_plain.specs.declared.faults.StoreFault.{StoreFault}
@@ -16,7 +17,7 @@ pub with_more-nil : (before : Option (List ℕ)) → with_more before [] ≡ bef
 with_more-nil (Some bytes) = ap (λ t. Some t) (append-nil bytes)
 with_more-nil None = refl
 
--- SOME TEXT WAS PUT
+-- SOME TEXT WAS WRITTEN
 pub same_grown : (before after : Option (List ℕ)) → after ≡ before → HasGrown before after
 same_grown before after same = record { more = []; put = same ∙ sym (with_more-nil before) }
 

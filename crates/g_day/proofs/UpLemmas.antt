@@ -1,4 +1,5 @@
--- AN EVENT OF A STORE THAT IS UP, asked by a line: it is granted, refused or stopped, by the step of its state.
+-- An event of a store that is up, on behalf of a line: it is granted, refused or stopped, by the step of its state.
+-- serves: JobLemmas, crates above
 use Rattle.std.proofs.Common.{◌≡◌, ℕ, ◌+◌, ◌++◌, Bool, true, false, List, [], Option, Some, None, refl, sym, ap, subst, inl, inr}
 use Rattle.std.specs.Prelude.{◌≢◌, ◌↔◌, MatchBool, Result, Ok, Err, codes}
 use Rattle.g_plain.specs.declared.faults.StoreFault.{StoreFault}
@@ -39,7 +40,7 @@ use Rattle.g_day.proofs.LineLemmas.{FaultDone, none_armed, refused_line, tells_f
 use Rattle.g_day.proofs.LabelLemmas.{no_fuse}
 use Rattle.g_day.proofs.PutLemmas.{puts_grown, told_grown}
 
--- want of memory is an outcome of no device
+-- running out of memory is an outcome of no device
 pub starved_told : {A : Type 0} (fault : StoreFault) → fault ≡ NoMemory → OutcomeTold {A = A} Plain (Err fault)
 starved_told fault is = record { told = tt; disc_read = λ e. let no : ⊥ = cc in absurd no; tape_read = λ e. let no : ⊥ = cc in absurd no; cut = λ e. let no : ⊥ = cc in absurd no }
 
@@ -51,13 +52,14 @@ pub not_spent : {A : Type 0} (b : Bool) (answer : Result A StoreFault) → (b �
 not_spent false answer is isnt = refl
 not_spent true answer is isnt = absurd (isnt (is.0 refl))
 
--- a refusal but for want of memory is the step's
+-- a refusal is the step's, unless memory ran out
 pub leads_by : {A : Type 0} (by : State → Holding → Outcome → Result A StoreFault → State → Type 0) (s : State) (old new : StoreFacts) (fault : StoreFault) → fault ≢ NoMemory
     → StepsBy by s old (Err fault) new → LeadsBy by s old new (Err fault)
 leads_by by s old new NoMemory other steps = absurd (other refl)
 leads_by by s old new fault other steps = steps
 
--- HOW AN EVENT GOES that a line asks for: by its step where the devices tell and belong together; and what is kept
+-- how an event goes that a line calls: by its step, if the devices expose their contents and belong together; and what is
+-- preserved
 pub record Went {A : Type 0} (by : State → Holding → Outcome → Result A StoreFault → State → Type 0) (old : StoreFacts) (answer : Result A StoreFault) (new : StoreFacts) : Type 0 where
   pub step : Told old → Belongs old → (s : State) → StandsForState old s → StepsBy by s old answer new
   pub keeps : IsStore new
@@ -68,7 +70,8 @@ pub record Went {A : Type 0} (by : State → Holding → Outcome → Result A St
 went : {A : Type 0} (by : State → Holding → Outcome → Result A StoreFault → State → Type 0) (count_of : A → ℕ) (old new : StoreFacts) (answer : Result A StoreFault) → AnswersEvent by count_of old answer new → Went by old answer new
 went by count_of old new answer event = record { step = event.step; keeps = event.keeps; told = event.told; belongs = event.belongs; spent = event.spent }
 
--- AND WHAT IT MAKES OF THE DEVICES: what they counted, that nobody armed them, that they are the same, and what became of completed dumps
+-- what it makes of the devices: what they counted, that none was armed, that they are the same, and what happened to
+-- completed dumps
 pub record Caused {A : Type 0} (what : Operator) (old : StoreFacts) (answer : Result A StoreFault) (new : StoreFacts) : Type 0 where
   pub counted : (o : Outcome) → OutcomeTold o answer → CountedBy what o (devices_in (Up old)) (devices_in (Up new))
   pub still : OutcomeTold Plain answer → EventCounted Plain [] [] (devices_in (Up old)) (devices_in (Up new))
@@ -241,7 +244,7 @@ stop_down (Some Stopped) reply s after u (same, inl is) = ap (λ (t : State). t.
 stop_down (Some Stopped) reply s after u (same, inr is) = ap (λ (t : State). t.up) is
 stop_down (Some f) reply s after u (same, is) = let never : ⊥ = cc in absurd never
 
--- a system that is down is asked for nothing
+-- a system that is down calls no event
 pub down_line : {A : Type 0} (what : Operator) (by : State → Holding → Outcome → Result A StoreFault → State → Type 0) (said : A → List ℕ)
     → ((o : Outcome) (w next : World) → Asks o w.store.up NotStarted (λ r s. (k : Holding) × (w.store.holding ≡ Some k) × by w.store k o r s × IsTold o r) (λ x. now_stands (said x)) w next → LineGives o what w next)
     → disc_arms what ≡ [] → tape_arms what ≡ [] → (d : Devices) (c : CrewState) (count : ℕ) → IsReady (Down d) c → (failure : Option Failure) (before_text after : Option (List ℕ)) (faults faults' : ℕ)

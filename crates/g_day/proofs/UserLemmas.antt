@@ -1,4 +1,5 @@
--- THE USERS of a store, as the state that it stands for has them.
+-- The users of a store, as the state that it represents has them.
+-- serves: JobLemmas, crates above
 use Rattle.std.proofs.Common.{◌≡◌, ℕ, false, List, refl, sym, ◌∙◌, ap, subst}
 use Rattle.std.specs.Prelude.{is_some}
 use Rattle.std.specs.FinMap as finmap

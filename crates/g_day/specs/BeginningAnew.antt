@@ -1,5 +1,6 @@
--- A LINE OF A SYSTEM THAT IS DOWN, to begin anew: what MOUNT, UNMOUNT and STOP do beside a disc that is new; and FORMAT over devices to begin
--- anew with, which makes of them what it makes of a new disc beside the same reels, or leaves them to begin anew with.
+-- A line of a system that is down, when starting over: what MOUNT, UNMOUNT and STOP do next to a new disc; and FORMAT on
+-- devices for starting over, which makes of them what it makes of a new disc and the same reels, or leaves them as devices
+-- for starting over.
 use Rattle.std.specs.Prelude.{◌≡◌, ◌⊎◌, ℕ, List, Option, None}
 use Rattle.g_script.specs.declared.operator.Operator.{Operator}
 use Rattle.g_script.specs.declared.operator.Operator.TheVariants as line
@@ -8,36 +9,38 @@ use Rattle.g_day.specs.declared.progress.Failure.{Failure}
 use Rattle.g_day.specs.Parts.{DidLine, Seen, seen}
 use Rattle.g_day.specs.System.{Down, SystemFacts, Up, devices_in}
 
--- the same system, with a new disc in the place of its own where it is down
+-- The same system, with a new disc in place of its own if it is down.
 abbrev pub beside_new : SystemFacts → SystemFacts
 beside_new (Up s) = Up s
 beside_new (Down d) = Down (with_new_disc d)
 
+-- What is at hand, with a new disc in place of the old one if the system is down.
 abbrev pub beside : Seen → Seen
 beside s = seen (beside_new s.system) s.crew s.count
 
--- down, over devices to begin anew with
+-- The system is down, on devices for starting over.
 abbrev pub IsBlank : SystemFacts → Type 0
 IsBlank (Up s) = ⊥
 IsBlank (Down d) = AreBlank d
 
--- The line was done beside a new disc as well, and leaves devices to begin anew with what they are.
+-- The line would have the same effect with a new disc, and preserves devices for starting over.
 pub record WentAside (what : Operator) (old : Seen) (failure : Option Failure) (new : Seen) (before after : Option (List ℕ)) (faults faults' : ℕ) : Type 0 where
   pub line : DidLine what (beside old) failure (beside new) before after faults faults'
   pub blank : IsBlank old.system → IsBlank new.system
 
--- NO FILESTORE CAME UP by the line: from and to what is at hand beside a new disc. A FORMAT that went through has failed at the disc, which
--- counted it.
+-- No filestore came up by the line. It leads from and to what is at hand with a new disc. A FORMAT that was processed
+-- without a failure of the run has failed at the disc, which counted it.
 pub record IsUntaken (what : Operator) (old : Seen) (failure : Option Failure) (new : Seen) (before after : Option (List ℕ)) (faults faults' : ℕ) : Type 0 where
   pub went : DidLine what (beside old) failure (beside new) before after faults faults'
   pub blank : IsBlank new.system
   pub unwell : failure ≡ None → what ≡ line.Format → NoDiscFault (devices_in old.system) (devices_in new.system) → ⊥
 
--- A LINE OVER DEVICES TO BEGIN ANEW WITH, whatever became of it: no filestore came up by it, or one did, as from a new disc
+-- A line on devices for starting over, for any outcome: no filestore came up by it, or one did, as from a new disc.
 abbrev pub GoesFirst : Operator → Seen → Option Failure → Seen → Option (List ℕ) → Option (List ℕ) → ℕ → ℕ → Type 0
 GoesFirst what old failure new before after faults faults' =
     IsBlank old.system → IsUntaken what old failure new before after faults faults' ⊎ DidLine what (beside old) failure new before after faults faults'
 
+-- What each line does when starting over. Other lines are not specified.
 abbrev pub AnewLine : Operator → Seen → Option Failure → Seen → Option (List ℕ) → Option (List ℕ) → ℕ → ℕ → Type 0
 AnewLine (line.Mount serial) old failure new before after faults faults' = WentAside (line.Mount serial) old failure new before after faults faults'
 AnewLine (line.Unmount serial) old failure new before after faults faults' = WentAside (line.Unmount serial) old failure new before after faults faults'

@@ -1,9 +1,10 @@
--- THE STORE IN ITS BOX, which is never empty. What an empty one would be seen as is of no account.
+-- The store in its box, which is never empty. What an empty box would represent doesn't matter.
 use Rattle.std.specs.Prelude.{false, [], Option, Some, None}
 use Rattle.g_base.specs.Fuse.{never}
 use Rattle.g_slots.specs.declared.side.Side.TheVariants.{A}
 use Rattle.g_store_meaning.specs.StoreInvariant.{StoreFacts}
 
+-- What an empty box would be seen as.
 abbrev pub nothing : StoreFacts
 nothing = record {
   online = record {
@@ -24,6 +25,7 @@ nothing = record {
   spent = false;
 }
 
+-- The store in the box.
 abbrev pub boxed : Option StoreFacts → StoreFacts
 boxed (Some store) = store
 boxed None = nothing

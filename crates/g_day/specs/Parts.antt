@@ -1,4 +1,4 @@
--- A LINE OF THE OPERATOR, done on a system: what the world is behind it, whatever world stood before, and what holds of every device.
+-- A line of the operator, done on a system: the world afterwards, for any world before, and what holds for all devices.
 use Rattle.std.specs.Prelude.{◌≡◌, ◌⊎◌, ◌+◌, ◌<◌, ◌≤◌, ℕ, Bool, true, false, List, [], ◌++◌, Option, Some, None}
 use Rattle.g_base.specs.Fuse.{IsArmedBy, IsArmedWithin}
 use Rattle.g_io.specs.Streams.{with_more, HasPutPart}
@@ -20,27 +20,29 @@ use Rattle.g_day.specs.declared.progress.Failure.{Failure}
 use Rattle.g_day.specs.Puts.{FaultCause, HasGrown}
 use Rattle.g_day.specs.System.{Down, DumpsGrow, SameDevices, StandsAs, SystemBelongs, SystemFacts, Up, devices_in}
 
--- what a run has at hand
+-- What a run has at hand.
 pub record Seen : Type 0 where
   pub system : SystemFacts
   pub crew : CrewState
   pub count : ℕ
 
+-- What is at hand, from its parts.
 abbrev pub seen : SystemFacts → CrewState → ℕ → Seen
 seen system crew count = record { system = system; crew = crew; count = count }
 
--- A run has this at hand between its events, over a disc of a size that a filestore can have: a store that isn't spent, or, while the system is down, neither jobs nor accounts.
+-- A run has this at hand between its events, on a disc of a size that a filestore can have: a store that isn't spent, or,
+-- while the system is down, neither jobs nor accounts.
 abbrev pub IsReady : SystemFacts → CrewState → Type 0
 IsReady (Up s) c = (s.spent ≡ false) × (2177 < s.online.disc.size) × (s.online.disc.size ≤ 1048576)
 IsReady (Down d) c = (2177 < d.disc.size) × (d.disc.size ≤ 1048576) × (c.jobs ≡ []) × (c.accounts ≡ [])
 
--- the world is what is at hand
+-- The world matches what is at hand.
 pub record Matches (w : World) (seen : Seen) : Type 0 where
   pub stands : StandsAs seen.system w.store
   pub crew : IsCrewOf w seen.crew
   pub count : w.count ≡ seen.count
 
--- what an operator may ask, within its limits
+-- The limits of an operator's line.
 abbrev pub IsWithin : Operator → Type 0
 IsWithin (line.Job name user time money lines) = ((1 ≤ time) × (time ≤ 1000000)) × (money ≤ 1000000)
 IsWithin (line.StopDisc k) = 1 ≤ k
@@ -50,17 +52,18 @@ IsWithin (line.Typed t text) = ((1 ≤ t) × (t ≤ 8)) × IsOneLine text
 IsWithin (line.Logout t) = (1 ≤ t) × (t ≤ 8)
 IsWithin what = Unit {0}
 
--- what the devices count in a line
+-- What the devices count in a line.
 abbrev pub CountedBy : Operator → Outcome → Devices → Devices → Type 0
 CountedBy what o old new = LineCounted (is_process what) o (disc_arms what) (tape_arms what) old new
 
--- what becomes of completed dumps in it: they stay, but for a PROCESS, which may release whole reels where a newer dump has all
+-- What happens to completed dumps in a line: they stay, except in a PROCESS, which may release whole reels if a newer dump
+-- holds everything.
 abbrev pub DumpsBy : Bool → Rack → Rack → Type 0
 DumpsBy true old new = DumpsMove old new
 DumpsBy false old new = DumpsGrow old new
 
--- The line was done: with an outcome that the counts tell it gives the next world, for whose store the system stands, and whose text is
--- longer.
+-- The line was done. With an outcome that the counters show it leads to the next world. The system represents the store of
+-- that world, and its text is longer.
 pub record DoesLine (what : Operator) (w : World) (old new : SystemFacts) (added : List ℕ) : Type 0 where
   pub outcome : Outcome
   pub next : World
@@ -69,21 +72,22 @@ pub record DoesLine (what : Operator) (w : World) (old new : SystemFacts) (added
   pub stands : StandsAs new next.store
   pub text : next.text ≡ w.text ++ added
 
--- nothing was done, for want of memory
+-- Nothing was done, because memory ran out.
 pub record DoesNothing (w : World) (old new : SystemFacts) (before after : Option (List ℕ)) : Type 0 where
   pub counted : EventCounted Plain [] [] (devices_in old) (devices_in new)
   pub stands : StandsAs new w.store
   pub text : after ≡ before
 
--- From each world that is what is at hand: where nothing failed, the line was done, its text put, and what is then at hand is the next
--- world; else it was done and a front of its text put, or nothing was done.
+-- For each world that matches what is at hand: if nothing failed, the line was done, its text was written, and the next
+-- world matches what is at hand then. Otherwise it was done and a prefix of its text was written, or nothing was done.
 abbrev pub LineGoes : Operator → Seen → Option Failure → Seen → Option (List ℕ) → Option (List ℕ) → Type 0
 LineGoes what old None new before after = (w : World) → Matches w old
     → (added : List ℕ) × (d : DoesLine what w old.system new.system added) × Matches d.next new × (after ≡ with_more before added)
 LineGoes what old (Some failure) new before after = (w : World) → Matches w old
     → DoesNothing w old.system new.system before after ⊎ ((added : List ℕ) × DoesLine what w old.system new.system added × HasPutPart before added after)
 
--- whether devices tell or not, a line arms a device with its number, or, where it isn't done, not at all; and no sooner and no later than in it
+-- Whether or not the devices expose their contents, a line arms a device with its number; a line that isn't completed may
+-- not arm it. It was armed within this line.
 pub record ArmsBy (what : Operator) (failure : Option Failure) (old new : Devices) : Type 0 where
   pub disc : IsArmedWithin (disc_arms what) old.disc.arms new.disc.arms
   pub tape : IsArmedWithin (tape_arms what) old.rack.arms new.rack.arms
@@ -91,18 +95,18 @@ pub record ArmsBy (what : Operator) (failure : Option Failure) (old new : Device
   pub disc_since : IsArmedIn old.disc.writes new.disc.writes old.disc.arms new.disc.arms
   pub tape_since : IsArmedIn old.rack.write_faults new.rack.write_faults old.rack.arms new.rack.arms
 
--- whether devices tell or not, a line leaves jobs that can take turns, and gives out one number at most
+-- Whether or not the devices expose their contents, a line leaves jobs that can take turns, and assigns at most one number.
 pub record LeavesCrew (old new : CrewState) : Type 0 where
   pub jobs : AreOpen old.jobs → AreOpen new.jobs
   pub numbers : new.next_job ≤ old.next_job + 1
 
--- a STOP line sets the fuse of its device to this number
+-- A STOP line sets the fuse of its device to this number.
 abbrev pub FusesBy : Operator → Devices → Type 0
 FusesBy (line.StopDisc k) d = d.disc.fuse ≡ Some k
 FusesBy (line.StopTape k) d = d.rack.fuse ≡ Some k
 FusesBy what d = Unit {0}
 
--- A PART OF A RUN that does a line
+-- A part of a run that does a line.
 pub record DidLine (what : Operator) (old : Seen) (failure : Option Failure) (new : Seen) (before after : Option (List ℕ)) (faults faults' : ℕ) : Type 0 where
   pub goes : LineGoes what old failure new before after
   pub ready : IsReady new.system new.crew

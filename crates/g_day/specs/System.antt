@@ -1,4 +1,4 @@
--- THE SYSTEM as a run has it: a store that is up, or devices under no store.
+-- The system as a run has it: a store that is up, or devices without a store.
 use Rattle.std.specs.Prelude.{◌≡◌, ◌≤◌, ◌++◌, ℕ, false, List, map}
 use Rattle.g_disc.specs.Disc.{DiscState}
 use Rattle.g_tape.specs.Rack.{Rack}
@@ -15,23 +15,26 @@ use Rattle.g_run_model.specs.Devices.{AreReadAs, Devices}
 use Rattle.g_day.specs.declared.system.System.{System}
 use Rattle.g_day.specs.declared.system.System.TheVariants as systems
 
+-- A store that is up, or the devices of a system that is down.
 pub data SystemFacts : Type 0 where
   Up : StoreFacts → SystemFacts
   Down : Devices → SystemFacts
 
+-- A system as contracts see it.
 abbrev pub facts_of : {D T : Type 0} → (D → DiscState) → (T → Rack) → System D T → SystemFacts
 facts_of disc rack (systems.Up store) = Up store
 facts_of disc rack (systems.Down d t) = Down (record { disc = disc d; rack = rack t })
 
+-- The devices of a system.
 abbrev pub devices_in : SystemFacts → Devices
 devices_in (Up s) = record { disc = s.online.disc; rack = s.rack }
 devices_in (Down d) = d
 
--- the reels of a rack, by serial and capacity
+-- The reels of a rack, by serial and capacity.
 abbrev pub labels : List Reel → List (ℕ × ℕ)
 labels reels = map (λ r. (r.serial, r.capacity)) reels
 
--- THE SAME DEVICES: a disc of the same size, and the same reels; and no count of either fell
+-- The same devices: a disc of the same size, and the same reels; and no counter of either fell.
 pub record SameDevices (old new : Devices) : Type 0 where
   pub size : new.disc.size ≡ old.disc.size
   pub read_faults : old.disc.read_faults ≤ new.disc.read_faults
@@ -41,32 +44,33 @@ pub record SameDevices (old new : Devices) : Type 0 where
   pub tape_write_faults : old.rack.write_faults ≤ new.rack.write_faults
   pub reels : labels new.rack.reels ≡ labels old.rack.reels
 
--- COMPLETED DUMPS STAY: all that are completed on the reels of the one rack are so on those of the other, each whole, and maybe more
--- behind those of its reel
+-- Completed dumps stay: all dumps that are completed on the reels of the first rack are completed on those of the second,
+-- each unchanged, possibly followed by more on its reel.
 pub record DumpsGrow (old new : Rack) : Type 0 where
   pub grow : (shelf : ℕ → List Dump) → AreShelved shelf (told_reels old) → (more : ℕ → List Dump) × AreShelved (λ s. shelf s ++ more s) (told_reels new)
 
--- a store that is up isn't spent
+-- A store that is up isn't spent.
 abbrev pub IsRunning : SystemFacts → Type 0
 IsRunning (Up s) = s.spent ≡ false
 IsRunning (Down d) = Unit {0}
 
--- the store tells, disc and rack belong together, and it stands for the state
+-- The store exposes its contents, disc and rack belong together, and it represents the state.
 pub record IsNow (s : StoreFacts) (t : State) : Type 0 where
   pub told : Told s
   pub belongs : Belongs s
   pub stands : StandsForState s t
 
--- THE SYSTEM STANDS FOR A STATE
+-- The system represents a state.
 abbrev pub StandsAs : SystemFacts → State → Type 0
 StandsAs (Up s) t = IsNow s t
 StandsAs (Down d) t = (t.up ≡ false) × AreReadAs d t
 
--- devices that tell and belong together
+-- Devices that expose their contents and belong together.
 pub record BelongTogether (d : Devices) : Type 0 where
   pub told : AllTold d.disc.held (told_reels d.rack)
   pub belong : Belong d.disc.held d.rack
 
+-- The devices of the system expose their contents and belong together.
 abbrev pub SystemBelongs : SystemFacts → Type 0
 SystemBelongs (Up s) = Told s × Belongs s
 SystemBelongs (Down d) = BelongTogether d

@@ -1,4 +1,4 @@
--- WHAT IS TOLD of an event that was refused or stopped, and what is at hand then.
+-- What is printed for an event that was refused or stopped, and what is at hand then.
 use Rattle.std.specs.Prelude.{◌≡◌, ℕ, List, [], ◌++◌, Option, Some, codes}
 use Rattle.g_plain.specs.declared.faults.StoreFault.{StoreFault}
 use Rattle.g_plain.specs.declared.faults.StoreFault.TheVariants.{NoMemory, Stopped}
@@ -11,29 +11,30 @@ use Rattle.g_day.specs.declared.progress.Failure.TheVariants.{Memory}
 use Rattle.g_day.specs.Puts.{Puts}
 use Rattle.g_day.specs.System.{Down, SystemFacts, Up}
 
--- no jobs and no accounts; numbers go on
+-- The crew without jobs and accounts; the job numbers continue.
 abbrev pub without_jobs : CrewState → CrewState
 without_jobs c = record c { jobs = []; accounts = [] }
 
+-- The line that reports a refusal.
 abbrev pub refusal_text : ℕ → StoreFault → List ℕ
 refusal_text count fault = operator_line count (codes "REFUSED " ++ fault_line fault)
 
--- the system is down: the line that says so, and the files of the jobs
+-- The system is down: the line that reports it, and the files of the jobs.
 abbrev pub down_text : ℕ → List ℕ → CrewState → List ℕ
 down_text count what c = operator_line count what ++ broken_files c.jobs
 
--- want of memory is told to nobody; a stop takes the jobs down; any other fault is a refusal
+-- If memory ran out nothing is printed; a stop ends all jobs; any other fault is printed as a refusal.
 abbrev pub TellsFault : StoreFault → ℕ → CrewState → Option Failure → CrewState → Option (List ℕ) → Option (List ℕ) → ℕ → ℕ → Type 0
 TellsFault NoMemory count c failure c' before after old new = (failure ≡ Some Memory) × (c' ≡ c) × (after ≡ before) × (new ≡ old)
 TellsFault Stopped count c failure c' before after old new = (c' ≡ without_jobs c) × Puts failure (down_text count (codes "SYSTEM STOPPED") c) before after old new
 TellsFault fault count c failure c' before after old new = (c' ≡ c) × Puts failure (refusal_text count fault) before after old new
 
--- a store that was stopped is taken down
+-- A store that was stopped is taken down.
 abbrev pub system_after : StoreFault → StoreFacts → SystemFacts
 system_after Stopped s = Down (record { disc = s.online.disc; rack = s.rack })
 system_after fault s = Up s
 
--- and a system that was down stays so
+-- A system that was down stays down.
 abbrev pub system_behind : StoreFault → SystemFacts → SystemFacts
 system_behind fault (Up s) = system_after fault s
 system_behind fault (Down d) = Down d

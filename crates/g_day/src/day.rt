@@ -5,7 +5,7 @@ use g_job_table::Crew;
 use g_tape::Tapes;
 use std::marker::Model;
 
-/// The system, the crew and the count of ticks. Contracts see it as what is at hand (docs/DEFINITIONS.md, "The whole run").
+/// The system, the crew and the count of ticks. Contracts see it as what is at hand (docs/DEFINITIONS.md, "g_day").
 #[derive(Drop)]
 pub struct Day<D: Disc, T: Tapes> {
     pub system: System<D, T>,

@@ -1,5 +1,5 @@
-//! A day: what a run has at hand between two events. The system is up or down; beside it are the jobs and the count of ticks. And how
-//! what became of an event is put.
+//! A day: what a run has at hand between two events. The system is up or down; the rest are the jobs and the count of
+//! ticks. This crate also prints the results of events.
 #![tactic(auto)]
 
 mod day;

@@ -1,4 +1,4 @@
-//! What the operator reads is put, one text for an event.
+//! What the operator reads is written, one text for each event.
 ghost use Rattle.std.specs.Prelude.{◌≡◌, ◌++◌, ℕ, List, codes, IfOk, OnOk};
 ghost use Rattle.g_day.specs.Puts.{Puts};
 ghost use Rattle.g_day.specs.Telling.{refusal_text};
@@ -17,7 +17,7 @@ use g_plain::StoreFault;
 use g_tape::Tapes;
 use std::alloc::Global;
 
-/// Puts a text.
+/// Writes a text.
 pub fn put<K: Sink>(out: &mut K, text: &[u8]) -> Option<Failure>
     ensures { Puts result text.now (K.written out.old) (K.written out.new) (K.faults out.old) (K.faults out.new) }
 {
@@ -27,7 +27,7 @@ pub fn put<K: Sink>(out: &mut K, text: &[u8]) -> Option<Failure>
     }
 }
 
-/// Puts a text that was made for it, or couldn't be.
+/// Writes a text that was built for it, unless memory ran out.
 pub fn put_made<K: Sink>(out: &mut K, made: Result<Text, NoMemory>) -> Option<Failure>
     ensures { (text : List ℕ) → IfOk made (λ t. t ≡ text)
         → Puts result text (K.written out.old) (K.written out.new) (K.faults out.old) (K.faults out.new) }
@@ -38,7 +38,7 @@ pub fn put_made<K: Sink>(out: &mut K, made: Result<Text, NoMemory>) -> Option<Fa
     }
 }
 
-/// Puts a line of the operator's: the count of ticks, and what was done.
+/// Writes a line for the operator: the count of ticks, and what was done.
 pub fn say<K: Sink>(alloc: Global, count: u64, what: &[u8], out: &mut K) -> Option<Failure>
     ensures { Puts result (operator_line count what.now) (K.written out.old) (K.written out.new) (K.faults out.old) (K.faults out.new) }
 {
@@ -46,7 +46,7 @@ pub fn say<K: Sink>(alloc: Global, count: u64, what: &[u8], out: &mut K) -> Opti
     put_made(out, made)
 }
 
-/// The same of what was made for it, or couldn't be.
+/// Does so for a text that was built for it, unless memory ran out.
 pub fn say_made<K: Sink>(
     alloc: Global,
     count: u64,
@@ -62,7 +62,7 @@ pub fn say_made<K: Sink>(
     }
 }
 
-/// The line that tells what was done is put, and all is as it was.
+/// Writes the line that reports what was done; nothing else changes.
 pub fn told<K: Sink, D: Disc, T: Tapes>(
     alloc: Global,
     day: Day<D, T>,
@@ -77,7 +77,7 @@ pub fn told<K: Sink, D: Disc, T: Tapes>(
     Ended { day, failure }
 }
 
-/// Puts the line that tells why a line was refused.
+/// Writes the line that reports why a line was refused.
 pub fn refuse<K: Sink>(
     alloc: Global,
     count: u64,
@@ -90,7 +90,7 @@ pub fn refuse<K: Sink>(
     say_made(alloc, count, made, out)
 }
 
-/// The room that is asked for at once for a line of the operator's: most are shorter.
+/// The space that is allocated at once for a line to the operator; most lines are shorter.
 pub const ROOM: usize = 64;
 
 /// A line of the operator's.
@@ -102,7 +102,7 @@ pub(crate) fn line(alloc: Global, count: u64, what: &[u8]) -> Result<Text, NoMem
     Ok(text)
 }
 
-/// What is told of a refusal.
+/// The text of a refusal.
 fn refusal(alloc: Global, fault: &StoreFault) -> Result<Text, NoMemory>
     ensures { IfOk result (λ text. text ≡ codes "REFUSED " ++ fault_line fault.now) }
 {
@@ -111,7 +111,7 @@ fn refusal(alloc: Global, fault: &StoreFault) -> Result<Text, NoMemory>
     Ok(text)
 }
 
-/// Puts number and text of a fault behind the text. Of a wait, a stop and want of memory there is nothing to tell.
+/// Appends number and text of a fault to the text. A wait, a stop and running out of memory have no text.
 pub fn push_told(text: &mut Text, fault: &StoreFault) -> Result<(), NoMemory>
     ensures { OnOk result (text.new ≡ text.old ++ fault_line fault.now) }
 {

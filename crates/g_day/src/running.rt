@@ -29,7 +29,7 @@ use g_tape::Tapes;
 use std::alloc::{AllocFailed, Global};
 use std::marker::Model;
 
-/// A box for a store that is up, made before there is one.
+/// A box for a store that is up, allocated before there is one.
 #[derive(Drop)]
 pub struct EmptyBox<D: Disc, T: Tapes> {
     place: Box<Option<Store<CachedDisc<D>, T>>>,
@@ -37,7 +37,7 @@ pub struct EmptyBox<D: Disc, T: Tapes> {
 }
 
 impl<D: Disc, T: Tapes> EmptyBox<D, T> {
-    /// A box, where there is memory for it.
+    /// Allocates a box, if there is memory for it.
     pub fn new(alloc: Global) -> Result<EmptyBox<D, T>, NoMemory> {
         match Box::new(alloc, None) {
             Ok(place) => Ok(EmptyBox { place }),
@@ -57,13 +57,13 @@ impl<D: Disc, T: Tapes> EmptyBox<D, T> {
         Running { store: place }
     }
 
-    /// The box is given back.
+    /// Frees the box.
     pub fn discard(self) {
         drop_none(Box::into_inner(self.place));
     }
 }
 
-/// No store is let go.
+/// Drops no store.
 fn drop_none<D: Disc, T: Tapes>(none: Option<Store<CachedDisc<D>, T>>)
     requires { none ≡ None }
 {
@@ -73,8 +73,9 @@ fn drop_none<D: Disc, T: Tapes>(none: Option<Store<CachedDisc<D>, T>>)
     }
 }
 
-/// A store that is up, over its disc behind a cache, which is empty when the system comes up. It lies in a box, since it is large
-/// and a run hands it on at every tick: what moves is a pointer. Contracts see the store; its calls are those of `Store`.
+/// A store that is up, with a cache in front of its disc, which is empty when the system comes up. It is boxed, since it is
+/// large and a run passes it on at every tick; only a pointer moves. Contracts see the store; its calls are those of
+/// `Store`.
 #[derive(Drop)]
 pub struct Running<D: Disc, T: Tapes> {
     store: Box<Option<Store<CachedDisc<D>, T>>>,
@@ -103,28 +104,28 @@ impl<D: Disc, T: Tapes> Running<D, T> {
         }
     }
 
-    /// Whether a stop has come.
+    /// Whether a call was stopped.
     pub fn spent(&self) -> bool
         ensures { result ≡ self.now.spent }
     {
         self.inner().spent()
     }
 
-    /// The number of the open dump, None where none is open.
+    /// The number of the open dump, or None if none is open.
     pub fn dump_number(&self) -> Option<u64>
         ensures { result ≡ option_map (λ d. d.plan.number) self.now.dump }
     {
         self.inner().dump_number()
     }
 
-    /// How many blocks of tape the open dump takes, 0 where none is open.
+    /// The number of tape blocks that the open dump takes, 0 if none is open.
     pub fn dump_blocks(&self) -> u32
         ensures { result ≡ unwrap_or (option_map (λ d. needs d.plan) self.now.dump) 0 }
     {
         self.inner().dump_blocks()
     }
 
-    /// Whether the reel is there and mounted.
+    /// Whether the reel exists and is mounted.
     pub fn mounted(&self, serial: u32) -> bool
         ensures { result ≡ is_mounted (reel serial self.now.rack.reels) }
     {
@@ -139,7 +140,7 @@ impl<D: Disc, T: Tapes> Running<D, T> {
         self.inner().users()
     }
 
-    /// The units of TIME of a user's budget, None where there is no such user.
+    /// The units of TIME in a user's budget, or None if there is no such user.
     pub fn user_time(&self, user: &User) -> Option<u64>
         requires running { self.now.spent ≡ false }
         ensures { result ≡ option_map (λ u. u.time)
@@ -148,7 +149,7 @@ impl<D: Disc, T: Tapes> Running<D, T> {
         self.inner().user_time(user)
     }
 
-    /// Sets the fuse of the disc, so that its `k`-th next write fails. Nothing else changes.
+    /// Arms the disc, so that its `k`-th next write fails. Nothing else changes.
     pub fn arm_disc(&mut self, k: u32)
         requires { 1 ≤ k }
         ensures armed { self.new ≡ record self.old {
@@ -165,7 +166,7 @@ impl<D: Disc, T: Tapes> Running<D, T> {
         }
     }
 
-    /// Sets the fuse of the tapes, so that their `k`-th next write that isn't refused fails. Nothing else changes.
+    /// Arms the tapes, so that their `k`-th next write that isn't refused fails. Nothing else changes.
     pub fn arm_tape(&mut self, k: u32)
         requires { 1 ≤ k }
         ensures armed { self.new ≡ record self.old {
@@ -201,7 +202,7 @@ impl<D: Disc, T: Tapes> Running<D, T> {
         }
     }
 
-    /// Opens a dump on the reel, and answers its number: the refusals of a store.
+    /// Opens a dump on the reel and returns its number, with the refusals of a store.
     pub fn open_dump(&mut self, alloc: Global, serial: u32) -> Result<u64, StoreFault>
         requires running { self.old.spent ≡ false }
         ensures event { Opens serial self.old result self.new }
@@ -214,7 +215,7 @@ impl<D: Disc, T: Tapes> Running<D, T> {
         }
     }
 
-    /// Writes the next block of the open dump to its reel: the answers of a store.
+    /// Writes the next block of the open dump to its reel, with the answers of a store.
     pub fn dump_step(&mut self) -> Result<DumpStep, StoreFault>
         requires running { self.old.spent ≡ false }
         requires open { is_some self.old.dump ≡ true }
@@ -229,7 +230,8 @@ impl<D: Disc, T: Tapes> Running<D, T> {
         }
     }
 
-    /// Writes all versions onto the reel and releases the others, and answers the number of the dump: the refusals of a store.
+    /// Writes all versions to the reel, releases the others, and returns the number of the dump, with the refusals of a
+    /// store.
     pub fn process(&mut self, alloc: Global, serial: u32) -> Result<u64, StoreFault>
         requires running { self.old.spent ≡ false }
         ensures processes { Processes serial self.old result self.new }
@@ -242,7 +244,7 @@ impl<D: Disc, T: Tapes> Running<D, T> {
         }
     }
 
-    /// Takes the file that the operator's path names off the disc: the refusals of a store.
+    /// Takes the file that the operator's path names off the disc, with the refusals of a store.
     pub fn migrate(&mut self, alloc: Global, path: &Path) -> Result<Full, StoreFault>
         requires running { self.old.spent ≡ false }
         ensures { Migrates path.now self.old result self.new }
@@ -253,11 +255,11 @@ impl<D: Disc, T: Tapes> Running<D, T> {
         }
     }
 
-    /// Both devices as they then are, the disc in its cache, also out of a spent store.
+    /// Both devices in their current state, the disc in its cache, also from a spent store.
     pub fn into_devices(self) -> (CachedDisc<D>, KnownReels<T>)
         ensures disc { D.state result.0.disc ≡ self.online.disc }
         ensures tapes { T.rack result.1 ≡ self.rack }
-        // Where the disc tells what it holds, they stand for what the store stood for, down.
+        // If the disc exposes its contents, they represent the state of the store after going down.
         ensures down { is_some self.online.disc.held ≡ true → self.spent ≡ false → (s : State)
             → StandsForState self s
             → DevicesStandFor self.online.disc.size self.online.disc.held (told_reels self.rack) (down s) }

@@ -1,4 +1,4 @@
-//! What is told of a refusal and of a stop, and how the system goes down.
+//! What is printed for a refusal and for a stop, and how the system goes down.
 ghost use Rattle.std.specs.Prelude.{◌≡◌, IfOk};
 ghost use Rattle.g_day.specs.Parts.{seen};
 ghost use Rattle.g_day.specs.Puts.{Puts};
@@ -19,7 +19,7 @@ use g_plain::StoreFault;
 use g_tape::Tapes;
 use std::alloc::Global;
 
-/// Tells that the system is down, and puts the file of each job with `BREAK`; jobs and accounts are gone.
+/// Reports that the system is down, and writes the file of each job with `BREAK`; jobs and accounts are gone.
 pub fn goes_down<K: Sink>(
     alloc: Global,
     crew: &mut Crew,
@@ -44,8 +44,8 @@ fn down(alloc: Global, crew: &Crew, count: u64, what: &[u8]) -> Result<Text, NoM
     Ok(text)
 }
 
-/// Tells a fault: of want of memory nothing; of a stop that the system is down, with the file of each job, and jobs and accounts are
-/// gone; of any other its refusal.
+/// Reports a fault. If memory ran out nothing is printed. For a stop the system is reported down, with the file of each
+/// job, and jobs and accounts are gone. Any other fault is printed as a refusal.
 pub fn tell_fault<K: Sink>(
     alloc: Global,
     crew: &mut Crew,
@@ -62,7 +62,7 @@ pub fn tell_fault<K: Sink>(
     }
 }
 
-/// The system has answered with this fault, which is told: it is as it was, or, where its store was stopped, taken down.
+/// Reports the fault with which the system has answered. The system is unchanged, or taken down if its store was stopped.
 pub fn refuse_or_go_down<K: Sink, D: Disc, T: Tapes>(
     alloc: Global,
     day: Day<D, T>,
@@ -86,7 +86,7 @@ pub fn refuse_or_go_down<K: Sink, D: Disc, T: Tapes>(
     Ended { day, failure }
 }
 
-/// The system behind a fault.
+/// The system after a fault.
 fn system_after_fault<D: Disc, T: Tapes>(system: System<D, T>, fault: &StoreFault) -> System<D, T>
     ensures { facts_of D.state T.rack result ≡ system_behind fault.now (facts_of D.state T.rack system) }
 {
@@ -96,7 +96,7 @@ fn system_after_fault<D: Disc, T: Tapes>(system: System<D, T>, fault: &StoreFaul
     }
 }
 
-/// The system behind a stop of its store.
+/// The system after its store was stopped.
 fn stopped<D: Disc, T: Tapes>(system: System<D, T>) -> System<D, T>
     ensures { facts_of D.state T.rack result ≡ system_behind Stopped (facts_of D.state T.rack system) }
 {

@@ -10,19 +10,19 @@ use g_disc::Disc;
 use g_known::KnownReels;
 use g_tape::Tapes;
 
-/// The system: up, as a store over its devices, or down, when the devices stand alone. What is known of the reels stays with them.
-/// Contracts see it by `facts_of` (docs/DEFINITIONS.md, "The whole run").
+/// The system: up, with a store on its devices, or down, with only the devices. What is known of the reels stays with them.
+/// Contracts see it by `facts_of` (docs/DEFINITIONS.md, "g_day").
 #[derive(Drop)]
 pub enum System<D: Disc, T: Tapes> {
     Up(Running<D, T>),
     Down(D, KnownReels<T>),
 }
 
-/// Both devices as they then are, the disc out of its cache, also of a spent store.
+/// Both devices in their current state, the disc without its cache, also from a spent store.
 pub fn take_down<D: Disc, T: Tapes>(store: Running<D, T>) -> (D, KnownReels<T>)
     ensures disc { D.state result.0 ≡ store.online.disc }
     ensures tapes { T.rack result.1 ≡ store.rack }
-    // Where the disc tells what it holds, they stand for what the store stood for, down.
+    // If the disc exposes its contents, they represent the state of the store after going down.
     ensures down { is_some store.online.disc.held ≡ true → store.spent ≡ false → (s : State)
         → StandsForState store s
         → DevicesStandFor store.online.disc.size store.online.disc.held (told_reels store.rack) (down s) }

@@ -1,4 +1,4 @@
-//! What is told of a stop in a turn that has written on a terminal's file.
+//! What is printed for a stop in a turn that has written to a terminal's file.
 ghost use Rattle.std.specs.Prelude.{◌≡◌, ◌++◌, IfOk, List, codes, ℕ};
 ghost use Rattle.g_day.specs.Puts.{Puts};
 ghost use Rattle.g_day.specs.Telling.{down_text, without_jobs};
@@ -10,8 +10,8 @@ use g_io::Sink;
 use g_job_table::{Crew, push_operator_line};
 use g_name::Text;
 
-/// The store was stopped in a turn that has written on a terminal's file: what was written is put, and behind it what is told of
-/// the stop. Jobs and accounts are gone; the store is the caller's to take down.
+/// The store was stopped in a turn that has written to a terminal's file. That text is written, followed by the report of
+/// the stop. Jobs and accounts are gone; the caller takes the store down.
 pub fn stops_behind<K: Sink>(
     crew: &mut Crew,
     count: u64,
@@ -27,7 +27,7 @@ pub fn stops_behind<K: Sink>(
     put_made(out, made)
 }
 
-/// A text, and behind it what is told of a stop.
+/// A text, followed by the report of a stop.
 fn down_behind(made: Result<Text, NoMemory>, crew: &Crew, count: u64) -> Result<Text, NoMemory>
     ensures { (text : List ℕ) → IfOk made (λ t. t ≡ text) → IfOk result (λ t. t ≡ text ++ down_text count (codes "SYSTEM STOPPED") crew.now) }
 {

@@ -1,4 +1,5 @@
--- Lines of a script, one behind another.
+-- Lines of a script in order.
+-- serves: push_filled, push_job, push_round (lines), push_rounds
 use Rattle.std.proofs.Common.{List, [], ap, codes, append_assoc, arith, refl, replicate, subst, suc, sym, ℕ, ◌%◌, ◌*◌, ◌+◌, ◌++◌, ◌∙◌, ◌∷◌, ◌≡◌}
 use Rattle.std.specs.Fmt.{decimal}
 use Rattle.std.proofs.lemmas.List.{append-nil, replicate_more}
@@ -10,7 +11,7 @@ use Rattle.g_demo.specs.Script.{at_turn, behind_job, behind_round, behind_rounds
 pub text_of-last : (lines : List (List ℕ)) (line : List ℕ) → text_of lines ++ ended line ≡ text_of (lines ++ line ∷ [])
 text_of-last lines line = ap (λ (e : List ℕ). text_of lines ++ e) (sym (append-nil (ended line))) ∙ sym (flat_map-append ended lines (line ∷ []))
 
--- one of so many equal lines more
+-- one more of n equal lines
 filled_more : (text start line : List ℕ) (n : ℕ) → text ≡ start ++ text_of (replicate n line) → (text ++ line) ++ 10 ∷ [] ≡ start ++ text_of (replicate (n + 1) line)
 filled_more text start line n is =
     append_assoc text line (10 ∷ [])
@@ -64,7 +65,7 @@ pub no_rounds : (number : ℕ) → (behind_rounds number 0 ≡ number) × (round
 unfolding behind_rounds rounds_lines
 no_rounds number = (refl, refl)
 
--- lines put behind a text
+-- lines appended to a text
 pub behind_then : (t u v : List ℕ) (a b : List (List ℕ)) → u ≡ t ++ text_of a → v ≡ u ++ text_of b → v ≡ t ++ text_of (a ++ b)
 behind_then t u v a b first later =
     later
@@ -95,7 +96,7 @@ job_put t t1 t2 t3 t4 t5 t6 i k lines j made listed is_k is_j head input filled 
     (behind_then t2 t3 t6 (replicate lines (filled_line i)) after_filled filled
     (line_then t3 t4 t6 (codes "////") after_end end (line_then t4 t5 t6 (codes "LISTFILE " ++ file_name j) after_list list_j last))))
 
--- a round's three draws, its job, and what stands behind it
+-- a round's three draws, its job, and the lines after it
 pub three_drawn : (state s1 s2 s3 : ℕ) → s1 ≡ next state → s2 ≡ next s1 → s3 ≡ next s2 → s3 ≡ behind_three state
 three_drawn state s1 s2 s3 first second third = third ∙ ap next (second ∙ ap next first)
 

@@ -1,4 +1,5 @@
--- The summary of a text with more behind it.
+-- The summary of a text with more bytes at the end.
+-- serves: with_bytes
 use Rattle.std.proofs.Common.{List, [], ap, get_or, length, sym, take, ℕ, ◌+◌, ◌<◌, ◌∙◌, ◌∷◌, ◌≡◌}
 use Rattle.std.specs.List.{fold}
 use Rattle.std.proofs.lemmas.List.{take_more}

@@ -1,4 +1,5 @@
 -- A step that the walks of `src/told.rt` share. Assumes `Logic`.
+-- serves: new, then
 use Rattle.std.proofs.Common.{List, [], ◌∷◌, refl}
 use seplogic.Ra.Ura.{Ura}
 use mir.Val.{Val, vstruct, vnil}

@@ -1,4 +1,5 @@
 -- The words of the command line, and the numbers in them.
+-- serves: asked_by, demo_by, number_in, words_have_one_reading, crates above
 use Rattle.std.proofs.Common.{Bool, List, None, Some, [], ap, arith, codes, get_or, length, refl, subst, suc, sym, true, zero, ℕ, ◌<◌, ◌∙◌, ◌∷◌, ◌≡◌, ◌≢◌, ◌≤◌, ◌⊎◌, ◌^◌, inl, inr}
 use Rattle.std.specs.Borrow.{Bor}
 use Rattle.std.specs.Fmt.{decimal}
@@ -30,7 +31,7 @@ number_found digits n read =
     let is = number-sound 4294967295 n digits read in
     (omega (arith, is.0), is.1)
 
--- three words that are those of no demonstration
+-- three words that request no demonstration
 abbrev pub IsNoDemo : List ℕ → List ℕ → List ℕ → Type 0
 IsNoDemo word number rounds = (demo : Demonstration) → IsDemonstration demo → (word ∷ number ∷ rounds ∷ []) ≢ demo_words demo
 
@@ -59,7 +60,7 @@ pub run_word : (same : Bool) (words : List (Bor (List ℕ))) (d : Bor (List ℕ)
 run_word same words d least most tested is =
     one_word words d least most ∙ ap (λ (w : List ℕ). w ∷ []) ((bytes_eq-Decides (get_or words 0 d).now (codes "run")).0 (sym tested ∙ is))
 
--- words ask for one thing at most
+-- words request at most one thing
 pub one_reading : (one other : Asked) → IsAsked one → IsAsked other → words_of one ≡ words_of other → one ≡ other
 one_reading asked.Run asked.Run is too e = refl
 one_reading asked.Run (asked.Demo demo) is too e = absurd cc

@@ -1,4 +1,4 @@
--- The words of the command line, and what they ask for.
+-- The words of the command line, and what they request.
 use Rattle.std.specs.Prelude.{List, codes, map, [], ℕ, ◌<◌, ◌^◌, ◌≢◌, ◌≤◌, ◌∷◌}
 use Rattle.std.specs.Borrow.{Bor}
 use Rattle.std.specs.Fmt.{decimal}
@@ -10,12 +10,13 @@ use Rattle.g_demo.specs.declared.words.Asked.TheVariants as asked
 abbrev pub texts_of : List (Bor (List ℕ)) → List (List ℕ)
 texts_of words = map (λ word. word.now) words
 
--- a demonstration that may be asked for
+-- A demonstration that may be requested.
 pub record IsDemonstration (demo : Demonstration) : Type 0 where
   pub number : demo.number < 2 ^ 32
   pub least : 1 ≤ demo.rounds
   pub most : demo.rounds ≤ 1000
 
+-- The request is allowed.
 abbrev pub IsAsked : Asked → Type 0
 IsAsked asked.Run = Unit {0}
 IsAsked (asked.Demo demo) = IsDemonstration demo
@@ -24,11 +25,11 @@ IsAsked (asked.Demo demo) = IsDemonstration demo
 abbrev pub demo_words : Demonstration → List (List ℕ)
 demo_words demo = codes "demo" ∷ decimal demo.number ∷ decimal demo.rounds ∷ []
 
--- THE WORDS that ask for it
+-- THE WORDS that request it.
 abbrev pub words_of : Asked → List (List ℕ)
 words_of asked.Run = codes "run" ∷ []
 words_of (asked.Demo demo) = demo_words demo
 
--- the words ask for nothing
+-- The words request nothing.
 abbrev pub AskNothing : List (List ℕ) → Type 0
 AskNothing words = (asked : Asked) → IsAsked asked → words ≢ words_of asked

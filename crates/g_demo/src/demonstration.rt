@@ -1,7 +1,6 @@
-//! What a demonstration is made from.
+//! The numbers of a demonstration.
 
-/// A demonstration: the number that its draws begin with, and how many rounds it has, from 1 to 1,000 where the command
-/// line asks for it (`asked_by`).
+/// A demonstration: the number that its draws begin with, and the number of its rounds, from 1 to 1,000 if the command line requests it (`asked_by`).
 #[derive(Clone, Copy, PartialEq, Eq)]
 pub struct Demonstration {
     pub number: u32,

@@ -2,7 +2,7 @@
 ghost use Rattle.std.specs.Prelude.{◌≡◌, ◌<◌};
 ghost use Rattle.g_demo.specs.Script.{drawn, next};
 
-/// What the next draw goes out from.
+/// The state from which the next draw is computed.
 #[derive(Drop)]
 pub(crate) struct Draws {
     state: u32,
@@ -16,7 +16,7 @@ impl Draws {
         Draws { state: number }
     }
 
-    /// Draws a number below the bound, by the upper half of the state.
+    /// Draws a number below the bound, from the upper half of the state.
     pub(crate) fn draw(&mut self, below: u32) -> u32
         requires { 0 < below }
         ensures state { self.new.state ≡ next self.old.state }

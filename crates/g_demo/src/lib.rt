@@ -1,5 +1,5 @@
-//! A demonstration: a script that is made from a number, and the summary of the text of its run; and the words of the
-//! command line that ask for it (docs/DEFINITIONS.md, "A demonstration").
+//! A demonstration: a script generated from a number, and the summary of the text of its run; and the words of the command line that request it
+//! (docs/DEFINITIONS.md, "g_demo").
 #![tactic(auto)]
 
 mod demonstration;

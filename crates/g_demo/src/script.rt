@@ -10,7 +10,7 @@ use g_base::NoMemory;
 use g_name::Text;
 use std::alloc::Global;
 
-/// The text of a demonstration's script (docs/DEFINITIONS.md, "A demonstration").
+/// The text of a demonstration's script (docs/DEFINITIONS.md, "g_demo").
 pub fn script_of(alloc: Global, demo: &Demonstration) -> Result<Text, NoMemory>
     ensures { IfOk result (λ text. text ≡ script_text demo.now.number demo.now.rounds) }
 {
@@ -22,8 +22,8 @@ pub fn script_of(alloc: Global, demo: &Demonstration) -> Result<Text, NoMemory>
     Ok(text)
 }
 
-/// An empty text with room for the script of so many rounds: each of the first thousand has at most 2,545 bytes, of which
-/// its 40 lines of 61 are 2,440.
+/// An empty text with capacity for the script of this many rounds: each of the first thousand has at most 2,545 bytes, 2,440 of them its 40 lines of
+/// 61.
 fn with_room(alloc: Global, rounds: u32) -> Result<Text, NoMemory>
     ensures { IfOk result (λ text. text ≡ []) }
 {
@@ -31,7 +31,7 @@ fn with_room(alloc: Global, rounds: u32) -> Result<Text, NoMemory>
     Ok(Text::from(bytes))
 }
 
-/// Puts the lines of the rounds behind the text.
+/// Appends the lines of the rounds.
 fn push_rounds(text: &mut Text, number: u32, rounds: u32) -> Result<(), NoMemory>
     ensures { OnOk result (text.new ≡ text.old ++ text_of (rounds_lines number rounds)) }
 {
@@ -42,7 +42,7 @@ fn push_rounds(text: &mut Text, number: u32, rounds: u32) -> Result<(), NoMemory
     Ok(())
 }
 
-/// Puts the lines of one round behind the text.
+/// Appends the lines of one round.
 fn push_round(text: &mut Text, draws: &mut Draws, round: u64) -> Result<(), NoMemory>
     requires { round ≤ 2 ^ 32 }
     ensures lines { OnOk result (text.new ≡ text.old ++ text_of (round_lines round draws.old.state)) }
@@ -55,7 +55,7 @@ fn push_round(text: &mut Text, draws: &mut Draws, round: u64) -> Result<(), NoMe
     push_behind_job(text, draws, round)
 }
 
-/// Puts the lines of a round's job behind the text.
+/// Appends the lines of a round's job.
 fn push_job(text: &mut Text, round: u64, made: u32, lines: u32, listed: u32) -> Result<(), NoMemory>
     requires { round ≤ 2 ^ 32 }
     ensures { OnOk result (text.new ≡ text.old ++ text_of (job_lines round made lines listed)) }
@@ -68,7 +68,7 @@ fn push_job(text: &mut Text, round: u64, made: u32, lines: u32, listed: u32) -> 
     text.extend(b"ENDJOB\n****\n")
 }
 
-/// Puts so many lines of a round's letter behind the text.
+/// Appends this many lines of a round's letter.
 fn push_filled(text: &mut Text, lines: u32, round: u64) -> Result<(), NoMemory>
     ensures { OnOk result (text.new ≡ text.old ++ text_of (replicate lines (filled_line round))) }
 {
@@ -87,7 +87,7 @@ fn letter(round: u64) -> u8
     b'A' + (round % 26) as u8
 }
 
-/// Puts what stands behind a round's job behind the text.
+/// Appends the lines after a round's job.
 fn push_behind_job(text: &mut Text, draws: &mut Draws, round: u64) -> Result<(), NoMemory>
     requires { round ≤ 2 ^ 32 }
     ensures lines { (state : ℕ) → draws.old.state ≡ behind_three state →

@@ -1,4 +1,4 @@
-//! A sink that keeps of its text the summary alone.
+//! A sink that stores only the summary of its text.
 ghost use Rattle.std.specs.Prelude.{◌≡◌, [], OnOk, OnErr, Some};
 ghost use Rattle.g_demo.specs.Summary as spec;
 ghost use Rattle.g_demo.specs.Sink.{SummarySinkView};
@@ -10,8 +10,8 @@ use g_base::{WriteFailed, raised};
 use g_io::Sink;
 use std::marker::Model;
 
-/// A sink that takes no memory: each piece goes into the summary of the text and is gone. Contracts see the whole text, and
-/// how many calls failed.
+/// A sink that allocates nothing: each piece is added to the summary of the text and dropped. Contracts see the whole text, and the number of failed
+/// calls.
 #[derive(Drop)]
 pub struct SummarySink {
     summary: Summary,
@@ -24,7 +24,7 @@ impl Model for SummarySink {
 
     ghost view = { λ s. record { text = s.told.text; faults = s.faults } };
 
-    // What the code keeps is the summary of what proofs read.
+    // The stored summary is that of the text that proofs see.
     ghost invariant = { λ s. s.summary ≡ spec.summary_of s.told.text };
 }
 
@@ -53,7 +53,7 @@ impl Sink for SummarySink {
 
     ghost faults = { λ s. s.faults };
 
-    /// As the trait says; besides, a failing call appends nothing. It fails where the text would come to 2^64 bytes.
+    /// As the trait says; in addition, a failing call appends nothing. It fails if the text would reach 2^64 bytes.
     fn put(&mut self, piece: &[u8]) -> Result<(), WriteFailed>
         ensures put { OnOk result (Some self.new.text ≡ with_more (Some self.old.text) piece.now) }
         ensures part { OnErr result (HasPutPart (Some self.old.text) piece.now (Some self.new.text)) }

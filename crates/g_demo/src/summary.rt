@@ -1,4 +1,4 @@
-//! The summary of a text, piece by piece as the text comes.
+//! The summary of a text that is given piece by piece.
 ghost use Rattle.std.specs.List.{fold};
 ghost use Rattle.std.specs.Prelude.{◌≡◌, ◌+◌, ◌*◌, ◌%◌, ◌<◌, ◌≤◌, ◌^◌, ◌++◌, [], ℕ, List, IfOk, length};
 ghost use Rattle.g_demo.specs.Summary as spec;
@@ -10,7 +10,7 @@ use g_lines::push_decimal;
 use g_name::Text;
 use std::alloc::Global;
 
-/// The summary of a text: how many bytes 10 it has, how many bytes, and the number into which each byte is folded.
+/// The summary of a text: the number of its bytes 10, the number of its bytes, and the number into which each byte is folded.
 #[derive(Clone, Copy, PartialEq, Eq)]
 pub struct Summary {
     pub lines: u64,
@@ -19,7 +19,7 @@ pub struct Summary {
 }
 
 impl Summary {
-    /// The summary of no text.
+    /// The summary of the empty text.
     pub fn new() -> Summary
         ensures { result ≡ spec.summary_of [] }
     {
@@ -30,7 +30,7 @@ impl Summary {
         }
     }
 
-    /// The summary of a text that is there whole.
+    /// The summary of a text in memory.
     pub fn of_text(text: &[u8]) -> Summary
         ensures { result ≡ spec.summary_of text.now }
     {
@@ -39,7 +39,7 @@ impl Summary {
         summary
     }
 
-    /// Goes on by a piece: of whatever text this was the summary, it is that of the text with the piece behind it.
+    /// Adds a piece: if this was the summary of a text, it becomes that of the text followed by the piece.
     pub fn add(&mut self, piece: &[u8])
         requires lines { self.old.lines ≤ self.old.bytes }
         requires room { self.old.bytes + length piece.now < 2 ^ 64 }
@@ -51,10 +51,10 @@ impl Summary {
     }
 }
 
-/// How many bytes are counted at once.
+/// The number of bytes counted at once.
 const FEW: usize = 128;
 
-/// How many bytes 10 a piece has.
+/// The number of bytes 10 in a piece.
 fn line_count(piece: &[u8]) -> u64
     ensures { result ≡ spec.line_count piece.now }
 {
@@ -68,7 +68,7 @@ fn line_count(piece: &[u8]) -> u64
     count
 }
 
-/// The same of a piece so short that a byte can count them: many are looked at at once then.
+/// The same for a piece so short that a byte can count them, which lets a compiler vectorize the loop.
 fn few_lines(piece: &[u8]) -> u8
     requires { length piece.now ≤ 128 }
     ensures { result ≡ spec.line_count piece.now }
@@ -80,7 +80,7 @@ fn few_lines(piece: &[u8]) -> u8
     count
 }
 
-/// A number into which a piece is folded, eight bytes at a time: one by one each fold would wait for the one before.
+/// A number into which a piece is folded, eight bytes at a time: with single bytes each fold would wait for the one before.
 fn folded_on(so_far: u32, piece: &[u8]) -> u32
     ensures { result ≡ fold spec.folded so_far piece.now }
 {
@@ -112,12 +112,12 @@ fn four(a: u8, b: u8, c: u8, d: u8) -> u64
     29_791 * u64::from(a) + 961 * u64::from(b) + 31 * u64::from(c) + u64::from(d)
 }
 
-/// A number into which four bytes are folded, and four more, by what they add.
+/// A number into which four bytes are folded, and four more, by what each four add.
 fn folded_twice(so_far: u32, front: u64, back: u64) -> u32
     requires { (front ≤ 7849920) × (back ≤ 7849920) }
     ensures { result ≡ (2487512833 * so_far + 923521 * front + back) % 2 ^ 32 }
 {
-    // The first factor is 31 to the eighth, the second 31 to the fourth, each less what goes beyond 32 bits.
+    // The first factor is 31^8, the second 31^4, each modulo 2^32.
     let sum = 2_487_512_833 * u64::from(so_far) + 923_521 * front + back;
     (sum % 4_294_967_296) as u32
 }

@@ -1,4 +1,4 @@
-//! Lines with numbers in them, put behind a text.
+//! Lines with numbers, appended to a text.
 ghost use Rattle.std.specs.Prelude.{◌≡◌, ◌++◌, OnOk};
 ghost use Rattle.std.specs.Fmt.{decimal};
 ghost use Rattle.g_demo.specs.Script.{at_turn};
@@ -8,7 +8,7 @@ use g_base::NoMemory;
 use g_lines::push_decimal;
 use g_name::Text;
 
-/// Puts a line behind the text: some words, a number, some words behind it.
+/// Appends a line: words, a number, and more words.
 pub(crate) fn push_line(
     text: &mut Text,
     before: &[u8],
@@ -23,7 +23,7 @@ pub(crate) fn push_line(
     text.push(b'\n')
 }
 
-/// Puts a line of the operator's behind the text: a turn, a space, and as before.
+/// Appends an operator line: a turn, a space, and the same.
 pub(crate) fn push_turn_line(
     text: &mut Text,
     turn: u64,

@@ -1,10 +1,10 @@
-//! A text that proofs alone read. It takes no memory, and its methods do nothing when they run.
+//! A text that only proofs read. It allocates nothing, and its methods do nothing at run time.
 ghost use Rattle.std.specs.Prelude.{◌≡◌, List, ℕ, [], ◌++◌};
 ghost use Rattle.std.specs.Borrow.{ftrue};
 
 use std::marker::Model;
 
-/// All bytes that were told so far, one piece behind the other.
+/// All bytes passed so far, in order.
 #[derive(Drop)]
 pub(crate) struct Told {
     ghost text: { List ℕ },
@@ -22,7 +22,7 @@ impl Told {
         Told {}
     }
 
-    /// These bytes, and those of the piece behind them.
+    /// These bytes, followed by those of the piece.
     pub(crate) fn then(&self, _piece: &[u8]) -> Told
         ensures { result.text ≡ self.now.text ++ _piece.now }
     {

@@ -6,13 +6,13 @@ ghost use Rattle.g_demo.specs.Words.{AskNothing, IsAsked, IsDemonstration, demo_
 use crate::demonstration::Demonstration;
 use g_lines::number;
 
-/// The most that the number of a demonstration may be.
+/// The greatest number of a demonstration.
 const MOST_NUMBER: u64 = 0xffff_ffff;
 
-/// The most rounds of a demonstration.
+/// The maximum number of rounds of a demonstration.
 const MOST_ROUNDS: u32 = 1_000;
 
-/// What the words of the command line ask for.
+/// What the words of the command line request.
 #[derive(Clone, Copy, PartialEq, Eq)]
 pub enum Asked {
     /// The script of the source.
@@ -21,8 +21,8 @@ pub enum Asked {
     Demo(Demonstration),
 }
 
-/// What the words ask for: the word `run` alone, or `demo`, a number below 2^32 and how many rounds, from 1 to 1,000,
-/// both in decimal digits without a sign and without a leading zero. All else asks for nothing.
+/// What the words request: only the word `run`; or `demo`, a number below 2^32, and the number of rounds from 1 to 1,000, both in decimal digits
+/// without a sign and without a leading zero. Any other words request nothing.
 pub fn asked_by(words: &[&str]) -> Option<Asked>
     ensures { MatchOption result (AskNothing (texts_of words.now)) (λ asked. IsAsked asked × (texts_of words.now ≡ words_of asked)) }
 {
@@ -40,7 +40,7 @@ pub fn asked_by(words: &[&str]) -> Option<Asked>
     }
 }
 
-/// The demonstration that three words ask for.
+/// The demonstration that three words request.
 fn demo_by(word: &str, number: &str, rounds: &str) -> Option<Demonstration>
     ensures { MatchOption result
         ((demo : Demonstration) → IsDemonstration demo → (word.now ∷ number.now ∷ rounds.now ∷ []) ≢ demo_words demo)
@@ -57,7 +57,7 @@ fn demo_by(word: &str, number: &str, rounds: &str) -> Option<Demonstration>
     Some(Demonstration { number, rounds })
 }
 
-/// The number below 2^32 that these digits are, without a sign and without a leading zero.
+/// The number below 2^32 of these digits, without a sign and without a leading zero.
 fn number_in(digits: &str) -> Option<u32>
     ensures { MatchOption result ((n : ℕ) → n < 2 ^ 32 → digits.now ≢ decimal n) (λ n. (n < 2 ^ 32) × (digits.now ≡ decimal n)) }
 {

@@ -1,4 +1,5 @@
 -- Reels of two folders that are a pair.
+-- serves: are_alike
 use Rattle.std.proofs.Common.{◌≡◌, ℕ, zero, suc, ◌+◌, ◌<◌, List, [], ◌∷◌, length, get_or, take, subst, arith}
 use Rattle.g_tape.specs.Reel.{Reel}
 use Rattle.g_duplex.specs.Twins.{AreTwins}

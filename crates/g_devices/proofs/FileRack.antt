@@ -1,5 +1,5 @@
 -- The calls of a rack of files, by what was done to the reel of the serial.
--- serves: file_tapes' read, write and secure, rack's put_behind
+-- serves: mount, put_behind (rack), read, secure, unmount, write
 use Rattle.std.proofs.Common.{◌≡◌, ℕ, ◌+◌, ◌<◌, List, [], ◌∷◌, ◌++◌, Option, Some, None, is_some, Ok, Err, length, map, get_or, inl, inr, ap, subst, sym, ◌∙◌, arith, length-append}
 use Rattle.std.specs.Prelude.{All}
 use Rattle.std.specs.List.Sorted.{IsStrictlyIncreasing}

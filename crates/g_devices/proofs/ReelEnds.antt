@@ -1,5 +1,5 @@
 -- A reel whose contents aren't observable, when it ends elsewhere.
--- serves: file_reel's end_at, cut_at and end_with
+-- serves: cut_at (keeps, value), end_at (keeps, value), write
 use Rattle.std.proofs.Common.{◌≡◌, ℕ, ◌+◌, List, [], ◌∷◌, ◌++◌, Option, Some, None, Result, Ok, Err, take, option_map, ap, sym, ◌∙◌, subst}
 use Rattle.std.specs.Prelude.{OnErr, OnOk, replicate}
 use Rattle.g_base.proofs.BlockLemmas.{IsBlock-zeros}

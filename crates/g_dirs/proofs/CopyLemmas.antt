@@ -1,4 +1,5 @@
 -- Files in order of number, with their copies in order of number beside them.
+-- serves: files_lie, put_all, ListingLemmas, ReadLemmas, RuleLemmas, TableLemmas, crates above
 use Rattle.std.proofs.Common.{◌≡◌, ◌≢◌, ⊎_elim, ℕ, zero, suc, ◌+◌, ◌<◌, ◌≤◌, ◌==◌, Bool, List, [], ◌∷◌, ◌++◌, length, get_or, map, find, drop, take, Option, Some, None, All, AllPairs, refl, sym, ◌∙◌, ap, arith, if◌then◌else◌, option_map, subst, Bor}
 use Rattle.std.specs.Prelude.{⊤, Contains, IfNone, IfSome, option_copied}
 use Rattle.std.specs.List.{AllByRecursion}

@@ -1,4 +1,5 @@
 -- Lists of files in order of number, and what stands at a number.
+-- serves: Parts, crates above
 use Rattle.std.proofs.Common.{◌≡◌, ◌≢◌, ⊎_elim, ℕ, suc, ◌<◌, ◌≤◌, Bool, List, [], ◌∷◌, Option, Some, None, All, AllPairs, refl, sym, ◌∙◌, ap, arith, slice_get, if◌then◌else◌}
 use Rattle.std.specs.Prelude.{⊤}
 use Rattle.std.specs.List.{AllByRecursion}

@@ -1,4 +1,5 @@
 -- Blocks of which it is known where their zeros begin.
+-- serves: equals, is_zeros, keep
 use Rattle.std.proofs.Common.{◌≡◌, ℕ, ◌+◌, ◌-◌, ◌≤◌, Bool, true, false, List, [], ◌∷◌, length, take, drop, replicate, ◌++◌, refl, sym, ap, ap₂, ◌∙◌, subst, arith, take-append-drop}
 use Rattle.std.specs.Str.{bytes_eq}
 use Rattle.std.proofs.lemmas.List.{drop_at}

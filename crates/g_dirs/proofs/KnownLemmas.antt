@@ -1,4 +1,5 @@
 -- What is known of a block, where those behind the last that is kept are zeros.
+-- serves: holds, nothing, put (rest), set (here, rest)
 use Rattle.std.proofs.Common.{◌≡◌, ◌≢◌, ℕ, zero, suc, ◌<◌, ◌++◌, Bool, true, false, List, [], ◌∷◌, Option, Some, None, length, replicate, slice_get, slice_index_or, slice_set, if◌then◌else◌, option_map, inl, inr, refl, sym, ap, ◌∙◌, arith, get_or-set_same, length-set}
 use Rattle.std.specs.Str.{bytes_eq}
 use Rattle.std.proofs.lemmas.Bool.{cases_lt}

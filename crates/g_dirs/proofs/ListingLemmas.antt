@@ -1,4 +1,5 @@
 -- What a search by number finds in a directory's lists, and which blocks its records have.
+-- serves: put_file_block, put_slot_block
 use Rattle.std.proofs.Common.{◌≡◌, ℕ, suc, zero, ◌+◌, Bool, true, List, [], ◌∷◌, length, map, Option, Some, None, refl, sym, ◌∙◌, ap, subst, inl, inr, arith, slice_get}
 use Rattle.std.specs.Prelude.{◌==◌, All, IfSome, find, option_map, replicate}
 use Rattle.std.specs.List.{flat_map, list_all}

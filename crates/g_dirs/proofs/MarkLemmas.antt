@@ -1,4 +1,5 @@
 -- Marks that are taken off.
+-- serves: clear, marks, new, unmark
 use Rattle.std.proofs.Common.{◌≡◌, ◌⊎◌, ℕ, ◌+◌, ◌-◌, ◌*◌, ◌/◌, ◌%◌, ◌<◌, ◌≤◌, List, ◌++◌, Bool, true, false, Some, length, take, drop, slice_get, get_or, replicate, ap, subst, sym, ◌∙◌, inl, inr, arith, length-drop, length-set}
 use Rattle.std.proofs.Math.ListN.{set}
 use Rattle.std.proofs.lemmas.Bool.{cases_eq, cases_lt}

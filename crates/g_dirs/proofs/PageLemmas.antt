@@ -1,4 +1,5 @@
 -- What is remembered, and how many blocks aren't.
+-- serves: all_changed (covers, marks, remembers), changed (covers, marks, remembers), covers, new (nothing, stands), WriteLemmas, crates above
 use Rattle.std.proofs.Common.{◌≡◌, ◌≢◌, ℕ, suc, zero, ◌+◌, ◌<◌, ◌≤◌, inl, inr, Bool, true, false, if◌then◌else◌, List, [], ◌∷◌, length, Option, Some, None, refl, sym, ◌∙◌, ap, subst, replicate, slice_get, add-one, arith}
 use Rattle.std.specs.Prelude.{set}
 use Rattle.std.proofs.lemmas.Bool.{cases_lt, false≢true}

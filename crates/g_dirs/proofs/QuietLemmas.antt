@@ -1,4 +1,5 @@
 -- Writes that change nothing of what a disc stands for.
+-- serves: quiet_writes (bytes, copy, slot), crates above
 use Rattle.std.proofs.Common.{◌≡◌, ℕ, zero, suc, ◌+◌, ◌-◌, ◌<◌, ◌≤◌, List, [], ◌∷◌, length, get_or, take, drop, Option, sym, ◌∙◌, ap, subst, arith, slice_get, length-set}
 use Rattle.std.specs.Prelude.{All, Contains, ◌%◌, ◌==◌, if◌then◌else◌, unwrap_or}
 use Rattle.std.proofs.Math.ListN.{set}

@@ -1,4 +1,5 @@
 -- What is known of a slot whose first blocks were read.
+-- serves: file_in (again), read_dirs (none, ok, records), read_files (none, ok), read_users (none), user_in (again, found)
 use Rattle.std.proofs.Common.{◌≡◌, ◌≢◌, ℕ, zero, suc, ◌+◌, ◌<◌, ◌≤◌, Bool, true, false, cond, List, [], ◌∷◌, ◌++◌, length, Option, Some, None, map, refl, sym, ap, ◌∙◌, subst, inl, inr, arith, eqb, below_more}
 use Rattle.std.specs.Prelude.{replicate, find, slice_get, IfSome, IsTrue, All, AllPairs, Contains, option_map}
 use Rattle.std.specs.Option.{ForSome, option_to_list}

@@ -1,4 +1,5 @@
 -- The rules of a directory together.
+-- serves: keeps_rules
 use Rattle.std.proofs.Common.{◌≡◌, ◌≢◌, ℕ, length, All, AllPairs, sym, subst}
 use Rattle.g_blocks.specs.Pool.{IsInArea}
 use Rattle.g_entry.specs.Rules.{AreFiles, AreNumbered, StampsBelow}

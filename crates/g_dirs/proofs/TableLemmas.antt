@@ -1,4 +1,5 @@
 -- Copies in order of number that go from the end of a list into the front of a table.
+-- serves: put_all
 use Rattle.std.proofs.Common.{◌≡◌, ℕ, suc, ◌<◌, [], ◌∷◌, ◌++◌, All, AllPairs, refl, sym, ◌∙◌, ap, subst, arith}
 use Rattle.g_copy.specs.declared.copy.DiscCopy.{DiscCopy}
 use Rattle.g_table.specs.Table.{with_item}

@@ -1,4 +1,5 @@
 -- A commit block by block, and what the disc stands for behind the gate.
+-- serves: fill (counts, ok), write_changed (all, marks, ok, other_marks, others, remembers, stopped), write_page (ok, pages)
 use Rattle.std.proofs.Common.{◌≡◌, ◌≢◌, ℕ, ◌+◌, ◌<◌, ◌≤◌, ◌⊎◌, if◌then◌else◌, Bool, false, replicate, List, length, Option, Some, Result, Ok, Err, refl, sym, ◌∙◌, ap, subst, inl, inr, arith, slice_get, true}
 use Rattle.std.specs.Option.{ForSome}
 use Rattle.std.specs.Prelude.{OnErr}

@@ -23,4 +23,4 @@ pub use laws::{one_directory, quiet_writes};
 pub use listing::Listing;
 pub use pages::Pages;
 pub use read::read_dirs;
-pub use write::{write_changed, write_dirs};
+pub use write::write_changed;

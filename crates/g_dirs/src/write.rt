@@ -17,48 +17,13 @@ use g_disc::Disc;
 use g_entry::Format;
 use g_slots::Slots;
 
-/// One commit: makes this directory the one that the disc stands for, whatever changed. It writes those blocks of the slot
-/// that isn't current which aren't remembered as they are to be, in order of number, and then the gate. The blocks
-/// are made in `writer`, whatever it has.
+/// One commit: makes this directory the one that the disc represents. Which blocks may have changed is known: those that are
+/// marked. Of these it writes, in order of number, the blocks of the slot that isn't current whose remembered content differs, and
+/// then the gate. It looks at no other block, so the cost is that of the changes. The blocks are built in `writer`, whatever it holds.
+/// The marks of the slot that becomes current are cleared.
 ///
-/// Where a write fails the answer is `Stopped`, the disc stands for what it stood for or for the new directory, and
-/// neither `slots` nor `last` may be used again: the gate has to be found anew, and what was remembered made anew.
-pub fn write_dirs<D: Disc>(
-    disc: &mut D,
-    slots: &mut Slots,
-    listing: &Listing,
-    last: &mut Pages,
-    writer: &mut BlockWriter,
-) -> Result<(), DirsFault>
-    requires size { 2177 < (D.state disc.old).size }
-    requires gate { GateNames slots.old (D.state disc.old).held }
-    requires records { AreRecords Format.Two listing.now }
-    requires rules { IsDirectory (D.state disc.old).size listing.now }
-    requires remembers { ForSome (D.state disc.old).held (Remembers last.old) }
-    ensures ok { OnOk result
-        (Changes (NewDirectory listing.now) (D.state disc.old).held (D.state disc.new).held) }
-    ensures side { OnOk result (slots.new ≡ other slots.old) }
-    ensures gate { OnOk result (GateNames slots.new (D.state disc.new).held) }
-    ensures written { OnOk result (GateWritten slots.new (D.state disc.new).held) }
-    ensures stopped { OnErr result
-        (Changes (OldOrNew listing.now) (D.state disc.old).held (D.state disc.new).held) }
-
-    // Just the blocks that aren't remembered are written, and the gate.
-    ensures counts { WritesOnly (unwritten listing.now (pages_of (other slots.old) last.old) 1088 + 1)
-        (D.state disc.old) (D.state disc.new) result }
-    ensures remembers { OnOk result (ForSome (D.state disc.new).held (Remembers last.new)) }
-    ensures all { OnOk result (RemembersAll listing.now (pages_of slots.new last.new)) }
-    ensures others { OnOk result (pages_of slots.old last.new ≡ pages_of slots.old last.old) }
-    ensures marks { OnOk result (marks_of slots.new last.new ≡ replicate 1088 false) }
-    ensures other_marks { OnOk result (marks_of slots.old last.new ≡ replicate 1088 true) }
-    ensures only { OnErr result (result ≡ Err DirsFault.Stopped) }
-{
-    last.all_changed();
-    write_changed(disc, slots, listing, last, writer)
-}
-
-/// The same commit, where it is known which blocks may have changed: those that are marked. No other block is looked at, so
-/// the cost is that of the changes. The marks of the slot that is current then are taken off.
+/// On `Stopped` a write failed, and the disc represents what it did before or the new directory. Then neither `slots` nor `last` may be
+/// used again: find the gate, and begin to remember, from scratch.
 pub fn write_changed<D: Disc>(
     disc: &mut D,
     slots: &mut Slots,

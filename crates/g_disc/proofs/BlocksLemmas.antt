@@ -1,4 +1,5 @@
 -- Lists that are filled up to a length.
+-- serves: set
 use Rattle.std.proofs.Common.{◌≡◌, ℕ, ◌+◌, ◌-◌, ◌<◌, ◌≤◌, List, ◌++◌, length, replicate, sym, ap, ◌∙◌, arith, length-append, length-set}
 use Rattle.std.proofs.Math.ListN.{set}
 use Rattle.std.proofs.lemmas.List.{append_assoc, length-replicate, replicate-append-replicate, set-append_left}

@@ -1,4 +1,5 @@
 -- How the calls on a disc follow each other, and what they are the cause of.
+-- serves: crates above
 use Rattle.std.proofs.Common.{◌≡◌, ◌≤◌, ℕ, List, Ok, Err, refl, subst, ◌∙◌, arith}
 use Rattle.std.specs.Prelude.{Result}
 use Rattle.g_base.specs.Counts.{Rose, one_more}

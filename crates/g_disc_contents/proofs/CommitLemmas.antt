@@ -1,4 +1,5 @@
--- What a disc holds behind a commit.
+-- What a disc holds after a commit.
+-- serves: writes_hold (commit), crates above
 use Rattle.std.proofs.Common.{◌≡◌, ℕ, ◌+◌, ◌-◌, ◌≤◌, List, [], ◌∷◌, ◌++◌, Some, None, length, take, true, refl, sym, ◌∙◌, ap, subst, inl, inr, arith}
 use Rattle.std.specs.Prelude.{◌⊎◌, Contains, All, map, slice_index_or}
 use Rattle.std.specs.List.{flat_map}

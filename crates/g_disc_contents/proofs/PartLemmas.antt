@@ -1,4 +1,5 @@
--- The blocks of a text, one by one and joined.
+-- The blocks of a text, individually and joined.
+-- serves: lib, crates above
 use Rattle.std.proofs.Common.{◌≡◌, ℕ, zero, suc, ◌+◌, ◌-◌, ◌*◌, ◌<◌, ◌≤◌, min, List, [], ◌∷◌, ◌++◌, length, get_or, take, drop, refl, sym, ◌∙◌, ap, subst, arith, inl, inr, length-append}
 use Rattle.std.specs.Prelude.{◌⊎◌, All, slice_index_or}
 use Rattle.std.specs.List.{flat_map}
@@ -16,7 +17,7 @@ take_none : (xs : List ℕ) → take 0 xs ≡ []
 take_none [] = refl
 take_none (x ∷ xs) = refl
 
--- a text without its first n bytes, where it was cut
+-- A text without its first n bytes.
 drop_cut : (n len : ℕ) (xs : List ℕ) → drop n (take len xs) ≡ take (len - n) (drop n xs)
 drop_cut n len xs = by_case (cases_lt len n)
   where
@@ -29,7 +30,7 @@ drop_cut n len xs = by_case (cases_lt len n)
         let sum : len ≡ n + (len - n) = omega (arith, long) in
         ap (λ (k : ℕ). drop n (take k xs)) sum ∙ drop-take n (len - n) xs
 
--- the first n bytes of a block and of what is behind it, and of these a block at most
+-- The first n bytes of a block and the blocks after it, and at most one block of these.
 front : (n : ℕ) (block rest : List ℕ) → length block ≡ 512 → take (length (take n (block ++ rest))) block ≡ take 512 (take n (block ++ rest))
 front n block rest whole =
     let text : List ℕ = block ++ rest in
@@ -55,7 +56,7 @@ part_at text len part block rest whole at =
     drop_cut (512 * part) len text ∙ ap (take (len - 512 * part)) at in
     record { front = subst (λ (t : List ℕ). take (length t) block ≡ take 512 t) (sym same) (front (len - 512 * part) block rest whole) }
 
--- what is behind the first blocks
+-- What follows the first blocks.
 module _ {A : Type 0} (F : A → List ℕ) where
   joined_at : (xs : List A) (part : ℕ) (d : A) → All (λ x. length (F x) ≡ 512) xs → part < length xs → (rest : List ℕ) × (drop (512 * part) (flat_map F xs) ≡ F (get_or xs part d) ++ rest)
   joined_at [] part d whole within = absurd (let no : ⊥ = omega (arith, within) in no)

@@ -1,11 +1,11 @@
-//! What a disc holds, with bytes in the place of block numbers, and which writes leave it.
+//! What a disc holds, with bytes instead of block numbers, and which writes leave it unchanged.
 #![tactic(auto)]
 
 ghost use Rattle.g_disc_contents.specs.Parts.{BlocksAreParts, JoinedAreParts, PartsJoin};
 ghost use Rattle.g_disc_contents.specs.QuietWrites.{CommitHolds, HoldsOne, QuietHoldsCopy, QuietHoldsSlot};
 
-/// Which single writes leave what a disc holds, whatever a failed write leaves there; and what a commit leaves that was
-/// stopped at any of its writes.
+/// The single writes that leave what a disc holds unchanged, whatever a failed write leaves; and the result of a commit
+/// that was interrupted at any of its writes.
 #[tactic(auto, using(crate::proofs::HoldLemmas::quiet_copy_holds, crate::proofs::HoldLemmas::quiet_slot_holds))]
 pub fn writes_hold()
     ensures copy { QuietHoldsCopy }
@@ -13,12 +13,13 @@ pub fn writes_hold()
     ensures commit { CommitHolds }
 {}
 
-/// A disc holds one contents at most.
+/// A disc holds at most one contents.
 pub fn one_contents()
     ensures { HoldsOne }
 {}
 
-/// A block of a copy is that part of its text. Blocks hold a text just where each of them is that part of it.
+/// A block of a copy is the corresponding part of its text. Blocks hold a text if and only if each of them is the
+/// corresponding part of it.
 #[tactic(auto, using(crate::proofs::PartLemmas::blocks_are_parts, crate::proofs::PartLemmas::joined_are_parts, crate::proofs::PartLemmas::parts_join))]
 pub fn parts_hold()
     ensures copy { BlocksAreParts }

@@ -1,4 +1,5 @@
 -- How an opening is answered, from what was read of the reel and what became of the filestore.
+-- serves: begin_dump (ok, refused, stopped), OpeningLemmas, ShelfLemmas, crates above
 use Rattle.std.proofs.Common.{◌≡◌, ◌≢◌, ℕ, zero, suc, ◌+◌, ◌-◌, ◌^◌, ◌<◌, ◌≤◌, Bool, true, false, List, [], Option, Some, None, Ok, Err, refl, sym, ◌∙◌, ap, arith, subst}
 use Rattle.std.specs.Prelude.{IfOk, Result, if◌then◌else◌, is_some, option_map}
 use Rattle.std.specs.Option.{ForSome}
@@ -32,7 +33,7 @@ use Rattle.g_dumper.proofs.PlanLemmas.{plan_keeps, plan_pinned}
 pub reel_named : (s : ℕ) (rs : List Reel) (r : Reel) → reel s rs ≡ Some r → r.serial ≡ s
 reel_named s rs r is = (reel-found s rs r is).1
 
--- a reel behind reads is the same but for how often it was read
+-- a reel after reads is the same except for its record of reads
 pub after_reads : (o p : Option Reel) (r : Reel) → p ≡ Some r → option_map unread o ≡ option_map unread p → (q : Reel) × (o ≡ Some q) × (unread q ≡ unread r)
 after_reads None p r is same = absurd (none-some (unread r) (same ∙ ap (option_map unread) is))
 after_reads (Some q) p r is same = (q, refl, same_Some (unread q) (unread r) (same ∙ ap (option_map unread) is))

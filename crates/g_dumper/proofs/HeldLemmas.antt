@@ -1,4 +1,5 @@
--- The files that a dump holds: those of some users, one user behind the other.
+-- The files that a dump holds: those of some users, one user after another.
+-- serves: OpeningLemmas, PlanLemmas, crates above
 use Rattle.std.proofs.Common.{◌≡◌, ◌≢◌, ℕ, zero, suc, ◌+◌, ◌<◌, ◌≤◌, Bool, true, false, List, [], ◌∷◌, ◌++◌, get_or, length, refl, sym, ◌∙◌, ap, arith, subst, inl, inr, true≢false}
 use Rattle.std.specs.Prelude.{◌⊎◌, ◌==◌, ◌||◌, All, AllPairs, Contains, map}
 use Rattle.std.specs.List.Sorted.{IsStrictlyIncreasing}
@@ -17,7 +18,7 @@ use Rattle.g_laws_store.proofs.ClosingLemmas.{contains_filter}
 use Rattle.g_laws_store.proofs.RecordLemmas.{OtherUser, from_filter, gathered_by, gathered_few, gathered_pairs, owned, pairs_head, pairs_tail, pairs_append}
 use Rattle.g_dumper.specs.Beginning.{held_of}
 
--- A USER FOR EACH NUMBER, so that files go by users
+-- A USER FOR EACH NUMBER, so that files are ordered by users
 numbered_user : ℕ → UserRec
 numbered_user n = record { number = n; user = []; superior = 0; space = 0; time = 0; money = 0 }
 

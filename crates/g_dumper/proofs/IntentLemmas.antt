@@ -1,4 +1,5 @@
--- The commit that notes the intent of a dump, behind the pinning of its versions.
+-- The commit that notes the intent of a dump, after its versions are pinned.
+-- serves: open (ok, stopped), OpeningLemmas, PlanLemmas, crates above
 use Rattle.std.proofs.Common.{◌≡◌, ℕ, ◌+◌, ◌^◌, ◌<◌, Bool, true, false, List, [], Option, Some, None, refl, sym, ◌∙◌, ap, arith, subst, inl, inr, if◌then◌else◌}
 use Rattle.std.specs.Prelude.{◌⊎◌, is_some}
 use Rattle.std.specs.Option.{ForSome}
@@ -22,7 +23,7 @@ use Rattle.g_dumper.specs.Beginning.{HasOpened, StoppedAtIntent, intent_of, plan
 pub rules_here : (o : OnlineFacts) → o.live ≡ true → IsTied o → KeepsRules o.contents
 rules_here o live tied = subst KeepsRules (sym (tied.contents live)) (rules_of o.disc.size o.disc.held o.layout.directory (tied.records live) (tied.rules live))
 
--- WHAT THE COMMIT MAKES of the contents
+-- WHAT THE COMMIT CHANGES in the contents
 pub intended : (told pinned : Bool) (i : Option Intent) (c : Contents) → changed told pinned (SetIntent i) c ≡ with_intent i c
 unfolding changed
 intended told true i c = refl
@@ -94,7 +95,7 @@ stopped_by plan old mid new i same pinned stopped told =
         (subst (λ (j : Intent). Holds blocks (with_intent (Some j) mid.contents)) same
         (subst (Holds blocks) (intended true (is_some mid.pins) (Some i) mid.contents) made)))
 
--- THE NUMBERS that the code goes by are those of the plan
+-- THE NUMBERS that the code uses are those of the plan
 pub intent_is : (serial place : ℕ) (o : OnlineFacts) (head : Head) → head ≡ o.contents.head
     → (let i : Intent = record { serial = serial; place = place; number = head.last_dump + 1 } in i ≡ intent_of (plan_of serial place o))
 intent_is serial place o head same = ap (λ (h : Head). let i : Intent = record { serial = serial; place = place; number = h.last_dump + 1 } in i) same

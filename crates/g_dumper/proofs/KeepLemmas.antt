@@ -1,4 +1,5 @@
--- A store keeps what it keeps over a step of its open dump.
+-- A store preserves its invariant in a step of its open dump.
+-- serves: step (dumped, keeps), OpeningLemmas, crates above
 use Rattle.std.proofs.Common.{◌≡◌, ◌≢◌, ℕ, zero, suc, ◌+◌, ◌<◌, ◌≤◌, Bool, true, false, List, [], ◌∷◌, ◌++◌, length, map, Option, Some, None, Ok, Err, refl, sym, ◌∙◌, ap, arith, subst, inl, inr, true≢false}
 use Rattle.std.specs.Prelude.{◌⊎◌, All, Contains, IfSome, Result, is_some, slice_get}
 use Rattle.std.specs.Option.{ForSome}
@@ -38,7 +39,7 @@ use Rattle.g_dumper.specs.Steps.{Abandoned, FailedWrite, IsNextBlock, Stepping, 
 use Rattle.g_dumper.proofs.ReelLemmas.{same_serials, still_told}
 use Rattle.g_dumper.proofs.ShelfLemmas.{cut_shelf, left_serial, left_told, marked_shelf, quiet_shelf, ready}
 
--- WHAT A STORE THAT IS UP KEEPS goes by contents, pins and the users who are marked alone
+-- the invariant of a store that is up depends only on contents, pins and the marked users
 pub without_dump : (text : ℕ → List ℕ) (shelf : ℕ → List Dump) (rack : Rack) (p q : OnlineFacts) → q.contents ≡ p.contents → q.changed ≡ p.changed
     → IsUp text shelf (up_with p rack None) → IsUp text shelf (up_with q rack None)
 without_dump text shelf rack p q contents users was = record {
@@ -57,7 +58,7 @@ belongs_up text shelf s tied live shelved up = record {
   up = λ unspent. (text, shelf, shelved, up);
 }
 
--- a spent store has devices alone
+-- a spent store has only devices
 pub belongs_spent : (o : OnlineFacts) (rack : Rack) → BelongWith o.disc.held (told_reels rack) → Belongs (spent_with o rack)
 belongs_spent o rack is = record { devices = is; up = λ unspent. absurd (true≢false unspent) }
 
@@ -69,7 +70,7 @@ store_spent o rack tied = record {
   pins = λ unspent. absurd (true≢false unspent);
 }
 
--- THE CONTENT of the pins, where the disc tells
+-- the content of the pins, if the disc exposes it
 pub content_told : (next : ℕ) (files : List File) (pins : List Pin) → All (IsPinOf true next files) pins → (content : List (List ℕ)) × (content_in pins ≡ Some content)
 content_told next files [] all = ([], refl)
 content_told next files (p ∷ ps) all = by_first p.blocks refl (content_told next files ps (All-tail (IsPinOf true next files) p ps all))
@@ -79,7 +80,7 @@ content_told next files (p ∷ ps) all = by_first p.blocks refl (content_told ne
     by_first (Some a) some (b, is) =
         (a ++ b, ap (λ (x : Option (List (List ℕ))). both_told x (content_in ps)) some ∙ ap (both_told (Some a)) is)
 
--- THE RACK behind a write of the next block
+-- the rack after a write of the next block
 module _ (d : DumpFacts) (old new : Rack) (how : Remains) (faults : ℕ)
     (is : new ≡ record (changed d.plan.serial (left_by how (d.plan.place + d.done)) old) { write_faults = faults; fuse = burnt old.fuse }) where
   abbrev reels_then : List Reel
@@ -114,7 +115,7 @@ module _ (d : DumpFacts) (o : OnlineFacts) (old new : Rack) (reels : AreReels ol
       content_told o.contents.head.next_stamp o.contents.files is.pins
       (subst (λ (b : Bool). All (IsPinOf b o.contents.head.next_stamp o.contents.files) is.pins) told.disc pins_are)
 
-  -- WHAT IS KEPT WHERE THE MARK STANDS: the closing of the dump
+  -- what is preserved once the mark is written: the closing of the dump
   module _ (told : Told before) (text : ℕ → List ℕ) (shelf : ℕ → List Dump) (shelved : AreShelved shelf (told_reels old)) (up : IsUp text shelf before) (content : List (List ℕ))
       (has : content_in is.pins ≡ Some content) (same : map (λ (r : Reel). r.serial) new.reels ≡ map (λ (r : Reel). r.serial) old.reels) where
     abbrev next : ℕ → List Dump
@@ -123,7 +124,7 @@ module _ (d : DumpFacts) (o : OnlineFacts) (old new : Rack) (reels : AreReels ol
     up_closed : IsUp text next (record (closed_with d o.touched before) { rack = new })
     up_closed = events_stay_up.reels text next (closed_with d o.touched before) new same (closing_stays text shelf before d content o.touched refl is has up)
 
-    -- the dump is completed on the reel alone
+    -- the dump is completed on the reel, but not on the disc
     up_marked : IsUp text shelf (record before { rack = new })
     up_marked = events_stay_up.reels text shelf before new same up
 
@@ -134,7 +135,7 @@ module _ (d : DumpFacts) (o : OnlineFacts) (old new : Rack) (reels : AreReels ol
     up_completed o' closed =
         without_dump text next new (closed_with d o.touched before).online o' closed.contents closed.changed up_closed
 
-    -- stopped at the closing: whichever of the two the disc holds, it belongs
+    -- stopped at the closing: whether the disc holds the old or the new contents, it belongs to the rack
     pub devices_closing : (o' : OnlineFacts) → StoppedClosing d.plan.number o o' → AreShelved next (told_reels new) → BelongWith o'.disc.held (told_reels new)
     devices_closing o' stopped shelved_new = record {
       text = text;
@@ -148,7 +149,7 @@ module _ (d : DumpFacts) (o : OnlineFacts) (old new : Rack) (reels : AreReels ol
         one_of blocks c holds (inl was) = subst (DiscBelongs text next (told_reels new)) (holds_one blocks o.contents c was holds) ready_marked.disc
         one_of blocks c holds (inr made) = subst (DiscBelongs text next (told_reels new)) (holds_one blocks (closed_by d.plan.number o) c made holds) up_closed.disc
 
-  -- WHAT IS KEPT by each answer
+  -- WHAT IS PRESERVED by each answer
   module _ (wrote : WroteBlock d o.pins old new) where
     serials_kept : map (λ (r : Reel). r.serial) new.reels ≡ map (λ (r : Reel). r.serial) old.reels
     serials_kept = same_reels d old new (Torn wrote.block) old.write_faults wrote.rack
@@ -165,7 +166,7 @@ module _ (d : DumpFacts) (o : OnlineFacts) (old new : Rack) (reels : AreReels ol
         let up_new = events_stay_up.going text shelf (up_with o new (Some d)) d (d.done + 1) refl (events_stay_up.reels text shelf before new serials_kept up) in
         belongs_up text shelf (up_with o new (Some (record { plan = d.plan; done = d.done + 1 }))) tied live shelved_new up_new
 
-    -- the dump stands on its reel
+    -- the dump lies on its reel
     shelved_marked : Told before → d.done + 1 ≡ needs d.plan → (text : ℕ → List ℕ) (shelf : ℕ → List Dump) → AreShelved shelf (told_reels old) → IsUp text shelf before
         → (content : List (List ℕ)) → content_in is.pins ≡ Some content → AreShelved (with_dump (dump_of d.plan content) shelf) (told_reels new)
     shelved_marked told last text shelf shelved up content has =
@@ -238,7 +239,7 @@ module _ (d : DumpFacts) (o : OnlineFacts) (old new : Rack) (reels : AreReels ol
 no_pins : {A : Type 0} (x : A) → (let some : Option A = Some x in some ≡ None) → ⊥
 no_pins x is = none-some x (sym is)
 
--- A STORE KEEPS what it keeps, whatever the answer
+-- a store preserves its invariant, for any answer
 pub keeps_step : (d d' : DumpFacts) (o o' : OnlineFacts) (old new : Rack) (answer : Result Stepped StoreFault) → AreReels old.reels → o.live ≡ true → IsTied o → IsOpen d o old
     → Stepping d o old answer d' o' new → (answer ≡ Ok Going → IsOpen d' o' new) → IsTied o' → KeepsStore (up_with o old (Some d)) (behind_step answer d' o' new)
 keeps_step d d' o o' old new (Ok Going) reels live tied is (less, dump_is, same, wrote) open_then tied' =

@@ -1,4 +1,5 @@
--- The next block of an open dump: the pins of the versions that wait, and where their bytes stand in it.
+-- The next block of an open dump: the pins of the versions that wait, and where their bytes lie in it.
+-- serves: next_block (block), ShelfLemmas, crates above
 use Rattle.std.proofs.Common.{◌≡◌, ℕ, zero, suc, ◌+◌, ◌<◌, List, [], ◌∷◌, ◌++◌, length, take, slice_get, Option, Some, refl, sym, ◌∙◌, ap, arith, subst}
 use Rattle.std.specs.Prelude.{map}
 use Rattle.std.specs.Option.{ForSome}
@@ -38,7 +39,7 @@ content_long serial at (r ∷ rs) pins content (pin, rest, same, stamp, len, cop
     ap (λ (bs : List (List ℕ)). length bs) both.both ∙ length-append both.one both.rest ∙ ap (λ (n : ℕ). n + length both.rest) (blocks both.one both.is)
     ∙ ap (λ (n : ℕ). blocks_for r.len + n) long ∙ sym (sum_by-cons (λ (s : FileRec). blocks_for s.len) r rs)
 
--- and a block of a version stands behind the versions before it
+-- a block of a version lies after the preceding versions
 pub content_block : (serial at : ℕ) (ws : List FileRec) (pins : List Pin) (content : List (List ℕ)) (i part k : ℕ) (pin : Pin) (block : List ℕ) → ArePinned serial at ws pins
     → content_in pins ≡ Some content → slice_get pins i ≡ Some pin → ForSome pin.blocks (λ blocks. slice_get blocks part ≡ Some block) → k ≡ blocks_of (take i ws) + part
     → slice_get content k ≡ Some block
@@ -73,7 +74,7 @@ at_content d j k block is sum =
     ap (slice_get (header_block d ∷ (users ++ (files ++ rest)))) (let next : k ≡ suc (length users + (length files + j)) = omega (arith, sum, long, long_files) in next)
     ∙ get_behind users (files ++ rest) (length files + j) ∙ get_behind files rest j ∙ get_front d.content (mark_block d ∷ []) j block is
 
--- THE NEXT BLOCK is what the writer put there, or a block of a version
+-- THE NEXT BLOCK is what the writer wrote there, or a block of a version
 module _ (d : DumpFacts) (pins : Option (List Pin)) (ps : List Pin) (block : List ℕ) (at : pins ≡ Some ps)
     (are : ArePinned d.plan.serial (first_content d.plan) (waiting d.plan.files) ps) where
   pub next_ready : IsReadyAt d.plan d.done block → IsNextBlock d pins block

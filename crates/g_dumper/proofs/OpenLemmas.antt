@@ -1,4 +1,5 @@
 -- An open dump is open still where its next block was written.
+-- serves: write_next (open), RulesLemmas
 use Rattle.std.proofs.Common.{◌≡◌, ℕ, zero, suc, ◌+◌, ◌^◌, ◌<◌, ◌≤◌, List, [], ◌∷◌, ◌++◌, length, take, drop, slice_get, Option, Some, None, refl, sym, ◌∙◌, ap, arith, subst}
 use Rattle.std.specs.Prelude.{option_map}
 use Rattle.std.specs.Option.{ForSome}
@@ -15,7 +16,7 @@ use Rattle.g_incr.specs.Plan.{dump_of, needs}
 use Rattle.g_store_meaning.specs.StoreInvariant.{DumpFacts, IsOpen, content_in}
 use Rattle.g_dumper.specs.Steps.{IsNextBlock, WroteBlock}
 
--- so many, and one more
+-- this many, and one more
 take_more : (xs : List (List ℕ)) (n : ℕ) (x : List ℕ) → slice_get xs n ≡ Some x → take (suc n) xs ≡ take n xs ++ x ∷ []
 take_more xs n x is = take-suc xs n x (slice_get_within xs n x is) ∙ ap (λ (y : List ℕ). take n xs ++ y ∷ []) (get_or_from_slice_get xs n x x is)
 
@@ -87,7 +88,7 @@ module _ (d : DumpFacts) (o : OnlineFacts) (old : Rack) (reels : AreReels old.re
           ap (drop d.plan.place) same ∙ grown was content at told;
     }
 
--- WHAT THE CODE DID, by the numbers that it keeps beside its writer
+-- what the code did, by the numbers that it has besides its writer
 pub wrote_by : (d : DumpFacts) (pins : Option (List Pin)) (serial place : ℕ) (block : List ℕ) (old new : Rack) → serial ≡ d.plan.serial → place ≡ d.plan.place → IsNextBlock d pins block
     → new ≡ record (changed serial (ending (place + d.done) block) old) { fuse = burnt old.fuse } → WroteBlock d pins old new
 wrote_by d pins serial place block old new serial_is place_is next rack = record {

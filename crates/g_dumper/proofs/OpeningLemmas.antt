@@ -1,4 +1,5 @@
--- A store keeps what it keeps over the opening of a dump.
+-- A store preserves its invariant in the opening of a dump.
+-- serves: begin (keeps), crates above
 use Rattle.std.proofs.Common.{◌≡◌, ℕ, ◌+◌, ◌≤◌, Bool, true, List, [], ◌∷◌, get_or, map, take, Option, Some, None, Ok, Err, refl, sym, ◌∙◌, ap, subst, inl, inr}
 use Rattle.std.specs.Prelude.{◌⊎◌, All, Contains, IfErr, IfOk, IfSome, Result, is_some}
 use Rattle.std.proofs.lemmas.List.Elements.{All-contains, All-cons, All-head, All-nil, All-tail, Contains-get_or}
@@ -72,7 +73,7 @@ module _ (o : OnlineFacts) (old new : Rack) (reads : OnlyReads old new) where
   read_told : ReelsTold (told_reels old) → ReelsTold (told_reels new)
   read_told told = subst ReelsTold (sym reads.reels) told
 
--- WHAT A STORE THAT IS UP KEEPS goes by contents, pins and the users who are marked alone, also with a dump open
+-- the invariant of a store that is up depends only on contents, pins and the marked users, also with a dump open
 parts : OnlineFacts → Contents → Option (List Pin) → List ℕ → List ℕ → OnlineFacts
 parts p c pins changed touched = record p { contents = c; pins = pins; changed = changed; touched = touched }
 
@@ -116,14 +117,14 @@ module _ (serial place : ℕ) (rack after : Rack) (on : Reel) (reads : OnlyReads
       let found : blocks_of serial rack ≡ Some blocks = sym (blocks_after_reads serial rack after reads) ∙ ap blocks_in on_is ∙ at in
       end_is.is blocks found (shelf serial) (subst (λ (n : ℕ). AreCompleted n blocks (shelf n)) on_named (shelved.each (unread on) on_there blocks at))
 
-  -- none of its dumps is newer than the last one
+  -- each of its dumps is at most as new as the last one
   pub shelf_quiet : (last : ℕ) → ((d : Dump) → Contains (all_dumps shelf (told_reels after)) d → d.number ≤ last) → All (λ (d : Dump). d.number ≤ last) (shelf serial)
   shelf_quiet last quiet = λ k d within.
       let x = get_or (shelf serial) k d in
       quiet x (on_all shelf (told_reels after) (unread on) x on_there (subst (λ (n : ℕ). Contains (shelf n) x) (sym on_named) (Contains-get_or (shelf serial) k d within)))
 
--- WHAT STANDS behind an opening, over devices that tell: the plan is the one of the records, the pins have the texts of the versions
--- that wait, and the store keeps what a store with an open dump keeps
+-- what holds after an opening, on devices that expose their contents: the plan is that of the records, the pins have the
+-- texts of the versions that wait, and the store preserves the invariant of a store with an open dump
 pub record IsOpenedUp (text : ℕ → List ℕ) (shelf : ℕ → List Dump) (o new : OnlineFacts) (after : Rack) (d : DumpFacts) : Type 0 where
   pub dumpable : AreDumpable o.changed o.contents
   pub planned : IsPlanOf shelf o.changed o.contents d.plan
@@ -194,7 +195,7 @@ module _ (serial : ℕ) (o new : OnlineFacts) (rack after : Rack) (live : o.live
         let (text, shelf, shelved, up) = was.up refl in
         belongs_up text shelf (up_with new after (Some d)) tied_new begins.opened.live (read_shelf o rack after reads shelf shelved) (opened_up told text shelf shelved up).up
 
-  -- stopped at the intent: whichever of the two the disc holds, it belongs
+  -- stopped at the intent: whether the disc holds the old or the new contents, it belongs to the rack
   pub stopped_belongs : (r : Reel) → reel serial after.reels ≡ Some r → StoppedOpening serial o new rack → Told (up_with o rack None) → Belongs (up_with o rack None) → Belongs (spent_with new after)
   stopped_belongs r r_is stopped told was =
       let (text, shelf, shelved, up) = was.up refl in

@@ -1,4 +1,6 @@
--- The plan of a dump that is opened now keeps the rules of a plan, and its versions that wait are those that are pinned.
+-- The plan of a dump that is opened now satisfies the rules of a plan, and its versions that wait are those that are
+-- pinned.
+-- serves: BeginLemmas, crates above
 use Rattle.std.proofs.Common.{◌≡◌, ◌≢◌, ℕ, ◌+◌, ◌-◌, ◌^◌, ◌<◌, ◌≤◌, Bool, true, false, List, [], ◌∷◌, get_or, length, map, Option, Some, None, refl, sym, ◌∙◌, ap, arith, subst, inl, inr}
 use Rattle.std.specs.Prelude.{◌⊎◌, ◌&&◌, All, AllPairs, Contains, IfSome, filter, is_none, is_some, nat_lt}
 use Rattle.std.specs.Option.{ForSome}

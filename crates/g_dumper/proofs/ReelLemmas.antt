@@ -1,4 +1,5 @@
--- A write of one reel, and the completed dumps of the rack behind it.
+-- A write of one reel, and the completed dumps of the rack after it.
+-- serves: KeepLemmas, ShelfLemmas
 use Rattle.std.proofs.Common.{◌≡◌, ℕ, zero, suc, ◌+◌, ◌<◌, ◌≤◌, ◌==◌, Bool, true, false, List, [], ◌∷◌, ◌++◌, length, map, take, Option, Some, None, refl, sym, ◌∙◌, ap, arith, subst, inl, inr, true≢false}
 use Rattle.std.specs.Prelude.{◌⊎◌, All, AllPairs, Contains, is_some, option_map}
 use Rattle.std.specs.Option.{ForSome}
@@ -76,7 +77,7 @@ module _ (serial : ℕ) (f : Reel → Reel) (named : (r : Reel) → (f r).serial
               (kept_reel (unread q) off (are.each (unread q) (0, omega arith, refl)))
           of_rest r (inr in_rest) = (rest (λ s at. there s (cond-false (serial == q.serial) (Some q) (reel serial qs) other ∙ at))).each r in_rest
 
--- the reels are the same, and tell what they hold if they did
+-- the reels are the same, and expose their contents if they did
 pub same_serials : (serial : ℕ) (f : Reel → Reel) → ((r : Reel) → (f r).serial ≡ r.serial) → (reels : List Reel) → serials (with_reel serial f reels) ≡ serials reels
 same_serials serial f named [] = refl
 same_serials serial f named (q ∷ qs) = by_serial (cases_Bool (serial == q.serial)) (same_serials serial f named qs)

@@ -1,4 +1,5 @@
--- A dump that is closed leaves contents that keep the rules of a directory.
+-- A dump that is closed leaves contents that satisfy the rules of a directory.
+-- serves: write_next
 use Rattle.std.proofs.Common.{◌≡◌, ℕ, ◌+◌, ◌^◌, ◌<◌, Bool, true, List, [], ◌∷◌, get_or, map, Option, None, sym, arith, subst}
 use Rattle.std.specs.Prelude.{All, IfSome, is_some}
 use Rattle.std.proofs.lemmas.List.Elements.{All-cons, All-map, All-nil}
@@ -20,7 +21,7 @@ use Rattle.g_store_meaning.specs.StoreInvariant.{ArePinned, DumpFacts, IsOpen}
 use Rattle.g_laws_store.proofs.PinLemmas.{IsOtherPin, copy_apart, pairs}
 use Rattle.g_dumper.proofs.OpenLemmas.{lies_low}
 
--- THE NOTED PLACES may stand in records
+-- records may have the noted places
 abbrev MayStand : Pin → Type 0
 MayStand p = IsCopy p.copy
 
@@ -46,7 +47,7 @@ others_pinned r pins none all k d inside same =
 pins_stand : (pins : List Pin) → All MayStand pins → All (λ c. IsCopy c.1) (pairs pins)
 pins_stand pins stand = All-map (λ (c : ℕ × TapeCopy). IsCopy c.1) (λ (p : Pin). (p.stamp, p.copy)) pins stand
 
--- with the places noted the contents keep the rules
+-- with the places noted the contents satisfy the rules
 rules_closed : (pins : List Pin) → All MayStand pins → (c : Contents) (last : ℕ) → last < 2 ^ 62 → All (λ r. All (IsFilledFor r) pins) (recs_in c) → KeepsRules c
     → KeepsRules (record c { head = record c.head { last_dump = last; intent = None }; files = with_copies (pairs pins) c.files })
 rules_closed pins stand c last low filled rules =

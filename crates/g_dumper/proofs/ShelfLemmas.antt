@@ -1,4 +1,5 @@
--- The completed dumps of the rack behind a write of the next block of an open dump.
+-- The completed dumps of the rack after a write of the next block of an open dump.
+-- serves: KeepLemmas, OpeningLemmas, crates above
 use Rattle.std.proofs.Common.{◌≡◌, ◌≢◌, ℕ, zero, suc, ◌+◌, ◌<◌, ◌≤◌, ◌==◌, Bool, true, List, [], ◌∷◌, ◌++◌, get_or, length, map, take, Option, Some, None, refl, sym, ◌∙◌, ap, arith, subst, inl, inr}
 use Rattle.std.specs.Prelude.{◌⊎◌, All, Contains, is_some, option_map, slice_get}
 use Rattle.std.specs.Option.{ForSome}
@@ -30,7 +31,7 @@ use Rattle.g_dumper.proofs.BeginLemmas.{reel_named}
 use Rattle.g_dumper.proofs.NextLemmas.{content_long}
 use Rattle.g_dumper.proofs.ReelLemmas.{shelf_after}
 
--- THE REEL of a serial is among the reels that are told
+-- the reel of a serial is among the exposed reels
 pub reel_there : (s : ℕ) (rs : List Reel) (r : Reel) → reel s rs ≡ Some r → Contains (map unread rs) (unread r)
 reel_there s rs r is = mapped_there unread rs r (reel-found s rs r is).0
 
@@ -38,7 +39,7 @@ pub told_is : (o : Option (List (List ℕ))) → is_some o ≡ true → (blocks 
 told_is None is = let no : ⊥ = cc in absurd no
 told_is (Some blocks) is = (blocks, refl)
 
--- the numbers behind dumps of which none is newer
+-- the numbers after dumps of which none is newer
 number_most : (last from : ℕ) (ds : List Dump) → from ≤ last + 1 → All (λ (d : Dump). d.number ≤ last) ds → number_behind from ds ≤ last + 1
 number_most last from [] low all = low
 number_most last from (d ∷ ds) low all =
@@ -66,7 +67,7 @@ left_told Unchanged k r = refl
 left_told Shortened k r = mapped_some (take k) r.blocks
 left_told (Torn block) k r = mapped_some (λ (bs : List (List ℕ)). take k bs ++ block ∷ []) r.blocks
 
--- AN OPEN DUMP OF A STORE THAT IS UP, where all reels tell what they hold
+-- an open dump of a store that is up, if all reels expose their contents
 module _ (d : DumpFacts) (o : OnlineFacts) (old : Rack) (reels : AreReels old.reels) (tell : ReelsTold (told_reels old)) (is : IsOpen d o old) (text : ℕ → List ℕ) (shelf : ℕ → List Dump)
     (shelved : AreShelved shelf (told_reels old)) (up : IsUp text shelf (up_with o old (Some d))) (content : List (List ℕ)) (has : content_in is.pins ≡ Some content) where
   abbrev made : Dump
@@ -145,7 +146,7 @@ module _ (d : DumpFacts) (o : OnlineFacts) (old : Rack) (reels : AreReels old.re
       (subst (λ (ds : List Dump). (r : Reel) → reel d.plan.serial old.reels ≡ Some r → ForSome (left_by how at r).blocks (λ blocks. AreCompleted d.plan.serial blocks ds)) (sym this_reel)
       (on_reel how (shelf d.plan.serial ++ made ∷ []) then_completed))
 
-  -- BEFORE THE MARK nothing changes, whatever the write leaves
+  -- before the mark nothing changes, whether or not the write failed
   pub quiet_shelf : (how : Remains) → d.done + 1 < needs d.plan → ShelvedAs shelf how
   quiet_shelf how less =
       let sum = counts in

@@ -1,4 +1,4 @@
--- AN OPENING OF A DUMP: its plan, when it is refused, and what it leaves.
+-- The opening of a dump: its plan, when it is refused, and what it leaves.
 use Rattle.std.specs.Prelude.{◌≡◌, ◌≢◌, ◌⊎◌, ◌↔◌, ℕ, ◌+◌, ◌-◌, ◌^◌, ◌<◌, ◌≤◌, true, false, List, [], Option, Some, None, is_some, Result, Err, IfErr}
 use Rattle.std.specs.Option.{ForSome}
 use Rattle.std.specs.List.{flat_map}
@@ -22,11 +22,12 @@ use Rattle.g_shelf.specs.CompletedDumps.{AreCompleted, end_of}
 use Rattle.g_store_meaning.specs.Meaning.{files_of}
 use Rattle.g_store_meaning.specs.StoreInvariant.{DumpFacts, IsOpen}
 
--- the files of these users, one user behind the other
+-- The files of these users, one user after another.
 abbrev pub held_of : List ℕ → List FileRec → List FileRec
 held_of users files = flat_map (λ n. files_of n files) users
 
--- THE PLAN of a dump that is opened now at this place: all users as they are, and the files of the changed ones
+-- The plan of a dump that is opened now at this place: all users with their current records, and the files of the changed
+-- ones.
 abbrev pub plan_of : ℕ → ℕ → OnlineFacts → Plan
 plan_of serial place o = record {
   serial = serial;
@@ -38,14 +39,15 @@ plan_of serial place o = record {
   files = held_of o.changed (recs_in o.contents);
 }
 
+-- The intent that names the dump of this plan.
 abbrev pub intent_of : Plan → Intent
 intent_of plan = record { serial = plan.serial; place = plan.place; number = plan.number }
 
--- the place is the end of the reel's completed dumps, where the reel tells what it holds
+-- If the reel exposes its contents, the place is the end of its completed dumps.
 pub record IsEnd (serial : ℕ) (rack : Rack) (place : ℕ) : Type 0 where
   pub is : ForSome (blocks_of serial rack) (λ blocks. (dumps : List Dump) → AreCompleted serial blocks dumps → place ≡ end_of dumps)
 
--- a dump of `need` blocks would go past the end of the reel, which has room for `room` of them behind its completed dumps
+-- A dump of `need` blocks would exceed the reel, which has room for `room` of them after its completed dumps.
 pub record IsTooLong (serial need room : ℕ) (o : OnlineFacts) (rack : Rack) : Type 0 where
   pub place : ℕ
   pub end_is : IsEnd serial rack place
@@ -53,15 +55,15 @@ pub record IsTooLong (serial need room : ℕ) (o : OnlineFacts) (rack : Rack) : 
   pub room_is : ForSome (reel serial rack.reels) (λ r. room ≡ r.capacity - place)
   pub less : room < need
 
--- the greatest number of a dump is given
+-- The last dump has the greatest possible number.
 abbrev pub IsSpent : OnlineFacts → Type 0
 IsSpent o = o.contents.head.last_dump ≡ 2 ^ 62 - 1
 
--- the reel can't be written, for this reason
+-- The reel can't be written, for this reason.
 abbrev pub IsKeptBack : ℕ → Rack → TapeFault → Type 0
 IsKeptBack serial rack fault = refuses_unmount (reel serial rack.reels) ≡ Some fault
 
--- the refusals that there are
+-- The refusals that exist.
 abbrev pub MayRefuse : StoreFault → Type 0
 MayRefuse CountersSpent = Unit {0}
 MayRefuse NoTape = Unit {0}
@@ -72,8 +74,9 @@ MayRefuse Stopped = Unit {0}
 MayRefuse NoMemory = Unit {0}
 MayRefuse fault = ⊥
 
--- THE REFUSALS, in their order: the numbers of dumps are used up, the reel isn't there, isn't mounted, couldn't be read, or is too
--- short. Each comes just where it should; a dump that is opened, or stopped at its intent, has the room (`Begins`, `StoppedOpening`).
+-- The refusals, in their order: dump numbers are used up, the reel doesn't exist, isn't mounted, couldn't be read, or is
+-- too short. The first three are returned if and only if their condition holds, the others only if it does. Conversely, a
+-- dump that is opened, or stopped at its intent, has room (`Begins`, `StoppedOpening`).
 pub record RefusesOpening {A : Type 0} (serial : ℕ) (o : OnlineFacts) (old new : Rack) (result : Result A StoreFault) : Type 0 where
   pub spent : (result ≡ Err CountersSpent) ↔ IsSpent o
   pub no_tape : (result ≡ Err NoTape) ↔ ((IsSpent o → ⊥) × IsKeptBack serial old tape.NoTape)
@@ -83,13 +86,15 @@ pub record RefusesOpening {A : Type 0} (serial : ℕ) (o : OnlineFacts) (old new
   pub full : (need room : ℕ) → result ≡ Err (TapeFull need room) → IsTooLong serial need room o old
   pub only : IfErr result MayRefuse
 
--- refused: all is as it was. Where memory was wanting nobody counts as touched, which is looked at while a dump is open alone.
+-- A refused opening changes nothing. If memory ran out, the list of touched users may differ; it matters only while a dump
+-- is open.
 abbrev pub LeftByRefusal : StoreFault → OnlineFacts → OnlineFacts → Type 0
 LeftByRefusal Stopped old new = Unit {0}
 LeftByRefusal NoMemory old new = new ≡ record old { touched = new.touched }
 LeftByRefusal fault old new = new ≡ old
 
--- THE DUMP OF THIS PLAN IS OPENED in memory and on the disc: the versions that wait are pinned, and one commit has put in the intent
+-- The dump of this plan is opened in memory and on disc: the versions that wait are pinned, and one commit has written the
+-- intent.
 pub record HasOpened (plan : Plan) (old new : OnlineFacts) : Type 0 where
   pub pinned : HasPinned plan.serial (first_content plan) old (record old { pins = new.pins; touched = [] })
   pub contents : new.contents ≡ with_intent (Some (intent_of plan)) old.contents
@@ -101,13 +106,14 @@ pub record HasOpened (plan : Plan) (old new : OnlineFacts) : Type 0 where
   pub commits : Commits 1 old.layout new.layout blocks
   pub writes : RoseBy blocks old.disc.writes new.disc.writes
 
--- or the commit was stopped: the disc holds what it held, or that with the intent, and the filestore takes no further call
+-- The commit of the intent was stopped: the disc holds what it held, or that with the intent, and the filestore accepts no
+-- further call.
 pub record StoppedAtIntent (plan : Plan) (old new : OnlineFacts) : Type 0 where
   pub live : new.live ≡ false
   pub told : is_some new.disc.held ≡ is_some old.disc.held
   pub holds : ForSome new.disc.held (λ blocks. Holds blocks old.contents ⊎ Holds blocks (with_intent (Some (intent_of plan)) old.contents))
 
--- OPENED: the plan is that of the filestore as it is, and stands behind the completed dumps of the reel
+-- A dump was opened: its plan is that of the current filestore, and begins after the completed dumps of the reel.
 pub record Begins (serial : ℕ) (old : OnlineFacts) (rack : Rack) (d : DumpFacts) (new : OnlineFacts) (after : Rack) : Type 0 where
   pub place : ℕ
   pub end_is : IsEnd serial rack place
@@ -116,7 +122,7 @@ pub record Begins (serial : ℕ) (old : OnlineFacts) (rack : Rack) (d : DumpFact
   pub opened : HasOpened d.plan old new
   pub open_dump : IsOpen d new after
 
--- STOPPED: a dump of such a plan would have been opened
+-- The opening was stopped: a dump of such a plan would have been opened, and has room.
 pub record StoppedOpening (serial : ℕ) (old new : OnlineFacts) (rack : Rack) : Type 0 where
   pub place : ℕ
   pub end_is : IsEnd serial rack place

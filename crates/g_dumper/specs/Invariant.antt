@@ -1,4 +1,4 @@
--- WHAT A STORE KEEPS over the opening of a dump and over its steps, whichever store filestore and rack are in.
+-- What the opening of a dump and its steps preserve, for any store that the filestore and the rack belong to.
 use Rattle.std.specs.Prelude.{◌≡◌, ℕ, true, false, List, Option, Some, None, Result, Ok, Err}
 use Rattle.g_tape.specs.Rack.{Rack}
 use Rattle.g_plain.specs.declared.faults.StoreFault.{StoreFault}
@@ -12,35 +12,36 @@ use Rattle.g_store_meaning.specs.Answers.{Belongs, IsStore, Told}
 use Rattle.g_store_meaning.specs.Meaning.{told_reels}
 use Rattle.g_store_meaning.specs.StoreInvariant.{DumpFacts, IsOpen, IsUp, StoreFacts, content_in, with_dump}
 
--- a store that is up, and one that is spent
+-- A store that is up, and one that is spent.
 abbrev pub up_with : OnlineFacts → Rack → Option DumpFacts → StoreFacts
 up_with o rack dump = record { online = o; rack = rack; dump = dump; spent = false }
 
+-- A spent store with these devices.
 abbrev pub spent_with : OnlineFacts → Rack → StoreFacts
 spent_with o rack = record { online = o; rack = rack; dump = None; spent = true }
 
--- the store behind an opening
+-- The store after an opening.
 abbrev pub behind_opening : Result DumpFacts StoreFault → OnlineFacts → Rack → StoreFacts
 behind_opening (Ok d) o rack = up_with o rack (Some d)
 behind_opening (Err Stopped) o rack = spent_with o rack
 behind_opening (Err fault) o rack = up_with o rack None
 
--- and behind a step: the dump goes on, or it is completed or given up
+-- The store after a step: the dump continues, or it is completed or given up.
 abbrev pub behind_step : Result Stepped StoreFault → DumpFacts → OnlineFacts → Rack → StoreFacts
 behind_step (Ok Going) d o rack = up_with o rack (Some d)
 behind_step (Ok (Completed number)) d o rack = up_with o rack None
 behind_step (Err Stopped) d o rack = spent_with o rack
 behind_step (Err fault) d o rack = up_with o rack None
 
--- A STORE KEEPS what a store keeps; and, where all devices tell what they hold, that disc and rack belong together, and of an open dump
--- that with it completed they would
+-- The store preserves its invariant. If all devices expose their contents they still do, and disc and rack still belong
+-- together, including the open dump.
 pub record KeepsStore (old new : StoreFacts) : Type 0 where
   pub store : IsStore old → IsStore new
   pub told : Told old → Told new
   pub belongs : Told old → IsStore old → Belongs old → Belongs new
 
--- A DUMP THAT COMPLETES stands on its reel behind the others, and is the one that it was opened to be: the one of its plan and of the
--- versions that were pinned then, whatever became of the files meanwhile
+-- A dump that completes lies on its reel after the others, and is the one that was opened: that of its plan and of the
+-- versions pinned then, for all later changes of the files.
 pub record CompletesOpening (d : DumpFacts) (old new : StoreFacts) : Type 0 where
   pub dumped : Told old → (is : IsOpen d old.online old.rack) (text : ℕ → List ℕ) (shelf : ℕ → List Dump) → AreShelved shelf (told_reels old.rack) → IsUp text shelf old
       → (content : List (List ℕ)) → content_in is.pins ≡ Some content

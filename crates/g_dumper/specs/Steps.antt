@@ -1,4 +1,4 @@
--- A STEP OF A DUMP: what it does to the online filestore and to the rack.
+-- A step of a dump: what it does to the online filestore and to the rack.
 use Rattle.std.specs.Prelude.{◌≡◌, ◌⊎◌, ℕ, ◌+◌, ◌<◌, ◌≤◌, List, [], Option, Some, None, Result, Ok, Err, slice_get}
 use Rattle.std.specs.Option.{ForSome}
 use Rattle.g_base.specs.Counts.{Rose}
@@ -17,23 +17,23 @@ use Rattle.g_store_meaning.specs.StoreInvariant.{DumpFacts, content_in}
 use Rattle.g_dumper.specs.declared.dump.DumpStep.{DumpStep}
 use Rattle.g_dumper.specs.declared.dump.DumpStep.TheVariants as answer
 
--- block `done` of the dump, where the disc tells the bytes of the versions
+-- Block `done` of the dump, if the disc exposes the bytes of the versions.
 pub record IsNextBlock (d : DumpFacts) (pins : Option (List Pin)) (block : List ℕ) : Type 0 where
   pub is : (ps : List Pin) → pins ≡ Some ps → ForSome (content_in ps) (λ content. slice_get (dump_blocks (dump_of d.plan content)) d.done ≡ Some block)
 
--- it was written behind those before it
+-- The block was written after the previous ones.
 pub record WroteBlock (d : DumpFacts) (pins : Option (List Pin)) (old new : Rack) : Type 0 where
   pub block : List ℕ
   pub next : IsNextBlock d pins block
   pub rack : new ≡ record (changed d.plan.serial (ending (d.plan.place + d.done) block) old) { fuse = burnt old.fuse }
 
--- or its write failed
+-- The write of the block failed.
 pub record FailedWrite (d : DumpFacts) (old new : Rack) : Type 0 where
   pub rose : Rose old.write_faults new.write_faults
   pub how : Remains
   pub rack : new ≡ record (changed d.plan.serial (left_by how (d.plan.place + d.done)) old) { write_faults = new.write_faults; fuse = burnt old.fuse }
 
--- a read of the disc failed, for a block of a version, and the versions wait no more
+-- A read of the disc failed, for a block of a version, and the versions are no longer pinned.
 pub record Abandoned (d : DumpFacts) (old new : OnlineFacts) : Type 0 where
   pub version : ℕ
   pub part : ℕ
@@ -41,7 +41,7 @@ pub record Abandoned (d : DumpFacts) (old new : OnlineFacts) : Type 0 where
   pub rose : Rose old.disc.read_faults new.disc.read_faults
   pub facts : new ≡ record old { disc = record old.disc { read_faults = new.disc.read_faults }; pins = None; touched = [] }
 
--- A STEP, its answer, and what stands behind it. The last one writes the mark and then closes the dump on the disc.
+-- A step, its answer, and the facts afterwards. The last step writes the mark and then closes the dump on the disc.
 abbrev pub Stepping : DumpFacts → OnlineFacts → Rack → Result Stepped StoreFault → DumpFacts → OnlineFacts → Rack → Type 0
 Stepping d o r (Ok Going) d' o' r' = (d.done + 1 < needs d.plan) × (d' ≡ record d { done = d.done + 1 }) × (o' ≡ o) × WroteBlock d o.pins r r'
 Stepping d o r (Ok (Completed n)) d' o' r' = (d.done + 1 ≡ needs d.plan) × (n ≡ d.plan.number) × (d'.plan ≡ d.plan) × WroteBlock d o.pins r r' × IsClosing n o o' (Ok tt)
@@ -50,16 +50,17 @@ Stepping d o r (Err Stopped) d' o' r' = (d'.plan ≡ d.plan)
     × ((FailedWrite d r r' × (o' ≡ o)) ⊎ ((d.done + 1 ≡ needs d.plan) × WroteBlock d o.pins r r' × IsClosing d.plan.number o o' (Err online.Stopped)))
 Stepping d o r (Err fault) d' o' r' = ⊥
 
--- the answer of the code, as a step of a state has it
+-- The code's answer, as the step of a state has it.
 abbrev pub stepped : DumpStep → Stepped
 stepped answer.Going = Going
 stepped (answer.Completed number) = Completed number
 
+-- The code's answer or fault, as the step of a state has it.
 abbrev pub stepped_of : Result DumpStep StoreFault → Result Stepped StoreFault
 stepped_of (Ok step) = Ok (stepped step)
 stepped_of (Err fault) = Err fault
 
--- the numbers that a dump keeps beside its writer are the plan's
+-- The numbers that a dump has besides its writer are those of the plan.
 pub record IsNamed (plan : Plan) (serial place number done : ℕ) : Type 0 where
   pub rules : IsPlan plan
   pub serial_is : serial ≡ plan.serial

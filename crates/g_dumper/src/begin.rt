@@ -26,10 +26,10 @@ use std::alloc::Global;
 pub const LAST_NUMBER: u64 = 4_611_686_018_427_387_903;
 
 impl Dump {
-    /// Opens a dump on the reel, behind its completed dumps: it will hold all users as they are, the files of the changed
-    /// ones, and the bytes of those versions that have no copy on tape, which wait from now on. One commit notes the intent
-    /// on the disc. In this order: `CountersSpent`, `NoTape`, `NotMounted`, `TapeReadFault`, `TapeFull`, `Stopped`; and
-    /// `NoMemory`. After any of them but `Stopped` nothing waits and nothing has changed.
+    /// Opens a dump on the reel, after its completed dumps. It will hold all users with their current records, the files of
+    /// the changed ones, and the bytes of the versions that have no copy on tape; these wait from now on. One commit notes
+    /// the intent on the disc. The refusals, in this order: `CountersSpent`, `NoTape`, `NotMounted`, `TapeReadFault`,
+    /// `TapeFull`, `Stopped`; and `NoMemory`. After any of them except `Stopped` nothing waits and nothing has changed.
     pub fn begin<D: Disc, T: Tapes>(
         alloc: Global,
         online: &mut Online<D>,
@@ -53,7 +53,7 @@ impl Dump {
     }
 }
 
-/// What `Dump::begin` does, without what it keeps.
+/// What `Dump::begin` does, without the clauses about invariants.
 fn begin_dump<D: Disc, T: Tapes>(
     alloc: Global,
     online: &mut Online<D>,
@@ -90,7 +90,7 @@ fn begin_dump<D: Disc, T: Tapes>(
     open(alloc, online, writer, serial, place, first)
 }
 
-/// The writer of what the filestore holds now, and the block of the reel where the content of the dump begins.
+/// The writer of what the filestore holds now, and the block of the reel where the content of the dump will begin.
 fn planned<D: Disc>(
     alloc: Global,
     online: &Online<D>,
@@ -126,7 +126,7 @@ fn planned<D: Disc>(
     }
 }
 
-/// Pins the versions that wait and notes the intent. Where that is refused, nothing waits.
+/// Pins the versions that wait and notes the intent. After a refusal no version waits.
 fn open<D: Disc>(
     alloc: Global,
     online: &mut Online<D>,
@@ -176,7 +176,7 @@ fn open<D: Disc>(
     }
 }
 
-/// The files of these users, one user behind the other, as `Writer::new` takes them.
+/// The files of these users, one user after another, as `Writer::new` takes them.
 pub fn held_files(alloc: Global, files: &FileTable, held: &[u8]) -> Result<Vec<FileRec>, NoMemory>
     ensures { IfOk result (λ all. all.items ≡ held_of held.now files.now) }
 {
@@ -190,7 +190,7 @@ pub fn held_files(alloc: Global, files: &FileTable, held: &[u8]) -> Result<Vec<F
     Ok(all)
 }
 
-/// Puts the files of this user behind the others.
+/// Appends the files of this user.
 fn add_files_of(owner: u8, files: &FileTable, all: &mut Vec<FileRec>) -> Result<(), NoMemory>
     ensures { OnOk result (all.new.items ≡ all.old.items ++ files_of owner files.now) }
 {
@@ -205,7 +205,7 @@ fn add_files_of(owner: u8, files: &FileTable, all: &mut Vec<FileRec>) -> Result<
     Ok(())
 }
 
-/// How many blocks the reel has room for behind this one.
+/// The number of blocks for which the reel has room from this block on.
 fn room_behind<T: Tapes>(tapes: &T, serial: u32, place: u32) -> u32
     ensures { ForSome (reel serial (T.rack tapes.now).reels) (λ r. result ≡ r.capacity - place) }
 {

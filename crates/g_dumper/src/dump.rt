@@ -5,15 +5,15 @@ ghost use Rattle.g_incr.specs.Plan.{IsPlan, needs};
 use g_incr::Writer;
 use std::marker::Model;
 
-/// How a step is answered: the dump goes on, or it is completed, with its number.
+/// The answer of a step: the dump continues, or it is completed and has this number.
 #[derive(Clone, Copy, PartialEq, Eq)]
 pub enum DumpStep {
     Going,
     Completed(u64),
 }
 
-/// A dump that was opened: what it will hold, fixed at its opening, and how many of its blocks are written. The bytes of
-/// the versions that wait are those that the online filestore has pinned.
+/// An open dump: what it will hold, fixed at its opening, and the number of its blocks that are written. The bytes of the
+/// versions that wait are those that the online filestore has pinned.
 #[derive(Drop)]
 pub struct Dump {
     pub(crate) writer: Writer,
@@ -31,12 +31,12 @@ impl Model for Dump {
 
     ghost view = { λ d. record { plan = d.writer; done = d.done } };
 
-    // The writer keeps the rules of a plan; the numbers beside it are the plan's.
+    // The writer satisfies the rules of a plan; the other numbers are those of the plan.
     ghost invariant = { λ d. IsNamed d.writer d.serial d.place d.number d.done };
 }
 
 impl Dump {
-    /// How many blocks of tape the dump takes.
+    /// The number of tape blocks that the dump takes.
     pub fn needs(&self) -> u32
         ensures needs { result ≡ needs self.now.plan }
         ensures rules { IsPlan self.now.plan }

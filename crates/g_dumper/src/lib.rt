@@ -1,4 +1,4 @@
-//! A dump that is being written, one block of tape a step.
+//! A dump that is being written, one block of tape in each step.
 #![tactic(auto)]
 
 mod begin;

@@ -16,9 +16,10 @@ use g_plain::StoreFault;
 use g_tape::Tapes;
 
 impl Dump {
-    /// Writes the next block to tape. Behind the last one, the mark, the disc gets the copies of those versions that are
+    /// Writes the next block to tape. After the last one, the mark, the disc gets the copies of those versions that are
     /// still current, the dump's number, and no intent. `DiscReadFault`: a block of a version couldn't be read; the dump is
-    /// given up and its versions wait no more. `Stopped`: a write of tape or disc failed, and neither takes a further call.
+    /// given up and its versions no longer wait. `Stopped`: a write of tape or disc failed, and neither accepts a further
+    /// call.
     pub fn step<D: Disc, T: Tapes>(
         &mut self,
         online: &mut Online<D>,
@@ -39,7 +40,7 @@ impl Dump {
         self.write_next(online, tapes)
     }
 
-    /// What `step` does, without what it keeps.
+    /// What `step` does, without the clauses about invariants.
     fn write_next<D: Disc, T: Tapes>(
         &mut self,
         online: &mut Online<D>,
@@ -73,8 +74,8 @@ impl Dump {
     }
 }
 
-/// Puts the next block of the dump into `into`. `ReadFailed`: a block of a version couldn't be read, and the versions wait
-/// no more; what `into` holds then is not said.
+/// Writes the next block of the dump into `into`. `ReadFailed`: a block of a version couldn't be read, the versions no
+/// longer wait, and the contents of `into` are unspecified.
 fn next_block<D: Disc>(
     writer: &Writer,
     done: u32,

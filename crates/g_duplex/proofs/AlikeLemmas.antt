@@ -1,4 +1,5 @@
 -- Racks that show the same answer the same.
+-- serves: racks_answer_alike
 use Rattle.std.proofs.Common.{◌≡◌, ◌≢◌, ℕ, List, Bool, true, Option, Some, None, Result, Ok, Err, refl, sym, ap, subst, ◌∙◌, is_some}
 use Rattle.std.specs.Option.{ForSome}
 use Rattle.std.specs.List.{slice_get}
@@ -21,7 +22,7 @@ refusal-one (Ok u) (Err f) same = absurd (cc)
 refusal-one (Err f) (Ok u) same = absurd (cc)
 refusal-one (Err f) (Err f') same = cc
 
--- the rack behind a read that didn't fail
+-- The rack after a read that didn't fail.
 abbrev behind_read : ℕ → ℕ → Answer → Rack → Rack
 behind_read s k (Ok u) p = changed s (read_at k) p
 behind_read s k (Err fault) p = p
@@ -35,7 +36,7 @@ read_said s k p p' (Err NoTape) i is not_failed = (is.0, is.1)
 read_said s k p p' (Err NotMounted) i is not_failed = (is.0, is.1)
 read_said s k p p' (Err End) i is not_failed = (is.0, is.1)
 
--- what was read, where it is told
+-- The block that was read, if it is exposed.
 read_gives : (s k : ℕ) (p p' : Rack) (u : Unit {0}) (i : List ℕ) (x : Reel) (bs : List (List ℕ)) → Reading s k p (Ok u) i p' → reel s p.reels ≡ Some x → x.blocks ≡ Some bs → slice_get bs k ≡ Some i
 read_gives s k p p' u i x bs is at told = is.1 x at bs told
 

@@ -1,4 +1,5 @@
 -- Reels of two racks that are compared block by block.
+-- serves: same_reel (answer), CopyLemmas
 use Rattle.std.proofs.Common.{◌≡◌, ℕ, zero, suc, ◌<◌, ◌≤◌, List, [], ◌∷◌, Bool, true, false, ◌&&◌, Option, Some, None, option_map, Ok, Err, if◌then◌else◌, length, take, refl, sym, ap, ◌∙◌, arith}
 use Rattle.std.specs.Option.{ForSome}
 use Rattle.std.specs.Prelude.{slice_get}
@@ -19,7 +20,7 @@ use Rattle.g_duplex.proofs.ReadLemmas.{first_of, reads_free, second_of}
 abbrev Blocks : Type 0
 Blocks = List (List ℕ)
 
--- a read that isn't refused fails only where the count rose
+-- A read that isn't refused fails only if the count rose.
 pub rose_reading : (s k : ℕ) (p p' : Rack) (fault : TapeFault) (into : List ℕ) → refuses_read k (reel s p.reels) ≡ None → Reading s k p (Err fault) into p' → Rose p.read_faults p'.read_faults
 rose_reading s k p p' tape.ReadFailed into free is = is.1
 rose_reading s k p p' tape.WriteFailed into free is = absurd is
@@ -27,22 +28,22 @@ rose_reading s k p p' tape.NoTape into free is = absurd (let never : None ≡ So
 rose_reading s k p p' tape.NotMounted into free is = absurd (let never : None ≡ Some tape.NotMounted = sym free ∙ is.0 in cc)
 rose_reading s k p p' tape.End into free is = absurd (let never : None ≡ Some tape.End = sym free ∙ is.0 in cc)
 
--- a count that rose behind other reads rose
+-- A count that rose after other reads rose.
 pub rose_then : (x y z : ℕ) → x ≤ y → Rose y z → Rose x z
 rose_then x y z less rose = record { more = omega (arith, less, rose.more) }
 
--- the told blocks of a reel that is there
+-- The exposed blocks of an existing reel.
 pub told_of_reel : (o : Option Reel) (bs : Blocks) → blocks_in o ≡ Some bs → (r : Reel) × (o ≡ Some r) × (r.blocks ≡ Some bs)
 told_of_reel None bs is = absurd (cc)
 told_of_reel (Some r) bs is = (r, refl, is)
 
--- a good read gives the told block
+-- A successful read returns the exposed block.
 pub read_block : (s k : ℕ) (p p' : Rack) (u : Unit {0}) (into : List ℕ) → Reading s k p (Ok u) into p' → ForSome (blocks_of s p) (λ bs. slice_get bs k ≡ Some into)
 read_block s k p p' u into is bs told =
     let (r, there, blocks) = told_of_reel (reel s p.reels) bs told in
     is.1 r there bs blocks
 
--- reads refuse nothing else
+-- Reads have no other refusals.
 refuses_bare : (k : ℕ) (o : Option Reel) → refuses_read k (option_map unread o) ≡ refuses_read k o
 refuses_bare k None = refl
 refuses_bare k (Some r) = refl
@@ -51,7 +52,7 @@ pub refuses_after : (s k : ℕ) (old new : Rack) → OnlyReads old new → refus
 refuses_after s k old new only =
     sym (refuses_bare k (reel s new.reels)) ∙ ap (refuses_read k) (reel_after_reads s old new only) ∙ refuses_bare k (reel s old.reels)
 
--- two reels that are there and mounted
+-- Two existing and mounted reels.
 pub both_there : (x y : Option Reel) → refuses_both x y ≡ None → (a : Reel) × (b : Reel) × (x ≡ Some a) × (y ≡ Some b) × (a.mounted ≡ true) × (b.mounted ≡ true)
 both_there None y is = absurd (cc)
 both_there (Some a) None is = absurd (cc)
@@ -61,7 +62,7 @@ both_there (Some a) (Some b) is = let up = by (a.mounted && b.mounted) is in (a,
     by true e = refl
     by false e = absurd (cc)
 
--- a block below the length may be read, also behind reads
+-- A block below the length may be read, also after reads.
 pub may_read : (s k n : ℕ) (old new : Rack) (a : Reel) → OnlyReads old new → reel s old.reels ≡ Some a → a.mounted ≡ true → ForSome (reel s old.reels) (λ r. n ≡ r.len) → k < n
     → refuses_read k (reel s new.reels) ≡ None
 may_read s k n old new a only there up long less =
@@ -108,7 +109,7 @@ one_differs s i p q p' q' p'' q'' so_far same = (
   ),
 )
 
--- told blocks are as many as the length says
+-- There are as many exposed blocks as the length says.
 pub told_long : (s : ℕ) (p : Rack) (xs : Blocks) (r : Reel) → AreReels p.reels → reel s p.reels ≡ Some r → blocks_of s p ≡ Some xs → length xs ≡ r.len
 told_long s p xs r are there told =
     let told' : r.blocks ≡ Some xs = sym (ap blocks_in there) ∙ told in

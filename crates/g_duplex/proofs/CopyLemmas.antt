@@ -1,4 +1,5 @@
--- A reel that is written from the one beside it, block by block.
+-- Copying a reel from its twin, block by block.
+-- serves: copy_block, copy_reel, RebuildLemmas
 use Rattle.std.proofs.Common.{◌≡◌, ◌⊎◌, ℕ, zero, suc, ◌+◌, ◌<◌, ◌≤◌, List, [], ◌∷◌, ◌++◌, Bool, true, false, not, ◌&&◌, ◌||◌, ◌==◌, nat_lt, Option, Some, None, option_map, Result, Ok, Err, if◌then◌else◌, length, min, take, refl, sym, subst, ap, ◌∙◌, inl, inr, arith}
 use Rattle.std.specs.Option.{ForSome}
 use Rattle.std.specs.Prelude.{slice_get}
@@ -25,7 +26,7 @@ use Rattle.g_duplex.proofs.WriteLemmas.{writes_free}
 abbrev Blocks : Type 0
 Blocks = List (List ℕ)
 
--- changes one behind the other
+-- One change after another.
 with_reel_twice : (s : ℕ) (g f : Reel → Reel) → ((r : Reel) → (f r).serial ≡ r.serial) → (rs : List Reel) → with_reel s g (with_reel s f rs) ≡ with_reel s (λ (r : Reel). g (f r)) rs
 with_reel_twice s g f keeps [] = refl
 with_reel_twice s g f keeps (r ∷ rs) =
@@ -194,7 +195,7 @@ copied_badly s i from0 to0 from to from' to' fault so_far copied = record {
     by NotMounted is = absurd is
     by NotEmptied is = absurd is
 
--- what isn't refused: both are there and mounted, and where the source has no block, the other one hasn't either
+-- If the copy isn't refused, both reels exist and are mounted, and if the source is empty, so is the target.
 pub record MayCopy (x y : Option Reel) : Type 0 where
   pub a : Reel
   pub b : Reel
@@ -250,7 +251,7 @@ pub may_copy_read : (s i n : ℕ) (from0 to0 from to : Rack) → MayCopy (reel s
     → refuses_read i (reel s from.reels) ≡ None
 may_copy_read s i n from0 to0 from to may long so_far less = may_read s i n from0 from may.b so_far.source may.beside may.up_beside long less
 
--- reels behind reads are as long and hold the same
+-- After reads the reels are equally long and hold the same.
 read_on : (s : ℕ) (old new : Rack) (b b' : Reel) → OnlyReads old new → reel s old.reels ≡ Some b → reel s new.reels ≡ Some b' → unread b' ≡ unread b
 read_on s old new b b' only there there' =
     let e : Some (unread b') ≡ Some (unread b) = sym (ap (option_map unread) there') ∙ reel_after_reads s old new only ∙ ap (option_map unread) there in

@@ -1,4 +1,5 @@
--- Who fails was asked.
+-- A rack whose call failed was called.
+-- serves: who_fails_was_asked (fails)
 use Rattle.std.proofs.Common.{◌≡◌, ℕ, ◌==◌, List, Bool, true, false, Option, Some, None, Result, Ok, Err, if◌then◌else◌, refl, sym, subst}
 use Rattle.std.specs.Option.{ForSome}
 use Rattle.std.proofs.lemmas.Bool.{false≢true}
@@ -20,7 +21,7 @@ read_rose s k p p' (Err NoTape) i is failed = absurd (cc)
 read_rose s k p p' (Err NotMounted) i is failed = absurd (cc)
 read_rose s k p p' (Err End) i is failed = absurd (cc)
 
--- the other rack failed too, where it may be asked
+-- The other rack failed too, if it may be read.
 both_failed : (may : Bool) (s k : ℕ) (old new : Rack) (into : List ℕ) → Helps may s k old (Err ReadFailed) into new → may ≡ true → Rose old.read_faults new.read_faults
 both_failed true s k old new into is may = is.1
 both_failed false s k old new into is may = absurd (cc)

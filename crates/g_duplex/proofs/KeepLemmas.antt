@@ -1,4 +1,5 @@
 -- Twins stay twins through writes.
+-- serves: WriteLemmas
 use Rattle.std.proofs.Common.{◌≡◌, ℕ, ◌+◌, ◌<◌, ◌≤◌, List, [], ◌∷◌, ◌++◌, Bool, true, false, nat_le, Option, Some, None, if◌then◌else◌, length, min, option_map, take, refl, sym, ap, ◌∙◌, arith}
 use Rattle.std.specs.Option.{ForSome}
 use Rattle.std.proofs.lemmas.Bool.{leb-true, leb-false}
@@ -12,7 +13,7 @@ use Rattle.g_duplex.specs.declared.twin.Standing.TheVariants.{Level, Apart, Lost
 abbrev Blocks : Type 0
 Blocks = List (List ℕ)
 
--- what holds of blocks that are told on both sides, through a change of both
+-- A property of the blocks that both sides expose, through a change of both.
 told_both : (f g : Blocks → Blocks) (R S : Blocks → Blocks → Type 0) (x y : Option Blocks) → ForSome x (λ p. ForSome y (λ q. R p q))
     → ((p q : Blocks) → x ≡ Some p → y ≡ Some q → R p q → S (f p) (g q)) → ForSome (option_map f x) (λ p. ForSome (option_map g y) (λ q. S p q))
 told_both f g R S None None all each p is q is' = absurd (cc)
@@ -32,7 +33,7 @@ option_map-same (Some x) = refl
 lesser : (k j : ℕ) (p q : Blocks) → k ≤ j → take j p ≡ take j q → take k p ≡ take k q
 lesser k j p q less same = sym (take-take k j p less) ∙ ap (take k) same ∙ take-take k j q less
 
--- what is below j is below j behind a write at k, not below j
+-- The blocks below j are unchanged by a write at k, which isn't below j.
 still : (j k : ℕ) (p rest : Blocks) → j ≤ k → k ≤ length p → take j (take k p ++ rest) ≡ take j p
 still j k p rest less long = take-append-le j (take k p) rest (omega (arith, less, length-take-le k p long)) ∙ take-take j k p less
 

@@ -1,4 +1,5 @@
 -- A twin that is lost isn't seen.
+-- serves: a_lost_twin_is_not_seen (all, one), WriteLemmas
 use Rattle.std.proofs.Common.{◌≡◌, ℕ, List, [], ◌∷◌, Bool, true, false, ◌&&◌, Option, Some, None, refl, sym, ap, ◌∙◌, is_some, inl, inr}
 use Rattle.std.specs.Option.{ForSome}
 use Rattle.g_tape.specs.Reel.{Reel}
@@ -19,7 +20,7 @@ both-first true true is = refl
 both-first true false is = absurd (cc)
 both-first false y is = refl
 
--- what the second tells, with another in the first's place
+-- The blocks that the second twin exposes, with another reel in the first's place.
 told-second : (x y x' : Option (List (List ℕ))) → is_some x' ≡ is_some x → ForSome x (λ p. ForSome y (λ q. p ≡ q)) → told_with y x' ≡ told_with x y
 told-second None None x' told same = refl
 told-second None (Some q) None told same = refl
@@ -28,7 +29,7 @@ told-second (Some p) None x' told same = refl
 told-second (Some p) (Some q) None told same = absurd (cc)
 told-second (Some p) (Some q) (Some r) told same = ap (λ (bs : List (List ℕ)). Some bs) (sym (same p refl q refl))
 
--- what the first tells, with another in the second's place
+-- The blocks that the first twin exposes, with another reel in the second's place.
 pub told-first : (x y y' : Option (List (List ℕ))) → is_some y' ≡ is_some y → told_with x y' ≡ told_with x y
 told-first None y y' told = refl
 told-first (Some p) None None told = refl

@@ -1,4 +1,5 @@
--- What is told of paired reels, and their mounting.
+-- What is known of paired reels without mounting them, and their mounting.
+-- serves: capacity, length, mount, mounted, read, secure, unmount, write
 use Rattle.std.proofs.Common.{◌≡◌, ℕ, List, [], ◌∷◌, Bool, true, false, ◌&&◌, ◌==◌, Option, Some, None, Result, Ok, Err, if◌then◌else◌, map, refl, sym, subst, ap, ◌∙◌, inl, inr, eq-eqb, ◌⊎◌}
 use Rattle.std.proofs.lemmas.Bool.{ne_eqb}
 use Rattle.std.proofs.lemmas.Bool.Decides.{eqb_tells}
@@ -15,7 +16,7 @@ use Rattle.g_duplex.specs.declared.twin.Standing.TheVariants.{Level, Apart, Lost
 use Rattle.g_duplex.proofs.PairLemmas.{AreAt, at_of, at_standing, labels_kept, pair_changed, paired_changed, same_standings, seen_at}
 use Rattle.g_duplex.proofs.PlaceLemmas.{long_standings, lost_same}
 
--- a serial that isn't there
+-- A serial that the rack doesn't have.
 pub none_seen : (s : ℕ) (ts : List Standing) (xs ys : List Reel) → ArePaired ts xs ys → reel s xs ≡ None → (reel s ys ≡ None) × (reel s (pair_reels ts xs ys) ≡ None)
 none_seen s [] [] [] paired is = (refl, refl)
 none_seen s [] [] (b ∷ ys) paired is = absurd paired
@@ -35,7 +36,7 @@ some_one : (o : Option Reel) → (o ≡ None) ⊎ ((x : Reel) × (o ≡ Some x))
 some_one None = inl refl
 some_one (Some x) = inr (x, refl)
 
--- WHAT IS TOLD
+-- The numbers that are known without mounting a reel.
 module _ (s : ℕ) (ts : List Standing) (xs ys : List Reel) (paired : ArePaired ts xs ys) where
   pub none_standing_seen : standing s xs ts ≡ None → reel s (pair_reels ts xs ys) ≡ None
   none_standing_seen is =
@@ -153,7 +154,7 @@ pair_mounts s p first' second' u (Err fault) paired one two =
     let (b, x, there', seen) = mount_seen s p a paired there in
     absurd (mount_there (reel s p.second.reels) b fault there' two.0)
 
--- a mount of a reel that isn't there
+-- A mount of a reel that the rack doesn't have.
 pub pair_refuses_mount : (s : ℕ) (p : Pair) (first' : Rack) (fault : TapeFault) → ArePaired p.standings p.first.reels p.second.reels
     → Mounting refuses_mount true s p.first (Err fault) first' → PairMounts s p (Err fault) (record p { first = first' }) × (first' ≡ p.first)
 pair_refuses_mount s p first' fault paired (refused, left) =

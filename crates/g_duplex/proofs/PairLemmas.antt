@@ -1,4 +1,5 @@
 -- What is done to the twins of one serial is done to the reel that is seen of them.
+-- serves: CopyLemmas, LoseLemmas, MountLemmas, ReadLemmas, RebuildLemmas, SecureLemmas, WriteLemmas
 use Rattle.std.proofs.Common.{◌≡◌, ℕ, List, [], ◌∷◌, Bool, true, false, ◌==◌, Option, Some, None, if◌then◌else◌, refl, sym, ap, ◌∙◌, inl, inr, eq-eqb, subst, length, map, arith}
 use Rattle.std.proofs.lemmas.Bool.{ne_eqb}
 use Rattle.std.proofs.lemmas.Bool.Decides.{eqb_tells}
@@ -82,7 +83,7 @@ at_of s a (u ∷ ts) (c ∷ xs) (d ∷ ys) (twins, rest) is =
           (t, b, are, at_behind s t u a b c d ts xs ys apart.0 apart' at)
     ]
 
--- and so is one whose standing is known
+-- The same for a reel whose standing is known.
 pub at_standing : (s : ℕ) (t : Standing) (ts : List Standing) (xs ys : List Reel) → ArePaired ts xs ys → standing s xs ts ≡ Some t
     → (a : Reel) × (b : Reel) × AreTwins t a b × AreAt s t a b ts xs ys
 at_standing s t ts xs ys paired is = by_reel (reel s xs) refl
@@ -95,7 +96,7 @@ at_standing s t ts xs ys paired is = by_reel (reel s xs) refl
         let same : u ≡ t = cc in
         (a, b, subst (λ (x : Standing). AreTwins x a b) same twins, subst (λ (x : Standing). AreAt s x a b ts xs ys) same at)
 
--- twins stay twins where those of one serial do
+-- Twins remain twins if those of one serial do.
 pub paired_changed : (s : ℕ) (g h : Reel → Reel) (c : Standing → Standing) (ts : List Standing) (xs ys : List Reel) → ArePaired ts xs ys
     → ((t : Standing) (a b : Reel) → AreTwins t a b → AreAt s t a b ts xs ys → AreTwins (c t) (g a) (h b))
     → ArePaired (with_standing s c xs ts) (with_reel s g xs) (with_reel s h ys)

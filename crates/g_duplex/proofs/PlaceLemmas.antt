@@ -1,4 +1,5 @@
 -- Reels and standings by their places, and the list of lost twins.
+-- serves: agree, copy_reel, lost_among, place_of, read, rebuild_twin, same_reel, secure, standing, standing_by, standings_by, write, CopyLemmas, and 4 more
 use Rattle.std.proofs.Common.{◌≡◌, ℕ, zero, suc, ◌+◌, ◌<◌, ◌≤◌, List, [], ◌∷◌, ◌++◌, Bool, true, false, ◌==◌, Option, Some, None, if◌then◌else◌, length, map, get_or, take, refl, sym, ap, ◌∙◌, inl, inr, eq-eqb, subst, arith}
 use Rattle.std.proofs.Math.ListN.{set}
 use Rattle.std.proofs.lemmas.Bool.{cases_eq, ne_eqb}
@@ -38,7 +39,8 @@ first_within s ts xs ys i paired first =
     let long = long_standings ts xs ys paired in
     omega (arith, within, long)
 
--- what holds of racks and standings at the place of a reel: it does where the reel is the first, and goes on behind a reel of another serial
+-- A property of racks and standings at the place of a reel: it holds if the reel is the first, and carries over past a reel of another
+-- serial.
 at_place : (s : ℕ) (P : List Reel → List Standing → ℕ → Type 0)
     → ((r : Reel) (rs : List Reel) (t : Standing) (ts : List Standing) → (s == r.serial) ≡ true → P (r ∷ rs) (t ∷ ts) 0)
     → ((r : Reel) (rs : List Reel) (t : Standing) (ts : List Standing) (i : ℕ) → (s == r.serial) ≡ false → P rs ts i → P (r ∷ rs) (t ∷ ts) (suc i))
@@ -77,7 +79,7 @@ changed-first s xs ts i u first long =
     at_place s (λ (rs : List Reel) (us : List Standing) (k : ℕ). with_standing s (λ (t : Standing). u) rs us ≡ set us k u) (λ r rs t us same. changed_now s u r rs t us same)
     (λ r rs t us k differs rest. changed_later s u r rs t us k differs rest) xs ts i first.within first.here first.before long
 
--- a serial that isn't there has no standing, and no other way
+-- A serial has no standing if and only if the rack doesn't have it.
 pub standing_none : (s : ℕ) (xs : List Reel) (ts : List Standing) → reel s xs ≡ None → standing s xs ts ≡ None
 standing_none s [] ts is = refl
 standing_none s (r ∷ rs) [] is = refl
@@ -117,7 +119,7 @@ lost_few (x ∷ xs) (Level ∷ ts) = omega (arith, lost_few xs ts)
 lost_few (x ∷ xs) (Apart k ∷ ts) = omega (arith, lost_few xs ts)
 lost_few (x ∷ xs) (Lost twin ∷ ts) = omega (arith, lost_few xs ts)
 
--- the lost twins by the labels alone
+-- The lost twins depend only on the labels.
 pub lost_same : (xs ys : List Reel) (ts : List Standing) → map (λ (r : Reel). r.serial) ys ≡ map (λ (r : Reel). r.serial) xs → lost_of ys ts ≡ lost_of xs ts
 lost_same [] [] ts same = refl
 lost_same [] (y ∷ ys) ts same = let wrong : (y.serial ∷ map (λ (r : Reel). r.serial) ys) ≡ [] = same in absurd (cc)

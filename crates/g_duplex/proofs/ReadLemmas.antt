@@ -1,4 +1,5 @@
 -- A read of paired reels.
+-- serves: read, CompareLemmas, CopyLemmas, LoseLemmas, RebuildLemmas, SecureLemmas, WriteLemmas
 use Rattle.std.proofs.Common.{◌≡◌, ℕ, zero, suc, ◌<◌, List, [], ◌∷◌, Bool, true, false, ◌&&◌, nat_lt, Option, Some, None, Result, Ok, Err, if◌then◌else◌, map, take, refl, sym, subst, ap, ◌∙◌, arith, inl, inr, ◌⊎◌}
 use Rattle.std.proofs.lemmas.Bool.{ltb-true, lt-ltb}
 use Rattle.std.specs.Option.{ForSome}
@@ -49,7 +50,7 @@ pub second_of : (m n : Bool) → (m && n) ≡ true → n ≡ true
 second_of true n is = is
 second_of false n is = absurd (cc)
 
--- the leading twin of a mounted pair is mounted, and the other one too where it isn't lost
+-- The leading twin of a mounted pair is mounted, and so is the other one unless it is lost.
 pub leader_up : (t : Standing) (a b : Reel) → are_up t a.mounted b.mounted ≡ true → (of_leader t a b).mounted ≡ true
 leader_up Level a b is = first_of a.mounted b.mounted is
 leader_up (Apart k) a b is = first_of a.mounted b.mounted is
@@ -61,7 +62,7 @@ helper_up k Level a b may is = second_of a.mounted b.mounted is
 helper_up k (Apart j) a b may is = second_of a.mounted b.mounted is
 helper_up k (Lost twin) a b may is = let never : false ≡ true = may in absurd (cc)
 
--- the other twin has the block too, where it may be asked
+-- The other twin has the block too, if it may be read.
 helper_long : (k : ℕ) (t : Standing) (a b : Reel) → may_help k t ≡ true → DoAgree t a b → nat_lt k (of_leader t a b).len ≡ true → nat_lt k (of_other t a b).len ≡ true
 helper_long k Level a b may agree below = ap (nat_lt k) (sym agree.0) ∙ below
 helper_long k (Apart j) a b may agree below = let less : k < j = ltb-true k j may in lt-ltb k b.len (omega (arith, less, agree.1))
@@ -120,7 +121,7 @@ to_second P (Lost Second) f g f' g' one two = two
 nothing_else : (old new : Rack) → new ≡ old → OnlyReads old new
 nothing_else old new same = subst (OnlyReads old) (sym same) (nothing_read old)
 
--- what was asked only reads
+-- The rack that is used is only read.
 helps_only : (may : Bool) (s k : ℕ) (old new : Rack) (result : Answer) (into : List ℕ) → Helps may s k old result into new → OnlyReads old new
 helps_only true s k old new result into is = reading_only s k old new result into is
 helps_only false s k old new result into is = nothing_else old new is.1
@@ -262,7 +263,7 @@ pair_refuses_read s k p fault into is = record {
   refused = λ other is'. refl;
 }
 
--- a read of a serial that isn't there
+-- A read of a serial that the rack doesn't have.
 pub pair_reads_none : (s k : ℕ) (p : Pair) (into : List ℕ) → reel s (shown p).reels ≡ None → PairReads s k p (Err NoTape) into p
 pair_reads_none s k p into none = pair_refuses_read s k p NoTape into (ap (refuses_read k) none)
 

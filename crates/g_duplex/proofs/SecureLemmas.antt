@@ -1,5 +1,5 @@
--- A PAIR THAT IS MADE DURABLE is seen as it was, and its reels stay twins.
--- serves: calls::DuplexTapes::secure
+-- A pair that is made durable appears unchanged, and its reels remain twins.
+-- serves: secure
 use Rattle.std.proofs.Common.{◌≡◌, ◌⊎◌, ℕ, List, Bool, true, false, not, ◌&&◌, ◌||◌, Option, Some, None, is_some, Result, Ok, Err, inl, inr, if◌then◌else◌, refl, sym, ap, subst, arith, ◌∙◌, length}
 use Rattle.std.specs.Option.{ForSome}
 use Rattle.g_base.specs.Counts.{Rose, one_more}
@@ -38,7 +38,7 @@ pub secured_only : (s : ℕ) (t after : Standing) (lead other lead' other' : Rac
     → OnlyReads lead lead' × OnlyReads other other'
 secured_only s t after lead other lead' other' result (answer, securing, on) = (securing_only s lead lead' answer securing, on_only s t after lead' other other' answer result on)
 
--- HOW IT ENDS: well, or with a failed read; the twins stand as they did, or the second one is given up
+-- The outcomes: success, or a failed read; the standing is unchanged, or the second twin is given up.
 record Settled (t : Standing) (spare : Bool) (result : Answer) (after : Standing) : Type 0 where
   answer : (result ≡ Ok tt) ⊎ (result ≡ Err ReadFailed)
   stands : (after ≡ t) ⊎ ((after ≡ Lost Second) × (is_lost t ≡ false) × (spare ≡ true))
@@ -58,7 +58,7 @@ other_settled false true true s t after old new result lost (is, given_up, same)
 other_settled false true false s t after old new result lost (answer, securing, settled) = either_settled true s t after answer result lost settled
 other_settled false false shorter s t after old new result lost (answer, securing, settled) = either_settled false s t after answer result lost settled
 
--- a reel that is there isn't missing
+-- An existing reel isn't missing.
 only_failed : (s : ℕ) (old new : Rack) (fault : TapeFault) (r : Reel) → reel s old.reels ≡ Some r → Securing s old (Err fault) new → fault ≡ ReadFailed
 only_failed s old new ReadFailed r there securing = refl
 only_failed s old new NoTape r there (missing, same) = absurd (let never : true ≡ false = sym (ap is_some there) ∙ missing in cc)
@@ -73,14 +73,14 @@ on_settled s t after lead lead' other other' (Ok u) result r there securing on =
 on_settled s t after lead lead' other other' (Err fault) result r there securing (is, stays, same) =
     record { answer = inr (is ∙ ap (λ (f : TapeFault). let e : Answer = Err f in e) (only_failed s lead lead' fault r there securing)); stands = inl stays }
 
--- one that went well left the leading rack as it was
+-- A successful call left the leading rack unchanged.
 give_up_same : (s : ℕ) (t after : Standing) (lead lead' other other' : Rack) (answer result : Answer) → Securing s lead answer lead' → SecuresOn s t lead' other answer result after other'
     → after ≡ Lost Second → is_lost t ≡ false → lead' ≡ lead
 give_up_same s t after lead lead' other other' (Ok u) result (there, same) on lost fine = same
 give_up_same s t after lead lead' other other' (Err fault) result securing (is, stays, same) lost fine =
     absurd (let never : true ≡ false = sym (ap is_lost (sym stays ∙ lost)) ∙ fine in cc)
 
--- WHAT IS SEEN of a pair whose second twin is given up
+-- What a pair shows if its second twin is given up.
 up_alike : (m n : Bool) → (not m || n) ≡ true → m ≡ (m && n)
 up_alike true true is = refl
 up_alike true false is = absurd (cc)
@@ -101,7 +101,7 @@ give_up_at s one two a b first second is =
     sym (ap (λ (m : Bool). not m || b.mounted) (ap is_mounted first))
     ∙ sym (ap (λ (n : Bool). not (is_mounted (reel s one.reels)) || n) (ap is_mounted second)) ∙ is
 
--- THE PAIR, as it stands then
+-- The pair after the call.
 module _ (s : ℕ) (p : Pair) (t after : Standing) (first' second' : Rack) (result : Answer)
     (paired : ArePaired p.standings p.first.reels p.second.reels) (stand : standing_in s p ≡ Some t)
     (secured : HasSecured t s (leading t p) (behind t p) result after (of_leader t first' second') (of_other t first' second')) where
@@ -122,7 +122,7 @@ module _ (s : ℕ) (p : Pair) (t after : Standing) (first' second' : Rack) (resu
       let (lead, other) = secured_only s t after (leading t p) (behind t p) (of_leader t first' second') (of_other t first' second') result secured in
       to_second OnlyReads t p.first p.second first' second' lead other
 
-  -- the reels of this serial are seen as they were
+  -- The reels of this serial appear unchanged.
   alike : after ≡ Lost Second → is_lost t ≡ false → may_give_up s (of_leader t first' second') (behind t p) ≡ true → may_give_up s p.first p.second ≡ true
   alike lost fine spare =
       let (answer, securing, on) = secured in
@@ -187,7 +187,7 @@ module _ (s : ℕ) (p : Pair) (t after : Standing) (first' second' : Rack) (resu
     missing = λ none. absurd (let never : Some t ≡ None = sym stand ∙ none in cc);
   }
 
--- with what the call has at hand
+-- With the hypotheses of the call.
 pub pair_secures_as : (s : ℕ) (p : Pair) (t after : Standing) (first' second' : Rack) (result : Answer) (us : List Standing) (n : ℕ)
     → ArePaired p.standings p.first.reels p.second.reels → standing_in s p ≡ Some t
     → HasSecured t s (leading t p) (behind t p) result after (of_leader t first' second') (of_other t first' second')
@@ -200,7 +200,7 @@ pair_secures_as s p t after first' second' result us n paired stand secured stan
   subst (λ (ts : List Standing). ArePaired ts first'.reels second'.reels) (sym stands_are) (paired_still s p t after first' second' result paired stand secured),
 )
 
--- a serial that isn't there
+-- A serial that the rack doesn't have.
 pub pair_secures_none : (s : ℕ) (p : Pair) → reel s (shown p).reels ≡ None → standing_in s p ≡ None → PairSecures s p (Err NoTape) p
 pair_secures_none s p none nowhere = record {
   securing = (ap is_some none, refl);

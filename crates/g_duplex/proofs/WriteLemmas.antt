@@ -1,4 +1,5 @@
 -- A write of paired reels.
+-- serves: write, CopyLemmas, LoseLemmas
 use Rattle.std.proofs.Common.{◌≡◌, ◌≢◌, ◌⊎◌, ◌↔◌, ℕ, zero, suc, ◌+◌, ◌<◌, ◌≤◌, List, [], ◌∷◌, ◌++◌, Bool, true, false, not, ◌&&◌, ◌||◌, ◌==◌, nat_le, nat_lt, Option, Some, None, is_some, option_map, Result, Ok, Err, if◌then◌else◌, IsTrue, length, map, take, min, refl, sym, subst, ap, ◌∙◌, inl, inr, arith}
 use Rattle.std.proofs.lemmas.Bool.{ltb-true, ltb-false}
 use Rattle.std.specs.Option.{ForSome}
@@ -24,7 +25,7 @@ use Rattle.g_duplex.proofs.ReadLemmas.{first_of, leader_at, leader_up, one_stand
 abbrev Blocks : Type 0
 Blocks = List (List ℕ)
 
--- a reel by its parts, whose reads aren't counted
+-- A reel from its parts, whose reads aren't counted.
 abbrev shape : ℕ → ℕ → ℕ → Bool → Option Blocks → Reel
 shape s c l m bs = record { serial = s; capacity = c; len = l; mounted = m; blocks = bs; times_read = None }
 
@@ -76,7 +77,7 @@ armed_reels : (fires : Bool) (r : Rack) → (armed_when fires r).reels ≡ r.ree
 armed_reels true r = refl
 armed_reels false r = refl
 
--- where the pair's fuse is 1, the leading rack is armed to fail
+-- If the pair's fuse is 1, the leading rack is armed to fail.
 fires_there : (fuse : Option ℕ) (r : Rack) → fuse ≡ Some 1 → (armed_when (is_one fuse) r).fuse ≡ Some 1
 fires_there fuse r is = rw is refl
 
@@ -89,7 +90,7 @@ fires_one false (Some n) same = by (n == 1) refl
     by false is = refl
     by true is = let one : n ≡ 1 = eq_from n 1 is in let never : false ≡ true = same.1 (ap (λ (x : ℕ). Some x) one) in absurd (cc)
 
--- what a failed write leaves keeps the label and whether it tells
+-- What a failed write leaves has the same label, and exposes its blocks if they were exposed.
 left_label : (how : Remains) (k : ℕ) (a : Reel) → ((left_by how k a).serial ≡ a.serial) × ((left_by how k a).capacity ≡ a.capacity) × (is_some (left_by how k a).blocks ≡ is_some a.blocks)
 left_label Unchanged k a = (refl, refl, refl)
 left_label Shortened k a = (refl, refl, some_map (take k) a.blocks)
@@ -111,7 +112,7 @@ seen_left (Torn c) k (Apart j) a b = ap (shape a.serial a.capacity (k + 1) (a.mo
 seen_left (Torn c) k (Lost First) a b = ap (shape a.serial a.capacity (k + 1) b.mounted) (told_map (λ bs. take k bs ++ c ∷ []) b.blocks a.blocks)
 seen_left (Torn c) k (Lost Second) a b = ap (shape a.serial a.capacity (k + 1) a.mounted) (told_map (λ bs. take k bs ++ c ∷ []) a.blocks b.blocks)
 
--- a leading twin that took the block beside a lost one
+-- The leading twin completed the write, and the other one is lost.
 seen_alone : (k : ℕ) (block : List ℕ) (t : Standing) (a b : Reel) → is_lost t ≡ true
     → pair_reel t (of_leader t (ending k block) (λ (r : Reel). r) a) (of_other t (ending k block) (λ (r : Reel). r) b) ≡ ending k block (pair_reel t a b)
 seen_alone k block Level a b lost = let never : false ≡ true = lost in absurd (cc)
@@ -129,7 +130,7 @@ seen_both k block (Apart j) a b well = by (nat_le k j)
     by false = ap (shape a.serial a.capacity (k + 1) (a.mounted && b.mounted)) (told_maps (λ bs. take k bs ++ block ∷ []) a.blocks b.blocks)
 seen_both k block (Lost twin) a b well = let never : true ≡ false = well in absurd (cc)
 
--- a first that took it beside a second that is lost by it
+-- The first twin completed the write, and the second is lost by it.
 seen_losing : (k : ℕ) (block : List ℕ) (t : Standing) (a b b' : Reel) → is_lost t ≡ false → are_up t a.mounted b.mounted ≡ true → is_some b'.blocks ≡ is_some b.blocks
     → pair_reel (Lost Second) (ending k block a) b' ≡ ending k block (pair_reel t a b)
 seen_losing k block t a b b' well up told =
@@ -193,7 +194,7 @@ twins_alone k block (Apart j) a b lost twins = let never : false ≡ true = lost
 twins_alone k block (Lost First) a b lost twins = record { serial = twins.serial; capacity = twins.capacity; agree = tt }
 twins_alone k block (Lost Second) a b lost twins = record { serial = twins.serial; capacity = twins.capacity; agree = tt }
 
--- a pair of which none is lost is led by the first
+-- If neither twin is lost, the first one leads.
 led_first : (t : Standing) {X : Type 0} (x y : X) → is_lost t ≡ false → (of_leader t x y ≡ x) × (of_other t x y ≡ y)
 led_first Level x y well = (refl, refl)
 led_first (Apart k) x y well = (refl, refl)
@@ -228,7 +229,7 @@ module _ (s k : ℕ) (block : List ℕ) (p : Pair) (t : Standing) (a b : Reel) (
   refused_never : (o : Option Reel) (fault : TapeFault) → refuses_write k o ≡ None → refuses_write k o ≡ Some fault → ⊥
   refused_never o fault one two = cc
 
-  -- the leading rack's reels behind a good write, and behind a failed one
+  -- The leading rack's reels after a successful write, and after a failed one.
   lead_ends : (lead' : Rack) (n : ℕ) (fuse : Option ℕ) → lead' ≡ record (changed s (ending k block) (armed_when (is_one p.fuse) (leading t p))) { fuse = fuse } → lead'.reels ≡ with_reel s (ending k block) (leading t p).reels
   lead_ends lead' n fuse e = ap (λ (r : Rack). r.reels) e ∙ ap (with_reel s (ending k block)) (armed_reels (is_one p.fuse) (leading t p))
 
@@ -243,7 +244,7 @@ module _ (s k : ℕ) (block : List ℕ) (p : Pair) (t : Standing) (a b : Reel) (
   not_one : (armed_when (is_one p.fuse) (leading t p)).fuse ≢ Some 1 → p.fuse ≢ Some 1
   not_one apart one = apart (fires_there p.fuse (leading t p) one)
 
-  -- a good write, from what is seen of the two reels
+  -- A successful write, in terms of what the two reels show.
   well : (u : Standing) (g h : Reel → Reel) → (armed_when (is_one p.fuse) (leading t p)).fuse ≢ Some 1 → first'.reels ≡ with_reel s g p.first.reels → second'.reels ≡ with_reel s h p.second.reels
       → pair_reel u (g a) (h b) ≡ ending k block (pair_reel t a b) → AreTwins u (g a) (h b) → WriteDone s k block p (Ok tt) u first' second'
   well u g h apart one two same now = record {
@@ -281,7 +282,7 @@ module _ (s k : ℕ) (block : List ℕ) (p : Pair) (t : Standing) (a b : Reel) (
       well (Lost Second) (ending k block) h apart one two (seen_losing k block t a b (h b) fine is_free.0 label.2)
       (record { serial = twins.serial ∙ sym label.0; capacity = twins.capacity ∙ sym label.1; agree = tt })
 
-  -- what the second answers, behind a first that took it
+  -- The second twin's answer, after the first completed the write.
   both_write : is_lost t ≡ false → (armed_when (is_one p.fuse) (leading t p)).fuse ≢ Some 1 → first'.reels ≡ with_reel s (ending k block) p.first.reels → (answer : Answer) → Writing s k block p.second answer second'
       → WriteDone s k block p (Ok tt) (stands_after k answer t) first' second'
   both_write fine apart one (Ok u) (free', apart', left) =
@@ -303,7 +304,7 @@ module _ (s k : ℕ) (block : List ℕ) (p : Pair) (t : Standing) (a b : Reel) (
   both_write fine apart one (Err End) (refused, left) =
       losing (λ (r : Reel). r) fine apart one (ap (λ (r : Rack). r.reels) left ∙ sym (same_reels s p.second.reels)) (refl, refl, refl)
 
-  -- behind a leading twin that took it
+  -- After the leading twin completed the write.
   follow : (lost : Bool) → is_lost t ≡ lost → (after : Standing) → (armed_when (is_one p.fuse) (leading t p)).fuse ≢ Some 1
       → (of_leader t first' second').reels ≡ with_reel s (ending k block) (leading t p).reels → Follows lost s k block t (behind t p) (of_other t first' second') after
       → WriteDone s k block p (Ok tt) after first' second'
@@ -381,7 +382,7 @@ pair_refuses_write s k block p fault is = record {
   refused = λ other is'. refl;
 }
 
--- a write of a serial that isn't there
+-- A write of a serial that the rack doesn't have.
 pub pair_writes_none : (s k : ℕ) (block : List ℕ) (p : Pair) → reel s (shown p).reels ≡ None → PairWrites s k block p (Err NoTape) p
 pair_writes_none s k block p none = pair_refuses_write s k block p NoTape (ap (refuses_write k) none)
 

@@ -1,4 +1,4 @@
--- A reel that is compared with another one, or written from it, in two racks.
+-- Comparing a reel with the reel of the same serial in another rack, and copying it from there.
 use Rattle.std.specs.Prelude.{◌≡◌, ◌⊎◌, ◌↔◌, ℕ, List, Bool, true, IsTrue, Option, Some, Result, Ok, Err, slice_get}
 use Rattle.std.specs.Option.{ForSome}
 use Rattle.g_base.specs.Counts.{Rose}
@@ -8,44 +8,44 @@ use Rattle.g_tape.specs.Reads.{OnlyReads, blocks_of}
 use Rattle.g_duplex.specs.declared.fault.DuplexFault.{DuplexFault}
 use Rattle.g_duplex.specs.declared.fault.DuplexFault.TheVariants.{NoTape, NotMounted, NotEmptied, ReadFailed, WriteFailed}
 
--- both hold the same blocks, as far as they are told, and are as long
+-- Both reels are equally long and hold the same blocks, as far as they expose them.
 pub record HoldSame (a b : Reel) : Type 0 where
   pub long : a.len ≡ b.len
   pub blocks : ForSome a.blocks (λ p. ForSome b.blocks (λ q. p ≡ q))
 
--- the reels of a serial in two racks
+-- The property holds for the reels of this serial in two racks, if both racks have it.
 abbrev pub BothReels : ℕ → Rack → Rack → (Reel → Reel → Type 0) → Type 0
 BothReels s p q P = ForSome (reel s p.reels) (λ a. ForSome (reel s q.reels) (λ b. P a b))
 
--- the told blocks of a serial in two racks
+-- The property holds for the blocks of this serial in two racks, if both racks expose them.
 abbrev pub BothTold : ℕ → Rack → Rack → (List (List ℕ) → List (List ℕ) → Type 0) → Type 0
 BothTold s p q P = ForSome (blocks_of s p) (λ xs. ForSome (blocks_of s q) (λ ys. P xs ys))
 
--- whether block k is the same, or a read of it failed
+-- The answer says whether block k is the same in both racks, or a read of it failed.
 abbrev pub SameBlock : ℕ → ℕ → Rack → Rack → Result Bool DuplexFault → Rack → Rack → Type 0
 SameBlock s k p q (Ok same) p' q' = BothTold s p q (λ xs ys. IsTrue same ↔ (slice_get xs k ≡ slice_get ys k))
 SameBlock s k p q (Err ReadFailed) p' q' = Rose p.read_faults p'.read_faults ⊎ Rose q.read_faults q'.read_faults
 SameBlock s k p q (Err fault) p' q' = ⊥
 
--- whether all blocks are the same, or a read failed
+-- The answer says whether all blocks are the same in both racks, or a read failed.
 abbrev pub SameReel : ℕ → Rack → Rack → Result Bool DuplexFault → Rack → Rack → Type 0
 SameReel s p q (Ok same) p' q' = (same ≡ true → BothReels s p q (λ a b. a.len ≡ b.len)) × BothTold s p q (λ xs ys. IsTrue same ↔ (xs ≡ ys))
 SameReel s p q (Err ReadFailed) p' q' = Rose p.read_faults p'.read_faults ⊎ Rose q.read_faults q'.read_faults
 SameReel s p q (Err fault) p' q' = ⊥
 
--- a change that keeps the label of a reel, whether it is mounted, and whether its blocks are told
+-- A change of a reel that preserves its serial, its capacity and whether it is mounted.
 pub record KeepsLabel (g : Reel → Reel) : Type 0 where
   pub serial : (r : Reel) → (g r).serial ≡ r.serial
   pub capacity : (r : Reel) → (g r).capacity ≡ r.capacity
   pub mounted : (r : Reel) → (g r).mounted ≡ r.mounted
 
--- what one reel of the rack holds was changed, and nothing else but the count of failed writes and the fuse
+-- One reel of the rack was changed, and nothing else but the count of failed writes and the fuse.
 pub record IsWrittenAt (s : ℕ) (old new : Rack) : Type 0 where
   pub change : (g : Reel → Reel) × KeepsLabel g × (new.reels ≡ with_reel s g old.reels)
   pub read_faults : new.read_faults ≡ old.read_faults
   pub arms : new.arms ≡ old.arms
 
--- block k was read from one rack and written to the other, or that failed
+-- Block k was read from one rack and written to the other, or one of these failed.
 abbrev pub BlockAnswer : ℕ → ℕ → Rack → Rack → Result (Unit {0}) DuplexFault → Rack → Rack → Type 0
 BlockAnswer s k from to (Ok u) from' to' = (block : List ℕ) × ForSome (blocks_of s from) (λ bs. slice_get bs k ≡ Some block)
     × (to'.reels ≡ with_reel s (ending k block) to.reels) × (to'.write_faults ≡ to.write_faults)
@@ -53,18 +53,20 @@ BlockAnswer s k from to (Err ReadFailed) from' to' = Rose from.read_faults from'
 BlockAnswer s k from to (Err WriteFailed) from' to' = Rose to.write_faults to'.write_faults
 BlockAnswer s k from to (Err fault) from' to' = ⊥
 
+-- Copying one block: the source was only read, and in the target no other reel was changed.
 pub record BlockCopied (s k : ℕ) (from to : Rack) (result : Result (Unit {0}) DuplexFault) (from' to' : Rack) : Type 0 where
   pub source : OnlyReads from from'
   pub written : IsWrittenAt s to to'
   pub answer : BlockAnswer s k from to result from' to'
 
--- the whole reel was written from the other one, or that failed
+-- The whole reel was copied from the other rack, or that failed.
 abbrev pub ReelAnswer : ℕ → Rack → Rack → Result (Unit {0}) DuplexFault → Rack → Rack → Type 0
 ReelAnswer s from to (Ok u) from' to' = BothReels s to' from' HoldSame
 ReelAnswer s from to (Err ReadFailed) from' to' = Rose from.read_faults from'.read_faults
 ReelAnswer s from to (Err WriteFailed) from' to' = Rose to.write_faults to'.write_faults
 ReelAnswer s from to (Err fault) from' to' = ⊥
 
+-- Copying a reel: the source was only read, and in the target no other reel was changed.
 pub record ReelCopied (s : ℕ) (from to : Rack) (result : Result (Unit {0}) DuplexFault) (from' to' : Rack) : Type 0 where
   pub source : OnlyReads from from'
   pub written : IsWrittenAt s to to'

@@ -1,10 +1,11 @@
--- What a contract sees of paired racks.
+-- Paired racks, as contracts see them.
 use Rattle.std.specs.Prelude.{ℕ, List, Option}
 use Rattle.g_tape.specs.Rack.{Rack}
 use Rattle.g_tape.specs.declared.tapes.Tapes.{Ghosts}
 use Rattle.g_duplex.specs.Pair.{Pair}
 use Rattle.g_duplex.specs.declared.duplex.Duplex.{Duplex}
 
+-- The pair of two racks, as contracts see it.
 abbrev pub pair_of : {T : Type 0} {g : Ghosts T} → Duplex T g → Pair
 pair_of {T} {g} d = record {
   first = g.rack d.first;

@@ -9,7 +9,7 @@ use Rattle.g_duplex.specs.declared.twin.Twin.{Twin}
 use Rattle.g_duplex.specs.declared.twin.Standing.{Standing}
 use Rattle.g_duplex.specs.declared.twin.Standing.TheVariants.{Level, Apart, Lost}
 
--- the two racks, how the twins of each reel stand, and the counts, the fuse and the armings of the pair's own
+-- A pair: the two racks, the standing of the twins of each reel, and the pair's own counts, fuse and armings.
 pub record Pair : Type 0 where
   pub first : Rack
   pub second : Rack
@@ -19,13 +19,14 @@ pub record Pair : Type 0 where
   pub fuse : Option ℕ
   pub arms : Arms
 
+-- The reels that the pair shows.
 abbrev pub pair_reels : List Standing → List Reel → List Reel → List Reel
 pair_reels [] xs ys = []
 pair_reels (t ∷ ts) [] ys = []
 pair_reels (t ∷ ts) (a ∷ xs) [] = []
 pair_reels (t ∷ ts) (a ∷ xs) (b ∷ ys) = pair_reel t a b ∷ pair_reels ts xs ys
 
--- WHAT IS SEEN OF TWO RACKS: the reels of the twins that lead, with the pair's own counts and fuse
+-- The rack that the pair shows: the reels of the leading twins, with the pair's own counts and fuse.
 abbrev pub shown : Pair → Rack
 shown p = record {
   reels = pair_reels p.standings p.first.reels p.second.reels;
@@ -35,7 +36,7 @@ shown p = record {
   arms = p.arms;
 }
 
--- reel by reel they are twins
+-- The reels of the two racks are twins, one by one.
 abbrev pub ArePaired : List Standing → List Reel → List Reel → Type 0
 ArePaired [] [] [] = Unit {0}
 ArePaired (t ∷ ts) (a ∷ xs) (b ∷ ys) = AreTwins t a b × ArePaired ts xs ys
@@ -49,7 +50,7 @@ DoAgree-prop (Lost twin) a b = hlevel props
 AreTwins-prop : (t : Standing) (a b : Reel) → IsProp (AreTwins t a b)
 AreTwins-prop t a b = hlevel (props, DoAgree-prop)
 
--- that reels are paired is a fact
+-- Being paired is a proposition: any two proofs of it are equal.
 pub ArePaired-prop : (ts : List Standing) (xs ys : List Reel) → IsProp (ArePaired ts xs ys)
 ArePaired-prop [] [] [] = hlevel props
 ArePaired-prop [] [] (b ∷ ys) = hlevel props
@@ -58,24 +59,27 @@ ArePaired-prop (t ∷ ts) [] ys = hlevel props
 ArePaired-prop (t ∷ ts) (a ∷ xs) [] = hlevel props
 ArePaired-prop (t ∷ ts) (a ∷ xs) (b ∷ ys) = let rest = ArePaired-prop ts xs ys in hlevel (props, AreTwins-prop, rest)
 
--- how the twins of a serial stand, by the serials of these reels
+-- The standing of the twins of this serial, looked up among the serials of these reels.
 abbrev pub standing : ℕ → List Reel → List Standing → Option Standing
 standing s [] ts = None
 standing s (a ∷ xs) [] = None
 standing s (a ∷ xs) (t ∷ ts) = if s == a.serial then Some t else standing s xs ts
 
+-- The standings, with f applied to that of the twins of this serial.
 abbrev pub with_standing : ℕ → (Standing → Standing) → List Reel → List Standing → List Standing
 with_standing s f [] ts = ts
 with_standing s f (a ∷ xs) [] = []
 with_standing s f (a ∷ xs) (t ∷ ts) = if s == a.serial then f t ∷ ts else t ∷ with_standing s f xs ts
 
+-- The standing of the twins of this serial.
 abbrev pub standing_in : ℕ → Pair → Option Standing
 standing_in s p = standing s p.first.reels p.standings
 
+-- The standings of the pair, with f applied to that of the twins of this serial.
 abbrev pub stands : ℕ → (Standing → Standing) → Pair → List Standing
 stands s f p = with_standing s f p.first.reels p.standings
 
--- the lost twins, by rising serial
+-- The lost twins, in the order of the reels.
 abbrev pub lost_of : List Reel → List Standing → List (ℕ × Twin)
 lost_of [] ts = []
 lost_of (a ∷ xs) [] = []
@@ -83,6 +87,6 @@ lost_of (a ∷ xs) (Level ∷ ts) = lost_of xs ts
 lost_of (a ∷ xs) (Apart k ∷ ts) = lost_of xs ts
 lost_of (a ∷ xs) (Lost twin ∷ ts) = (a.serial, twin) ∷ lost_of xs ts
 
--- a rack that was armed for its next write
+-- The rack, armed for its next write.
 abbrev pub armed : Rack → Rack
 armed r = record r { fuse = Some 1; arms = armed_with 1 r.write_faults r.arms }

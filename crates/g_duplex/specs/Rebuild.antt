@@ -1,4 +1,4 @@
--- The calls on both twins of a reel: whether they agree, and the rebuilding of one from the other.
+-- The calls on both twins of a reel: comparing them, and rebuilding one from the other.
 use Rattle.std.specs.Prelude.{◌≡◌, ◌≢◌, ◌⊎◌, ◌↔◌, ℕ, List, Bool, true, false, not, ◌&&◌, ◌==◌, IsTrue, Option, Some, None, Result, Ok, Err, option_map, if◌then◌else◌}
 use Rattle.std.specs.Option.{ForSome}
 use Rattle.g_base.specs.Counts.{Rose}
@@ -14,43 +14,45 @@ use Rattle.g_duplex.specs.declared.twin.Twin.{Twin}
 use Rattle.g_duplex.specs.declared.twin.Standing.{Standing}
 use Rattle.g_duplex.specs.declared.twin.Standing.TheVariants.{Level, Lost}
 
--- the rack of a twin, and that of the other one
+-- The rack of a twin.
 abbrev pub rack_at : Twin → Pair → Rack
 rack_at twin p = of_twin twin p.first p.second
 
+-- The rack of the other twin.
 abbrev pub rack_beside : Twin → Pair → Rack
 rack_beside twin p = beside_twin twin p.first p.second
 
--- how the twins stand after a rebuilding of this one
+-- The standing of the twins after this one was rebuilt, or after that failed.
 abbrev pub stands_rebuilt : Twin → Result (Unit {0}) DuplexFault → Standing
 stands_rebuilt twin (Ok u) = Level
 stands_rebuilt twin (Err why) = Lost twin
 
--- The refusals, in the order of their tests: of each call on both twins, and of a rebuilding, whose first reel is the
--- one that is rebuilt.
+-- Why a call on both twins is refused, in the order of the checks.
 abbrev pub refuses_both : Option Reel → Option Reel → Option DuplexFault
 refuses_both None b = Some fault.NoTape
 refuses_both (Some a) None = Some fault.NoTape
 refuses_both (Some a) (Some b) = if a.mounted && b.mounted then None else Some fault.NotMounted
 
+-- Why rebuilding the first reel from the second is refused, in the order of the checks.
 abbrev pub refuses_rebuild : Option Reel → Option Reel → Option DuplexFault
 refuses_rebuild None b = Some fault.NoTape
 refuses_rebuild (Some a) None = Some fault.NoTape
 refuses_rebuild (Some a) (Some b) =
     if a.mounted && b.mounted then (if (b.len == 0) && not (a.len == 0) then Some fault.NotEmptied else None) else Some fault.NotMounted
 
--- what such a call leaves: the pair's own counts, fuse and armings; and, but of this reel, all reels of both racks
+-- The call leaves the pair's own counts, fuse and armings unchanged.
 abbrev pub IsKept : Pair → Pair → Type 0
 IsKept old new = new ≡ record old { first = new.first; second = new.second; standings = new.standings }
 
--- WHETHER THE TWINS AGREE: neither is lost, and both hold the same blocks. Where a rack tells nothing, the answer says
--- of what they hold that they are as long
+-- The answer says whether the twins agree: neither is lost, and both hold the same blocks. If a rack doesn't expose its
+-- blocks, it says only that they are equally long.
 pub record Agrees (s : ℕ) (old : Pair) (same : Bool) : Type 0 where
   pub long : same ≡ true → BothReels s old.first old.second (λ a b. a.len ≡ b.len)
   pub well : same ≡ true → ForSome (standing_in s old) (λ t. is_lost t ≡ false)
   pub told : ForSome (standing_in s old) (λ t. BothReels s old.first old.second (λ a b. ForSome a.blocks (λ p. ForSome b.blocks (λ q.
       IsTrue same ↔ ((is_lost t ≡ false) × (p ≡ q))))))
 
+-- The answer of comparing the twins, with its cause.
 abbrev pub Comparing : ℕ → Pair → Result Bool DuplexFault → Pair → Type 0
 Comparing s old (Ok same) new = (refuses_both (reel s old.first.reels) (reel s old.second.reels) ≡ None) × Agrees s old same
 Comparing s old (Err fault.ReadFailed) new =
@@ -59,6 +61,7 @@ Comparing s old (Err fault.ReadFailed) new =
 Comparing s old (Err fault.WriteFailed) new = ⊥
 Comparing s old (Err why) new = (refuses_both (reel s old.first.reels) (reel s old.second.reels) ≡ Some why) × (new ≡ old)
 
+-- A comparison of the twins: both racks are only read, and nothing else changes.
 pub record PairCompares (s : ℕ) (old : Pair) (result : Result Bool DuplexFault) (new : Pair) : Type 0 where
   pub answer : Comparing s old result new
   pub first : OnlyReads old.first new.first
@@ -66,15 +69,15 @@ pub record PairCompares (s : ℕ) (old : Pair) (result : Result Bool DuplexFault
   pub kept : IsKept old new
   pub standings : new.standings ≡ old.standings
 
--- the rack whose twin is rebuilt: no reel but that is changed, and nothing is mounted or armed
+-- The rack whose twin is rebuilt: no other reel is changed, and nothing is mounted or armed.
 pub record IsRewritten (s : ℕ) (old new : Rack) : Type 0 where
   pub others : (u : ℕ) → u ≢ s → reel u new.reels ≡ reel u old.reels
   pub mounted : option_map (λ r. r.mounted) (reel s new.reels) ≡ option_map (λ r. r.mounted) (reel s old.reels)
   pub read_faults : new.read_faults ≡ old.read_faults
   pub arms : new.arms ≡ old.arms
 
--- A REBUILDING: behind a good one neither twin is lost, and both hold what the other one held; behind a failure this
--- twin is lost; a refusal changes nothing
+-- A rebuild: if it succeeds, neither twin is lost and both hold the same; after a failure this twin is lost; a refusal
+-- changes nothing.
 abbrev pub Rebuilding : ℕ → Twin → Pair → Result (Unit {0}) DuplexFault → Pair → Type 0
 Rebuilding s twin old (Ok u) new =
     (refuses_rebuild (reel s (rack_at twin old).reels) (reel s (rack_beside twin old).reels) ≡ None)
@@ -88,6 +91,7 @@ Rebuilding s twin old (Err fault.WriteFailed) new =
 Rebuilding s twin old (Err why) new =
     (refuses_rebuild (reel s (rack_at twin old).reels) (reel s (rack_beside twin old).reels) ≡ Some why) × (new ≡ old)
 
+-- A rebuild of a twin: the other rack is only read, and in this twin's rack no other reel is changed.
 pub record PairRebuilds (s : ℕ) (twin : Twin) (old : Pair) (result : Result (Unit {0}) DuplexFault) (new : Pair) : Type 0 where
   pub answer : Rebuilding s twin old result new
   pub source : OnlyReads (rack_beside twin old) (rack_beside twin new)

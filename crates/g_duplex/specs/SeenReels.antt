@@ -1,4 +1,5 @@
--- What is seen of two racks are the reels of a rack. (A law of the trait is given here, since a ghost member cites specs.)
+-- The reels that a pair shows are the reels of a rack. (This law of the trait is here, since a ghost member can only use
+-- specs.)
 use Rattle.std.proofs.Common.{◌≡◌, ℕ, suc, ◌≤◌, List, [], ◌∷◌, Bool, Option, Some, None, All, length, map, arith, refl, sym, ap}
 use Rattle.std.proofs.lemmas.List.Elements.{All-cons, All-head, All-tail}
 use Rattle.std.specs.Option.{ForSome}
@@ -11,6 +12,7 @@ use Rattle.g_duplex.specs.declared.twin.Twin.TheVariants.{First, Second}
 use Rattle.g_duplex.specs.declared.twin.Standing.{Standing}
 use Rattle.g_duplex.specs.declared.twin.Standing.TheVariants.{Apart, Level, Lost}
 
+-- The pair shows the serials of the first rack.
 pub labels_seen : (ts : List Standing) (xs ys : List Reel) → ArePaired ts xs ys → map (λ r. r.serial) (pair_reels ts xs ys) ≡ map (λ r. r.serial) xs
 labels_seen [] [] [] paired = refl
 labels_seen [] [] (b ∷ ys) paired = absurd paired
@@ -19,6 +21,7 @@ labels_seen (t ∷ ts) [] ys paired = absurd paired
 labels_seen (t ∷ ts) (a ∷ xs) [] paired = absurd paired
 labels_seen (t ∷ ts) (a ∷ xs) (b ∷ ys) (twins, rest) = ap (λ (ns : List ℕ). a.serial ∷ ns) (labels_seen ts xs ys rest)
 
+-- The pair shows as many reels as the first rack has.
 pub long_seen : (ts : List Standing) (xs ys : List Reel) → ArePaired ts xs ys → length (pair_reels ts xs ys) ≡ length xs
 long_seen [] [] [] paired = refl
 long_seen [] [] (b ∷ ys) paired = absurd paired
@@ -61,6 +64,7 @@ each_seen (t ∷ ts) (a ∷ xs) (b ∷ ys) (twins, rest) all all' =
     All-cons IsReel (pair_reel t a b) (pair_reels ts xs ys) (reel_seen t a b twins (All-head IsReel a xs all) (All-head IsReel b ys all'))
     (each_seen ts xs ys rest (All-tail IsReel a xs all) (All-tail IsReel b ys all'))
 
+-- The reels that the pair shows satisfy the rules of a rack's reels.
 pub are_reels : (ts : List Standing) (xs ys : List Reel) → ArePaired ts xs ys → AreReels xs → AreReels ys → AreReels (pair_reels ts xs ys)
 are_reels ts xs ys paired is is' = record {
   few = rw (long_seen ts xs ys paired) is.few;

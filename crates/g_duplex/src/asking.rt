@@ -1,4 +1,4 @@
-//! What a read and a write ask of two racks: of the one whose reel leads, and of the other one.
+//! Reads, writes and secures two racks: first the one whose reel leads, then possibly the other one.
 ghost use Rattle.std.specs.Prelude.{◌≡◌};
 ghost use Rattle.g_duplex.specs.Calls.{Follows, HasAsked, HasSecured, HasWritten, SecuresOther, armed_when, counted, is_shorter, may_give_up, other_is};
 ghost use Rattle.g_duplex.specs.Twins.{is_lost, may_help, of_leader, of_other};
@@ -7,7 +7,7 @@ use crate::twin::{Standing, Twin};
 use g_base::{Block, raised};
 use g_tape::{TapeFault, Tapes};
 
-/// Reads block k of the twin that leads; where that fails, and the other one may help, of the other one.
+/// Reads block k of the leading twin; if that fails and the other one may help, reads it there.
 pub(crate) fn read_twins<T: Tapes>(
     first: &mut T,
     second: &mut T,
@@ -26,7 +26,7 @@ pub(crate) fn read_twins<T: Tapes>(
     }
 }
 
-/// Reads block k of the leading reel; where that fails, and the other one may help, of the other one.
+/// Reads block k of the leading reel; if that fails and the other one may help, reads it there.
 fn read_either<T: Tapes>(
     leading: &mut T,
     other: &mut T,
@@ -49,7 +49,7 @@ fn read_either<T: Tapes>(
     }
 }
 
-/// Arms the rack for its next write, where that is to fail.
+/// Arms the rack for its next write, if that must fail.
 fn arm_where<T: Tapes>(rack: &mut T, fires: bool)
     ensures { T.rack rack.new ≡ armed_when fires (T.rack rack.old) }
 {
@@ -58,8 +58,8 @@ fn arm_where<T: Tapes>(rack: &mut T, fires: bool)
     }
 }
 
-/// Writes block k of the twin that leads, and then of the other one, if that isn't lost. The answer is the leading twin's, and how
-/// they stand then.
+/// Writes block k of the leading twin, and then of the other one, unless that is lost. Returns the leading twin's answer and the
+/// standing after it.
 pub(crate) fn write_twins<T: Tapes>(
     first: &mut T,
     second: &mut T,
@@ -78,8 +78,8 @@ pub(crate) fn write_twins<T: Tapes>(
     }
 }
 
-/// Writes block k of the leading reel, and then of the other one, if that isn't lost. The answer is the leading reel's, and how
-/// they stand then.
+/// Writes block k of the leading reel, and then of the other one, unless that is lost. Returns the leading reel's answer and
+/// the standing after it.
 fn write_both<T: Tapes>(
     leading: &mut T,
     other: &mut T,
@@ -98,7 +98,7 @@ fn write_both<T: Tapes>(
     }
 }
 
-/// Writes block k of the other reel, if that isn't lost. The answer is how they stand then.
+/// Writes block k of the other reel, unless that is lost. Returns the standing after it.
 fn write_other<T: Tapes>(
     other: &mut T,
     standing: Standing,
@@ -117,8 +117,8 @@ fn write_other<T: Tapes>(
     }
 }
 
-/// Makes the leading twin durable, and then the other one, if that isn't lost. The answer is the leading twin's, unless the other one
-/// fails and can't be given up. Then how they stand.
+/// Makes the leading twin durable, and then the other one, unless that is lost. The answer is the leading twin's, unless the other
+/// one fails and can't be given up. Returns the standing too.
 pub(crate) fn secure_twins<T: Tapes>(
     first: &mut T,
     second: &mut T,
@@ -134,7 +134,7 @@ pub(crate) fn secure_twins<T: Tapes>(
     }
 }
 
-/// Makes the leading reel durable, and then the other one, if that isn't lost. The answer, and how they stand then.
+/// Makes the leading reel durable, and then the other one, unless that is lost. Returns the answer and the standing.
 fn secure_both<T: Tapes>(
     leading: &mut T,
     other: &mut T,
@@ -149,8 +149,8 @@ fn secure_both<T: Tapes>(
     }
 }
 
-/// Makes the other reel durable, if that isn't lost. It is lost from then on if it can't be made durable, or lacks blocks that the
-/// leading one has; but only if the pair isn't seen as mounted for it. The answer, and how the twins stand.
+/// Makes the other reel durable, unless that is lost. If it can't be made durable, or has fewer blocks than the leading one, it is
+/// lost from then on; but not if the pair would then appear mounted and didn't before. Returns the answer and the standing.
 fn secure_other<T: Tapes>(
     leading: &T,
     other: &mut T,
@@ -184,7 +184,7 @@ fn is_shorter<T: Tapes>(leading: &T, other: &T, serial: u32) -> bool
     }
 }
 
-/// A count of failures after a call: one more where it wasn't Ok.
+/// A failure count after a call: one more unless the answer is Ok.
 pub(crate) fn counted(answer: &Result<(), TapeFault>, count: u64) -> u64
     ensures { result ≡ counted answer.now count }
 {

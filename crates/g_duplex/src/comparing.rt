@@ -1,4 +1,4 @@
-//! Whether the reels of a serial in two racks hold the same blocks.
+//! Compares the reels of a serial in two racks.
 ghost use Rattle.std.specs.Prelude.{◌≡◌, None};
 ghost use Rattle.std.specs.Option.{ForSome};
 ghost use Rattle.g_tape.specs.Rack.{reel, refuses_read};
@@ -25,7 +25,7 @@ pub(crate) fn refuses_both<T: Tapes>(first: &T, second: &T, serial: u32) -> Opti
     }
 }
 
-/// How long a reel is, which is there.
+/// The length of an existing reel.
 pub(crate) fn length_of<T: Tapes>(rack: &T, serial: u32) -> u32
     ensures { ForSome (reel serial (T.rack rack.now).reels) (λ r. result ≡ r.len) }
 {
@@ -35,7 +35,8 @@ pub(crate) fn length_of<T: Tapes>(rack: &T, serial: u32) -> u32
     }
 }
 
-/// Whether the reels of a serial hold the same blocks, or `ReadFailed`. Each is read once at most, and no list of its bytes is made.
+/// Whether the reels of a serial hold the same blocks. Each block is read at most once, and only one pair of blocks is in memory.
+/// `ReadFailed`.
 pub(crate) fn same_reel<T: Tapes>(
     one: &mut T,
     other: &mut T,
@@ -60,7 +61,7 @@ pub(crate) fn same_reel<T: Tapes>(
     Ok(true)
 }
 
-/// Whether block k of both is the same, or `ReadFailed`.
+/// Whether block k of both is the same. `ReadFailed`.
 fn same_block<T: Tapes>(
     one: &mut T,
     other: &mut T,

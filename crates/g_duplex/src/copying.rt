@@ -1,4 +1,4 @@
-//! A reel that is written from the reel of the same serial in another rack.
+//! Copies a reel from the reel of the same serial in another rack.
 ghost use Rattle.std.specs.Prelude.{◌≡◌, None};
 ghost use Rattle.g_tape.specs.Rack.{reel, refuses_read, refuses_write};
 ghost use Rattle.g_duplex.specs.Copying.{BlockCopied, BothReels, ReelCopied};
@@ -10,7 +10,7 @@ use crate::fault::DuplexFault;
 use crate::twin::Twin;
 use g_tape::Tapes;
 
-/// Why the writing of a reel from the other one is refused, if it is.
+/// Why copying a reel from the other one is refused, if it is.
 pub(crate) fn refuses_copy<T: Tapes>(from: &T, to: &T, serial: u32) -> Option<DuplexFault>
     ensures { result ≡ refuses_rebuild (reel serial (T.rack to.now).reels) (reel serial (T.rack from.now).reels) }
 {
@@ -28,7 +28,7 @@ pub(crate) fn refuses_copy<T: Tapes>(from: &T, to: &T, serial: u32) -> Option<Du
     }
 }
 
-/// Writes the reel of a twin from the other one, or `ReadFailed`, `WriteFailed`.
+/// Copies the reel of a twin from the other one. `ReadFailed`, `WriteFailed`.
 pub(crate) fn copy_twin<T: Tapes>(
     first: &mut T,
     second: &mut T,
@@ -47,7 +47,7 @@ pub(crate) fn copy_twin<T: Tapes>(
     }
 }
 
-/// Writes a reel from the other one, block by block from block 0 on.
+/// Copies a reel from the other one, block by block from block 0 on.
 fn copy_reel<T: Tapes>(from: &mut T, to: &mut T, serial: u32) -> Result<(), DuplexFault>
     requires free { refuses_rebuild (reel serial (T.rack to.old).reels) (reel serial (T.rack from.old).reels) ≡ None }
     requires room { BothReels serial (T.rack to.old) (T.rack from.old) (λ a b. a.capacity ≡ b.capacity) }
@@ -63,7 +63,7 @@ fn copy_reel<T: Tapes>(from: &mut T, to: &mut T, serial: u32) -> Result<(), Dupl
     Ok(())
 }
 
-/// Writes block k of a reel from the other one.
+/// Copies block k of a reel from the other one.
 fn copy_block<T: Tapes>(from: &mut T, to: &mut T, serial: u32, k: u32) -> Result<(), DuplexFault>
     requires readable { refuses_read k (reel serial (T.rack from.old).reels) ≡ None }
     requires writable { refuses_write k (reel serial (T.rack to.old).reels) ≡ None }

@@ -10,8 +10,8 @@ use crate::twin::{Standing, Twin};
 use g_base::{Armings, Fuse};
 use g_tape::Tapes;
 
-/// Two racks with the same reels, as one rack. A reel has the blocks of the twin that leads, and is mounted where each twin that
-/// isn't lost is.
+/// Two racks with the same reels, as one rack. A reel has the blocks of the leading twin, and is mounted if each twin that isn't
+/// lost is mounted.
 #[derive(Drop)]
 pub struct Duplex<T: Tapes> {
     pub(crate) first: T,
@@ -30,7 +30,7 @@ pub struct Duplex<T: Tapes> {
 impl<T: Tapes> Duplex<T> {
     ghost use Rattle.g_duplex.specs.Meaning.{pair_of};
 
-    /// Two racks as one, of which these twins are lost. Its counts begin at 0, whatever those of the racks are. It takes no memory.
+    /// Two racks as one, with these twins lost. Its counts begin at 0, whatever those of the racks are. It allocates nothing.
     pub fn new(first: T, second: T, lost: &[(u32, Twin)]) -> Duplex<T>
         requires { ArePaired (standings_by lost.now (T.rack first).reels) (T.rack first).reels (T.rack second).reels }
         ensures { pair_of result ≡ record {
@@ -57,14 +57,14 @@ impl<T: Tapes> Duplex<T> {
         }
     }
 
-    /// The twins that are lost, by rising serial.
+    /// The lost twins, by increasing serial.
     pub fn lost(&self) -> &[(u32, Twin)]
         ensures { result.now ≡ lost_of (pair_of self.now).first.reels (pair_of self.now).standings }
     {
         self.lost.as_slice()
     }
 
-    /// The racks, as they then are.
+    /// The racks in their current state.
     pub fn into_racks(self) -> (T, T)
         ensures first { T.rack result.0 ≡ (pair_of self).first }
         ensures second { T.rack result.1 ≡ (pair_of self).second }
@@ -72,7 +72,7 @@ impl<T: Tapes> Duplex<T> {
         (self.first, self.second)
     }
 
-    /// How the twins of a reel stand, if it is there.
+    /// The standing of the twins of a reel, if the racks have it.
     pub fn standing(&self, serial: u32) -> Option<Standing>
         ensures { result ≡ standing_in serial (pair_of self.now) }
     {

@@ -1,4 +1,5 @@
-//! Paired reels: two racks with the same reels, seen as one. Where one reel of a pair is lost or can't be read, the other answers.
+//! Paired reels: two racks with the same reels, shown as one. If one reel of a pair is lost or can't be read, the other one is
+//! used.
 #![tactic(auto)]
 
 mod asking;

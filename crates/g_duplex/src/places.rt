@@ -8,7 +8,7 @@ use crate::standings::{LostTwins, Standings};
 use crate::twin::{Standing, Twin};
 use g_tape::Tapes;
 
-/// The place of the reel of this serial, if it is there.
+/// The place of the reel of this serial, if the rack has it.
 pub(crate) fn place_of<T: Tapes>(rack: &T, serial: u32) -> Option<usize>
     ensures { MatchOption result (reel serial (T.rack rack.now).reels ≡ None) (IsFirst serial (T.rack rack.now).reels) }
 {
@@ -20,7 +20,7 @@ pub(crate) fn place_of<T: Tapes>(rack: &T, serial: u32) -> Option<usize>
     None
 }
 
-/// The twins that are lost, by rising serial.
+/// The lost twins, by increasing serial.
 pub(crate) fn lost_among<T: Tapes>(rack: &T, standings: &Standings) -> LostTwins
     requires { length standings.now ≡ length (T.rack rack.now).reels }
     ensures { result ≡ lost_of (T.rack rack.now).reels standings.now }
@@ -32,7 +32,7 @@ pub(crate) fn lost_among<T: Tapes>(rack: &T, standings: &Standings) -> LostTwins
     lost
 }
 
-/// How the twins stand of which these are lost.
+/// The standings of all reels, given the lost twins.
 pub(crate) fn standings_by<T: Tapes>(rack: &T, lost: &[(u32, Twin)]) -> Standings
     ensures { result ≡ standings_by lost.now (T.rack rack.now).reels }
 {
@@ -43,7 +43,7 @@ pub(crate) fn standings_by<T: Tapes>(rack: &T, lost: &[(u32, Twin)]) -> Standing
     standings
 }
 
-/// How the twins of a serial stand where these are lost.
+/// The standing of the twins of a serial, given the lost twins.
 pub fn standing_by(serial: u32, lost: &[(u32, Twin)]) -> Standing
     ensures { result ≡ standing_by serial lost.now }
 {

@@ -1,4 +1,4 @@
-//! The calls on both twins of a reel: whether they agree, and the rebuilding of one from the other.
+//! The calls on both twins of a reel: comparing them, and rebuilding one from the other.
 ghost use Rattle.std.specs.Prelude.{◌≡◌, Some};
 ghost use Rattle.g_tape.specs.Rack.{reel};
 ghost use Rattle.g_duplex.specs.Pair.{standing_in};
@@ -16,8 +16,8 @@ use g_tape::Tapes;
 impl<T: Tapes> Duplex<T> {
     ghost use Rattle.g_duplex.specs.Meaning.{pair_of};
 
-    /// Whether neither twin of the reel is lost and both hold the same blocks, or `NoTape`, `NotMounted`, `ReadFailed`. A twin
-    /// that is lost isn't read.
+    /// Whether neither twin of the reel is lost and both hold the same blocks. A lost twin isn't read. `NoTape`, `NotMounted`,
+    /// `ReadFailed`.
     pub fn agree(&mut self, serial: u32) -> Result<bool, DuplexFault>
         ensures { PairCompares serial (pair_of self.old) result (pair_of self.new) }
     {
@@ -33,8 +33,8 @@ impl<T: Tapes> Duplex<T> {
         same_reel(&mut self.first, &mut self.second, serial)
     }
 
-    /// Writes this twin of the reel from the other one, from block 0 on, or `NoTape`, `NotMounted`, `NotEmptied`, which change
-    /// nothing. Behind `ReadFailed` and `WriteFailed` the twin is lost; behind Ok neither is, and both hold the same blocks.
+    /// Rebuilds this twin of the reel from the other one, from block 0 on. `NoTape`, `NotMounted` and `NotEmptied` change
+    /// nothing. After `ReadFailed` and `WriteFailed` the twin is lost; after `Ok` neither is, and both hold the same blocks.
     pub fn rebuild_twin(&mut self, serial: u32, twin: Twin) -> Result<(), DuplexFault>
         requires { (lost : Twin) → standing_in serial (pair_of self.old) ≡ Some (Lost lost) → lost ≡ twin }
         ensures { PairRebuilds serial twin (pair_of self.old) result (pair_of self.new) }
@@ -51,7 +51,7 @@ impl<T: Tapes> Duplex<T> {
         answer
     }
 
-    /// Why a rebuilding of this twin is refused, if it is.
+    /// Why rebuilding this twin is refused, if it is.
     fn refuses_rebuild(&self, serial: u32, twin: Twin) -> Option<DuplexFault>
         ensures { result ≡ refuses_rebuild (reel serial (rack_at twin (pair_of self.now)).reels) (reel serial (rack_beside twin (pair_of self.now)).reels) }
     {
@@ -62,7 +62,7 @@ impl<T: Tapes> Duplex<T> {
     }
 }
 
-/// How the twins stand after a rebuilding of this one.
+/// The standing of the twins after this one was rebuilt, or after that failed.
 fn stands_rebuilt(twin: Twin, answer: &Result<(), DuplexFault>) -> Standing
     ensures { result ≡ stands_rebuilt twin answer.now }
 {

@@ -1,4 +1,4 @@
-//! How the twins of each reel of a rack stand, in the order of the rack, and the list of those that are lost.
+//! The standing of the twins of each reel, in the order of the rack, and the list of lost twins.
 ghost use Rattle.std.specs.Prelude.{◌≡◌, ◌<◌, ◌++◌, [], ◌∷◌, length, slice_get, slice_set, Some};
 ghost use Rattle.g_duplex.specs.Places.{lost_one};
 
@@ -24,7 +24,7 @@ impl Model for Standings {
 }
 
 impl Standings {
-    /// Those of no reel.
+    /// The list for no reels.
     pub(crate) fn new() -> Standings
         ensures { result ≡ [] }
     {
@@ -33,7 +33,7 @@ impl Standings {
         }
     }
 
-    /// Puts the next reel's behind the others.
+    /// Appends the standing of the next reel.
     pub(crate) fn push(&mut self, standing: Standing)
         requires { length self.old < 16 }
         ensures { self.new ≡ self.old ++ standing ∷ [] }
@@ -41,7 +41,7 @@ impl Standings {
         self.each.push(standing);
     }
 
-    /// That of the i-th reel.
+    /// The standing of the i-th reel.
     pub(crate) fn get(&self, i: usize) -> Standing
         requires { i < length self.now }
         ensures { slice_get self.now i ≡ Some result }
@@ -49,7 +49,7 @@ impl Standings {
         self.each[i]
     }
 
-    /// Changes that of the i-th reel.
+    /// Sets the standing of the i-th reel.
     pub(crate) fn set(&mut self, i: usize, standing: Standing)
         requires { i < length self.old }
         ensures { self.new ≡ slice_set self.old i standing }
@@ -58,7 +58,7 @@ impl Standings {
     }
 }
 
-/// The twins that are lost, with their serials, at most 16. Contracts see a list.
+/// The lost twins with their serials, at most 16. Contracts see a list.
 #[derive(Drop)]
 pub(crate) struct LostTwins {
     each: ArrayVec<(u32, Twin), 16>,
@@ -76,7 +76,7 @@ impl Model for LostTwins {
 }
 
 impl LostTwins {
-    /// None.
+    /// The empty list.
     pub(crate) fn new() -> LostTwins
         ensures { result ≡ [] }
     {
@@ -85,7 +85,7 @@ impl LostTwins {
         }
     }
 
-    /// Puts a twin of this serial behind the others, if one is lost.
+    /// Appends a twin of this serial, if one is lost.
     pub(crate) fn put(&mut self, serial: u32, standing: Standing)
         requires { length self.old < 16 }
         ensures { self.new ≡ self.old ++ lost_one serial standing }
@@ -96,7 +96,7 @@ impl LostTwins {
         }
     }
 
-    /// All of them.
+    /// The list as a slice.
     pub(crate) fn as_slice(&self) -> &[(u32, Twin)]
         ensures { result.now ≡ self.now }
     {

@@ -1,4 +1,4 @@
-//! The two reels of a serial, and how they stand to each other.
+//! The two reels of a serial, and their standing.
 ghost use Rattle.std.specs.Prelude.{◌≡◌};
 ghost use Rattle.g_duplex.specs.Twins as twins;
 
@@ -12,7 +12,7 @@ pub enum Twin {
     Second,
 }
 
-/// How the two reels of a serial stand to each other.
+/// The standing of the two reels of a serial.
 #[derive(Clone, Copy, Default, PartialEq, Eq)]
 pub enum Standing {
     /// Both hold the same blocks.
@@ -25,7 +25,7 @@ pub enum Standing {
 }
 
 impl Standing {
-    /// The twin that leads: the first, or the second where the first is lost.
+    /// The leading twin: the first, or the second if the first is lost.
     pub fn leader(self) -> Twin
         ensures { result ≡ twins.leader self }
     {
@@ -45,7 +45,7 @@ impl Standing {
         }
     }
 
-    /// Whether each twin that isn't lost is mounted, from whether the first and the second are.
+    /// Whether each twin that isn't lost is mounted, given whether the first and the second are.
     pub(crate) fn is_up(self, first: bool, second: bool) -> bool
         ensures { result ≡ twins.are_up self first second }
     {
@@ -56,7 +56,7 @@ impl Standing {
         }
     }
 
-    /// Whether the other twin may be asked for block k where the leading one fails.
+    /// Whether the other twin may be read for block k if the leading one fails.
     pub(crate) fn may_help(self, k: u32) -> bool
         ensures { result ≡ twins.may_help k self }
     {
@@ -67,7 +67,7 @@ impl Standing {
         }
     }
 
-    /// How they stand after the leading twin's write of block k failed.
+    /// The standing after the leading twin's write of block k failed.
     pub(crate) fn after_failure(self, k: u32) -> Standing
         ensures { result ≡ twins.after_failure k self }
     {
@@ -78,7 +78,7 @@ impl Standing {
         }
     }
 
-    /// How they stand after both took block k, which repairs what failed there or above.
+    /// The standing after both completed a write of block k, which repairs what failed there or above.
     pub(crate) fn after_both(self, k: u32) -> Standing
         ensures { result ≡ twins.after_both k self }
     {

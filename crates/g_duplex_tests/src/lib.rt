@@ -1,4 +1,4 @@
-//! Tests of paired reels over two racks in memory: each rule of a read, a write, a repair and a rebuilding once.
+//! Tests of paired reels on two racks in memory: each rule of a read, a write, a repair and a rebuild once.
 #![tactic(auto)]
 
 #[cfg(test)]

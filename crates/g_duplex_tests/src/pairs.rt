@@ -1,4 +1,4 @@
-//! One reel in each of two racks: which of them answers, which is lost, and what is told of it.
+//! One reel in each of two racks: which of them answers, which is lost, and what the pair shows.
 use crate::racks::{armed, pair, rack, rebuild};
 use g_base::Block;
 use g_duplex::{Duplex, DuplexFault, Twin};
@@ -35,7 +35,7 @@ fn ample(rt: HostRuntime) -> Result<(), Fail> {
     Ok(())
 }
 
-/// The first rack's reads all fail, and the second's at the third.
+/// All reads of the first rack fail, and the third read of the second rack.
 #[test]
 fn the_other_twin_answers_a_failed_read(rt: HostRuntime) -> Result<(), Fail> {
     let mut both = pair(
@@ -50,7 +50,7 @@ fn the_other_twin_answers_a_failed_read(rt: HostRuntime) -> Result<(), Fail> {
     Ok(())
 }
 
-/// The second rack's third write fails: that reel is lost, and made again from the first.
+/// The second rack's third write fails: that reel is lost, and rebuilt from the first.
 #[test]
 fn a_second_that_fails_is_lost_and_rebuilt(rt: HostRuntime) -> Result<(), Fail> {
     let mut both = pair(rack(rt.alloc(), &[])?, armed(rt.alloc(), 3)?, &[]);
@@ -65,7 +65,7 @@ fn a_second_that_fails_is_lost_and_rebuilt(rt: HostRuntime) -> Result<(), Fail> 
     Ok(())
 }
 
-/// A write of the leading twin that failed isn't answered for by the other one, until that block is written again.
+/// After a failed write of the leading twin, the other one isn't read for that block until the block is written again.
 #[test]
 fn a_failed_write_stands_until_it_is_repaired(rt: HostRuntime) -> Result<(), Fail> {
     let mut both = pair(rack(rt.alloc(), &[2, 3])?, rack(rt.alloc(), &[])?, &[]);

@@ -8,7 +8,7 @@ use g_duplex::{Duplex, DuplexFault, Standing, Twin};
 use g_tape::{MemoryTapes, TapeLeave, Tapes};
 use std::alloc::Global;
 
-/// A rack of the empty reel 1 of eight blocks, whose reads of these numbers fail. At a failing write the new block is left.
+/// A rack of the empty reel 1 of eight blocks, whose reads with these numbers fail. A failing write leaves the new block.
 pub fn rack(alloc: Global, fail: &[u64]) -> Result<MemoryTapes, NoMemory>
     ensures { IfOk result (λ tapes. (rack_of tapes).reels ≡ empty_reel 1 8 ∷ []) }
 {
@@ -20,7 +20,7 @@ pub fn rack(alloc: Global, fail: &[u64]) -> Result<MemoryTapes, NoMemory>
     Ok(tapes)
 }
 
-/// The same rack with a write to come that fails.
+/// The same rack, armed so that its k-th next write fails.
 pub fn armed(alloc: Global, k: u32) -> Result<MemoryTapes, NoMemory>
     requires { 1 ≤ k }
     ensures { IfOk result (λ tapes. (rack_of tapes).reels ≡ empty_reel 1 8 ∷ []) }
@@ -40,7 +40,7 @@ pub fn pair(first: MemoryTapes, second: MemoryTapes, lost: &[(u32, Twin)]) -> Du
     pair
 }
 
-/// Makes the lost twin of the reel again; None where none is lost.
+/// Rebuilds the lost twin of the reel; `None` if none is lost.
 pub fn rebuild(pair: &mut Duplex<MemoryTapes>) -> Option<Result<(), DuplexFault>> {
     let Some(standing) = pair.standing(1) else {
         return None;

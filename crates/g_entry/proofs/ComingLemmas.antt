@@ -1,4 +1,5 @@
--- Fields that come one behind the other.
+-- Fields that follow one another in a block.
+-- serves: copy_comes (comes, left), fields_stand, lang_comes (comes, left), next_bytes_equal, rec_comes (comes, left), word_comes (comes, left), zeros_come
 use Rattle.std.proofs.Common.{◌≡◌, ℕ, ◌+◌, ◌-◌, ◌≤◌, Bool, List, [], ◌∷◌, ◌++◌, length, drop, Option, Some, None, refl, ap, ◌∙◌, sym, arith, append_assoc, subst}
 use Rattle.std.specs.Prelude.{◌↔◌, ◌==◌, IsTrue, true, false, replicate, if◌then◌else◌}
 use Rattle.std.proofs.Math.Seq.{drop-append_seam}

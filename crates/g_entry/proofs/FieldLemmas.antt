@@ -1,4 +1,5 @@
 -- The lengths of the parts of a record, and what a reader finds in them.
+-- serves: file_block, front_of, head_block, lang_comes (comes, left), pairs_of, put, put_traps (fields), take_lang (again), take_local (again), and 7 more
 use Rattle.std.proofs.Common.{◌≡◌, ℕ, ◌+◌, ◌-◌, ◌*◌, ◌<◌, ◌≤◌, true, List, [], ◌∷◌, ◌++◌, length, take, drop, get_or, Bool, false, Option, zero, suc, min, ⊎_elim, Some, None, refl, ap, ◌∙◌, sym, arith, length-append, append_assoc}
 use Rattle.std.specs.Prelude.{replicate, IsSome, IfSome, nat_le, nat_lt, ◌&&◌, ◌==◌, if◌then◌else◌}
 use Rattle.std.specs.List.{flat_map, list_all}
@@ -28,7 +29,7 @@ length-lang l is = leb-true (length l) 4 (and_parts (nat_le (length l) 4) (list_
 
 pub ruleset name_lengths = (length-word, length-lang)
 
--- so many of four spaces
+-- The rest of four spaces
 pub spaces_behind : (n : ℕ) → n ≤ 4 → take (4 - n) (drop n (replicate {A = ℕ} 4 32)) ≡ replicate (4 - n) 32
 spaces_behind n few =
     ap (take (4 - n)) (drop-replicate n 4 32) ∙ take_all (4 - n) (replicate {A = ℕ} (4 - n) 32) (omega (arith, length-replicate {A = ℕ} (4 - n) 32))
@@ -45,7 +46,7 @@ pub pairs_padded : (pairs : List (ℕ × ℕ)) → flat_map pair_bytes pairs ++ 
 unfolding padded
 pairs_padded pairs = ap (λ (n : ℕ). flat_map pair_bytes pairs ++ replicate {A = ℕ} (16 - n) 0) (sym (length-pairs pairs))
 
--- what a writer has behind the traps
+-- What a writer has written after the traps.
 pub traps_put : (before middle after : List ℕ) (owner count i : ℕ) (others : List (ℕ × ℕ))
     → middle ≡ ((before ++ owner ∷ []) ++ count ∷ []) ++ flat_map pair_bytes (take i others) → length others ≤ i
     → after ≡ middle ++ replicate (16 - 2 * length others) 0 → after ≡ (before ++ (owner ∷ count ∷ [])) ++ pair_fields others
@@ -66,7 +67,7 @@ pub made_as : (test : List ℕ → Bool) (made : Option (List ℕ)) (front word 
 made_as test None front word there same one is = absurd (false≢true (there (ap test one ∙ is)))
 made_as test (Some n) front word there same one is = ap (λ (m : List ℕ). Some m) (same ∙ one)
 
--- a word behind its length
+-- A word, stored after its length.
 pub word_taken : (old mid after field word rest : List ℕ) (len : ℕ) → old ≡ len ∷ mid → mid ≡ field ++ after → length field ≡ 12 → length word ≤ 12
     → old ≡ length word ∷ (padded 12 word ++ rest) → (len ≡ length word) × (field ≡ padded 12 word) × (after ≡ rest)
 word_taken old mid after field word rest len first bytes long few is =
@@ -85,7 +86,7 @@ word_again old mid after field front len made first all long cut some value word
     let here = cut word within got.0 (got.1 ∙ ap (λ (n : ℕ). padded n word) (sym long)) in
     (made_as is_word made front word some value here is, got.2)
 
--- what stands before the first space
+-- The bytes before the first space.
 abbrev pub before_space : List ℕ → List ℕ
 before_space [] = []
 before_space (c ∷ cs) = if c == 32 then [] else c ∷ before_space cs
@@ -131,7 +132,7 @@ length-lang_field lang few = omega (arith, length-append lang (replicate (4 - le
 pub length-pair_fields : (pairs : List (ℕ × ℕ)) → length pairs ≤ 8 → length (pair_fields pairs) ≡ 16
 length-pair_fields pairs few = length-padded 16 (flat_map pair_bytes pairs) (omega (arith, length-pairs pairs))
 
--- traps behind the owner's modes and their number
+-- The traps, stored after the owner's modes and the number of pairs.
 pub traps_taken : (old middle after left field others_field rest : List ℕ) (owner count o n : ℕ) → old ≡ owner ∷ middle → middle ≡ count ∷ after → after ≡ field ++ left → length field ≡ 16
     → length others_field ≡ 16 → old ≡ o ∷ n ∷ (others_field ++ rest) → (owner ≡ o) × (count ≡ n) × (field ≡ others_field) × (left ≡ rest)
 traps_taken old middle after left field others_field rest owner count o n first second bytes long long_others is =

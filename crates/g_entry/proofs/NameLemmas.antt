@@ -1,4 +1,5 @@
 -- Full names, by their parts.
+-- serves: full_names_differ, names_differ
 use Rattle.std.proofs.Common.{◌≡◌, ℕ, Bool, List, ap, nat_eq}
 use Rattle.std.specs.Prelude.{◌&&◌}
 use Rattle.std.specs.Bool.{Decides}

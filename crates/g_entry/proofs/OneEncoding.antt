@@ -1,4 +1,5 @@
 -- Two records of one block are one record.
+-- serves: crates above
 use Rattle.std.proofs.Common.{◌≡◌, ℕ, ◌-◌, ◌*◌, ◌<◌, true, List, [], ◌∷◌, ◌++◌, length, take, Option, Some, None, refl, ap, ◌∙◌, sym, arith, append_assoc, subst}
 use Rattle.std.specs.Prelude.{replicate, IfSome, codes}
 use Rattle.std.specs.List.{flat_map, list_all}
@@ -21,7 +22,7 @@ use Rattle.g_entry.specs.declared.user_rec.UserRec.{UserRec}
 use Rattle.g_entry.proofs.FieldLemmas.{length-word, length-lang, front_again, lang_again, length-lang_field, length-pair_fields, pair_bytes, pairs_padded}
 use Rattle.g_entry.proofs.RecordLemmas.{format_fits, user_zeros, user_peeled, head_zeros, head_peeled, file_zeros, file_rest, file_peeled}
 
--- two words behind their lengths
+-- Two words, each stored after its length.
 same_word : (w v a b : List ℕ) → is_word w ≡ true → is_word v ≡ true → length w ∷ (padded 12 w ++ a) ≡ length v ∷ (padded 12 v ++ b) → (w ≡ v) × (a ≡ b)
 same_word w v a b is_w is_v is =
     let long_w = length-padded 12 w (length-word w is_w) in
@@ -114,7 +115,7 @@ same_money : (format : Format) (m n : ℕ) (a b : List ℕ) → IsMoney format m
 same_money One m n a b of_m of_n is = of_m ∙ sym of_n
 same_money Two m n a b of_m of_n is = (same_number 8 m n a b (omega (arith, of_m)) (omega (arith, of_n)) is).0
 
--- USERS: one number and one block, which on tape tells whether the dump holds their directory
+-- Users: a number and a block determine the user and, on tape, whether the dump has the user's directory.
 pub user_held_again : (format : Format) (f g : ℕ) (r s : UserRec) → IsUser format r → IsUser format s → r.number ≡ s.number → user_block format f r ≡ user_block format g s → (r ≡ s) × (f ≡ g)
 user_held_again format f g r s is_r is_s numbered is =
     let a6 : List ℕ = money_fields format r.money ++ user_zeros format f r in
@@ -171,7 +172,7 @@ same_format One Two is = let no : ⊥ = omega (arith, is) in absurd no
 same_format Two One is = let no : ⊥ = omega (arith, is) in absurd no
 same_format Two Two is = refl
 
--- HEADS: one block, which tells the format
+-- Heads: the block determines the head and the format.
 pub head_again : (f g : Format) (h i : Head) → IsHead h → IsHead i → head_block f h ≡ head_block g i → (f ≡ g) × (h ≡ i)
 head_again f g h i is_h is_i is =
     let a4 : List ℕ = intent_fields h.intent ++ head_zeros f h in

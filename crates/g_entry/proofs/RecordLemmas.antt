@@ -1,4 +1,5 @@
 -- What a reader finds in the block of a record.
+-- serves: fields_of (again), take_rec (again), ComingLemmas, OneEncoding, crates above
 use Rattle.std.proofs.Common.{◌≡◌, ℕ, ◌-◌, ◌^◌, ◌<◌, ◌≤◌, true, List, ◌∷◌, ◌++◌, length, Option, Some, None, refl, ap, ◌∙◌, sym, arith, append_assoc, subst, lit<}
 use Rattle.std.specs.Prelude.{Bool, false, replicate, nat_eq, IfSome, codes}
 use Rattle.g_base.specs.Fields.{number, padded}
@@ -24,7 +25,7 @@ Takes limit width before taken after = (x : ℕ) (rest : List ℕ) → x < limit
 abbrev TakesWord : List ℕ → Option (List ℕ) → List ℕ → Type 0
 TakesWord before taken after = (word rest : List ℕ) → is_word word ≡ true → before ≡ length word ∷ (padded 12 word ++ rest) → (taken ≡ Some word) × (after ≡ rest)
 
--- the fields of a user, one behind the other
+-- The fields of a user, in order.
 abbrev pub user_zeros : Format → ℕ → UserRec → List ℕ
 user_zeros format held r = replicate (512 - length (user_fields format held r)) 0
 
@@ -194,11 +195,11 @@ found_file r owner local generation lang stamp len traps tape local_is lang_is t
   copy = read.copy;
 }
 
--- what wasn't there, and yet was taken
+-- An option that is None isn't Some.
 pub not_there : {A : Type 0} (taken : Option A) (x : A) → taken ≡ None → taken ≡ Some x → ⊥
 not_there taken x none some = cc
 
--- the record, and the block numbers behind it
+-- The record, and the block numbers after it.
 pub file_whole : (format : Format) (r s : FileRec) (online places : Option (List ℕ)) (found : Option FileRec) (left zeros : List ℕ) → found ≡ Some s → found ≡ Some r
     → IsFile r → IfSome places (ArePlaces format r.len) → left ≡ online_fields format places ++ zeros
     → ((o : Option (List ℕ)) (behind : List ℕ) → s.len ≤ 65536 → IfSome o (ArePlaces format s.len) → left ≡ online_fields format o ++ behind → online ≡ o)

@@ -1,4 +1,5 @@
--- The rules of users and of files, from those one by one.
+-- The rules of users and of files, from the rules of each.
+-- serves: files_keep, places_are_kept, users_keep, crates above
 use Rattle.std.proofs.Common.{◌≡◌, ◌≢◌, ⊎_elim, ℕ, ◌+◌, ◌^◌, ◌<◌, ◌≤◌, true, List, length, get_or, Option, Some, All, AllPairs, refl, ◌∙◌, ap, subst, arith, slice_get}
 use Rattle.std.specs.Prelude.{IfSome}
 use Rattle.std.proofs.lemmas.Bool.{cases_lt}
@@ -49,7 +50,7 @@ files_from users files few alone names stamps = record {
   empty = λ k d inside. (alone k d inside).empty;
 }
 
--- A RECORD with another number, another local name, another version, other traps or another place on tape is one of a file where what is new may be so
+-- A record with another number, local name, version, traps or place on tape is that of a file if the new value is valid.
 pub file_made : (number : ℕ) (local : List ℕ) (stamp len : ℕ) (traps : TrapList) (tape : Option TapeCopy) (r : FileRec) → IsFile r → is_word local ≡ true → stamp < 2 ^ 62 → len ≤ 65536
     → IsOthers traps.others → AreSets traps → lacks r.owner traps.others ≡ true → IfSome tape IsCopy
     → IsFile (record r { number = number; local = local; stamp = stamp; len = len; traps = traps; tape = tape })
@@ -66,7 +67,7 @@ file_made number local stamp len traps tape r is word early short others sets no
   tape = copy;
 }
 
--- the same where name and traps stay
+-- The same if name and traps are unchanged.
 pub file_anew : (number stamp len : ℕ) (tape : Option TapeCopy) (r : FileRec) → IsFile r → stamp < 2 ^ 62 → len ≤ 65536 → IfSome tape IsCopy
     → IsFile (record r { number = number; stamp = stamp; len = len; tape = tape })
 file_anew number stamp len tape r is early short copy =

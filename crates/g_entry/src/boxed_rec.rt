@@ -21,7 +21,7 @@ impl Model for BoxedRec {
 }
 
 impl BoxedRec {
-    /// This record in a box of its own.
+    /// A new box with this record.
     pub fn new(alloc: Global, rec: FileRec) -> Result<BoxedRec, NoMemory>
         ensures { IfOk result (λ b. b ≡ rec) }
     {
@@ -38,7 +38,7 @@ impl BoxedRec {
         &self.rec
     }
 
-    /// Puts this record in its place, which takes no memory.
+    /// Replaces the record in place, without allocating.
     pub fn set(&mut self, rec: FileRec)
         ensures { self.new ≡ rec }
     {

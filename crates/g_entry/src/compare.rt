@@ -1,4 +1,4 @@
-//! Compares the fields of a block with those of a record, one behind the other.
+//! Compares the fields of a block with those of a record, in order.
 ghost use Rattle.std.specs.Prelude.{◌≡◌, ◌↔◌, ◌+◌, ◌≤◌, [], ◌∷◌, IsTrue, length, replicate};
 ghost use Rattle.g_base.specs.Fields.{padded};
 ghost use Rattle.g_entry.specs.Comparison.{Comes, rec_fields};
@@ -9,7 +9,7 @@ use crate::{FileRec, TapeCopy};
 use g_base::BlockReader;
 use g_name::Lang;
 
-/// Reads as many bytes as these, and tells whether they are the same.
+/// Reads as many bytes as `bytes` has and returns whether they are the same.
 pub(crate) fn next_bytes_equal(reader: &mut BlockReader, bytes: &[u8]) -> bool
     requires { length bytes.now ≤ length reader.old }
     ensures { Comes bytes.now reader.old reader.new result }
@@ -18,7 +18,7 @@ pub(crate) fn next_bytes_equal(reader: &mut BlockReader, bytes: &[u8]) -> bool
     is_same(taken, bytes)
 }
 
-/// Reads so many bytes, and tells whether they are zeros.
+/// Reads `count` bytes and returns whether they are zeros.
 pub(crate) fn zeros_come(reader: &mut BlockReader, count: usize) -> bool
     requires few { count ≤ 512 }
     requires within { count ≤ length reader.old }
@@ -28,14 +28,14 @@ pub(crate) fn zeros_come(reader: &mut BlockReader, count: usize) -> bool
     next_bytes_equal(reader, &zeros[..count])
 }
 
-/// Whether both are.
+/// Whether both are true.
 pub(crate) fn both(one: bool, other: bool) -> bool
     ensures { IsTrue result ↔ (IsTrue one × IsTrue other) }
 {
     one & other
 }
 
-/// The length of a word, and a field of 12 bytes with it.
+/// Compares a word: its length, and a field of 12 bytes with it.
 fn word_comes(reader: &mut BlockReader, word: &[u8]) -> bool
     requires fits { length word.now ≤ 12 }
     requires within { 13 ≤ length reader.old }
@@ -49,7 +49,7 @@ fn word_comes(reader: &mut BlockReader, word: &[u8]) -> bool
     both(counted, both(same, zeros))
 }
 
-/// The four characters of a language, with the spaces behind it.
+/// Compares a language: four characters, padded with spaces.
 fn lang_comes(reader: &mut BlockReader, lang: &Lang) -> bool
     requires { 4 ≤ length reader.old }
     ensures comes { Comes (lang_field lang.now) reader.old reader.new result }
@@ -62,7 +62,7 @@ fn lang_comes(reader: &mut BlockReader, lang: &Lang) -> bool
     both(same, behind)
 }
 
-/// A tape copy, or zeros in its place.
+/// Compares a tape copy, or the zeros in its place.
 fn copy_comes(reader: &mut BlockReader, copy: Option<TapeCopy>) -> bool
     requires { 9 ≤ length reader.old }
     ensures comes { Comes (copy_fields copy) reader.old reader.new result }
@@ -80,7 +80,7 @@ fn copy_comes(reader: &mut BlockReader, copy: Option<TapeCopy>) -> bool
     }
 }
 
-/// The fields of a file that traps nobody, up to the block numbers.
+/// Compares the fields of a file that traps no other user, up to the block numbers.
 pub(crate) fn rec_comes(reader: &mut BlockReader, r: &FileRec) -> bool
     requires file { IsFile r.now }
     requires nobody { r.now.traps.others ≡ [] }

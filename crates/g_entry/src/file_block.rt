@@ -25,7 +25,7 @@ pub fn encode_file_in(format: Format, r: &FileRec, online: Option<&BlockList>) -
     writer.finish()
 }
 
-/// Puts the fields of a file's block into a writer that has nothing yet, so that the block needn't move.
+/// Writes the fields of a file's block to a new writer, so that the block needn't be moved.
 #[tactic(auto, using(crate::proofs::FieldLemmas::field_lengths, crate::proofs::FieldLemmas::name_lengths), unfolding(crate::specs::FileFields::file_fields))]
 pub fn put_file(writer: &mut BlockWriter, format: Format, r: &FileRec, online: Option<&BlockList>)
     requires empty { writer.old ≡ [] }
@@ -45,8 +45,8 @@ pub fn put_file(writer: &mut BlockWriter, format: Format, r: &FileRec, online: O
     put_online(writer, format, online);
 }
 
-/// The file of this number whose block in a format it is, with its block numbers where it is online. None exactly where
-/// no file has that block.
+/// The file of this number with this block, and its block numbers if it is online. `None` if and only if no file has
+/// that block.
 pub fn decode_file_in(
     format: Format,
     b: &Block,
@@ -58,7 +58,7 @@ pub fn decode_file_in(
     ensures none { IfNone result ((r : FileRec) (online : Option (List ℕ)) → r.number ≡ number → IsFile r
         → IfSome online (ArePlaces format r.len) → b.now ≡ file_block format r online → ⊥) }
 
-    // What was written is read back, so a file has one block.
+    // What was written is decoded as itself, so a file has exactly one block.
     ensures again { (r : FileRec) (online : Option (List ℕ)) → r.number ≡ number → IsFile r
         → IfSome online (ArePlaces format r.len) → b.now ≡ file_block format r online → result ≡ Some (r, online) }
 {
@@ -73,7 +73,7 @@ pub fn decode_file_in(
     }
 }
 
-/// What stands in the fields of a file's block.
+/// The record in the fields of a file's block.
 fn fields_of(format: Format, b: &Block, number: u16) -> Option<(FileRec, Option<BlockList>)>
     ensures number { IfSome result (λ found. found.0.number ≡ number) }
     ensures again { (r : FileRec) (online : Option (List ℕ)) → r.number ≡ number → IsFile r
@@ -85,8 +85,8 @@ fn fields_of(format: Format, b: &Block, number: u16) -> Option<(FileRec, Option<
     Some((r, online))
 }
 
-/// The file of this number whose block on tape it is. There it has no block numbers, and an empty file is online. None
-/// exactly where no file has that block.
+/// The file of this number with this block on tape. There it has no block numbers, and an empty file is online. `None`
+/// if and only if no file has that block.
 pub fn decode_file_on_tape(format: Format, b: &Block, number: u16) -> Option<FileRec>
     ensures found { IfSome result (λ r. (r.number ≡ number) × IsFile r × (b.now ≡ file_block format r (on_tape r))) }
     ensures none { IfNone result ((r : FileRec) → r.number ≡ number → IsFile r → b.now ≡ file_block format r (on_tape r) → ⊥) }
@@ -99,7 +99,8 @@ pub fn decode_file_on_tape(format: Format, b: &Block, number: u16) -> Option<Fil
     }
 }
 
-/// Whether it is the block of this file on tape. Nearly all files trap nobody, and need no block written to compare.
+/// Whether it is the block of this file on tape. Nearly all files trap no other user, and can be compared without
+/// encoding a block.
 fn stands_on_tape(format: Format, r: &FileRec, b: &Block) -> bool
     requires { IsFile r.now }
     ensures { IsTrue result ↔ (b.now ≡ file_block format r.now (on_tape r.now)) }
@@ -111,7 +112,7 @@ fn stands_on_tape(format: Format, r: &FileRec, b: &Block) -> bool
     }
 }
 
-/// Whether it is the block on tape of this file, which traps nobody.
+/// Whether it is the block on tape of this file, which traps no other user.
 fn fields_stand(r: &FileRec, b: &Block) -> bool
     requires file { IsFile r.now }
     requires nobody { r.now.traps.others ≡ [] }
@@ -131,8 +132,8 @@ fn online_flag(len: u32) -> u8
     if len == 0 { 1 } else { 0 }
 }
 
-/// What stands in the fields of a file's block before the block numbers, where it is within the limits: what was
-/// written. Of other bytes nothing is said; the caller compares.
+/// The record in a file's block, without block numbers, if it is within the limits. A block that was written gives the
+/// record that was written. For other bytes the result is unspecified; the caller compares.
 fn file_of_fields(b: &Block, number: u16) -> Option<FileRec>
     ensures file { IfSome result (λ r. (r.number ≡ number) × IsFile r) }
     ensures again { (format : Format) (r : FileRec) (online : Option (List ℕ)) → r.number ≡ number → IsFile r
@@ -154,7 +155,7 @@ fn encode_on_tape(format: Format, r: &FileRec) -> Block
     }
 }
 
-/// What stands in the fields of a file's block before the block numbers.
+/// The record in the fields of a file's block before the block numbers.
 fn rec_of(b: &Block, number: u16) -> Option<FileRec>
     ensures number { IfSome result (λ r. r.number ≡ number) }
     ensures again { (format : Format) (r : FileRec) (online : Option (List ℕ)) → r.number ≡ number → IsFile r
@@ -216,7 +217,7 @@ fn keep_traps(owner: u8, traps: &Traps) -> bool
     are_sets(traps.others()) && is_absent(owner, traps.others())
 }
 
-/// Whether the modes are sets, as all that a program makes are.
+/// Whether the modes are sets. Every value of the type is; this call exists so that its contract states it.
 fn are_sets(others: &[(u8, Modes)]) -> bool
     ensures { result ≡ list_all (λ pair. nat_lt pair.1 32) others.now }
 {

@@ -4,14 +4,14 @@ ghost use Rattle.std.specs.Prelude.{◌≡◌};
 use g_name::{Lang, Local};
 use g_trap::Traps;
 
-/// A place on tape where a file's bytes lie: the reel, and the first of their blocks.
+/// The place of a file's bytes on tape: the reel, and the first block of the copy.
 #[derive(Clone, Copy, PartialEq, Eq)]
 pub struct TapeCopy {
     pub serial: u32,
     pub first: u32,
 }
 
-/// A file, whose number is the place of the record among those of files.
+/// A file. Its number is the position of its record in the directory.
 #[derive(Drop, PartialEq, Eq)]
 pub struct FileRec {
     pub number: u16,
@@ -20,17 +20,17 @@ pub struct FileRec {
     pub local: Local,
     pub generation: u16,
     pub lang: Lang,
-    /// The number of the version, which no other version has.
+    /// The number of the version; no other version has it.
     pub stamp: u64,
     /// In bytes.
     pub len: u32,
-    /// Users go by their numbers.
+    /// Users are represented by their numbers.
     pub traps: Traps,
     pub tape: Option<TapeCopy>,
 }
 
 impl FileRec {
-    /// The same record once more, which takes no memory.
+    /// A copy of the record. It allocates nothing.
     pub fn copy(&self) -> FileRec
         ensures { result ≡ self.now }
     {

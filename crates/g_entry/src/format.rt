@@ -12,7 +12,7 @@ pub enum Format {
 }
 
 impl Format {
-    /// The number that stands in a head.
+    /// The number of the format in a head.
     pub fn number(self) -> u16
         ensures { result ≡ format_number self }
     {
@@ -23,7 +23,7 @@ impl Format {
     }
 }
 
-/// The block of a number that no user and no file has.
+/// The block of a number that belongs to no user and no file.
 pub fn empty_block() -> Block
     ensures { result ≡ replicate 512 0 }
 {

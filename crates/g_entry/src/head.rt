@@ -8,10 +8,10 @@ pub struct Intent {
     pub number: u64,
 }
 
-/// What a directory says besides its users and files.
+/// The contents of a directory apart from its users and files.
 #[derive(Clone, Copy, PartialEq, Eq)]
 pub struct Head {
-    /// The stamp of the version that is made next.
+    /// The stamp of the next version.
     pub next_stamp: u64,
     /// The number of the last dump, or 0.
     pub last_dump: u64,

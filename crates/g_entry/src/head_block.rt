@@ -17,7 +17,7 @@ pub fn encode_head_in(format: Format, h: &Head) -> Block
     writer.finish()
 }
 
-/// Puts the fields of a head's block into a writer that has nothing yet, so that the block needn't move.
+/// Writes the fields of a head's block to a new writer, so that the block needn't be moved.
 #[tactic(auto, using(crate::proofs::FieldLemmas::field_lengths), unfolding(crate::specs::HeadFields::head_fields))]
 pub fn put_head(writer: &mut BlockWriter, format: Format, h: &Head)
     requires empty { writer.old ≡ [] }
@@ -31,12 +31,12 @@ pub fn put_head(writer: &mut BlockWriter, format: Format, h: &Head)
     put_intent(writer, h.intent);
 }
 
-/// The head whose block in a format it is. None exactly where no head has that block.
+/// The head with this block in a format. `None` if and only if no head has that block.
 pub fn decode_head_in(format: Format, b: &Block) -> Option<Head>
     ensures found { IfSome result (λ h. IsHead h × (b.now ≡ head_block format h)) }
     ensures none { IfNone result ((h : Head) → IsHead h → b.now ≡ head_block format h → ⊥) }
 
-    // What was written is read back, so a head has one block.
+    // What was written is decoded as itself, so a head has exactly one block.
     ensures again { (h : Head) → IsHead h → b.now ≡ head_block format h → result ≡ Some h }
 {
     let h = fields_of(b);
@@ -47,7 +47,7 @@ pub fn decode_head_in(format: Format, b: &Block) -> Option<Head>
     }
 }
 
-/// What stands in the fields of a head's block.
+/// The head in the fields of a head's block.
 fn fields_of(b: &Block) -> Head
     ensures { (format : Format) (h : Head) → IsHead h → b.now ≡ head_block format h → result ≡ h }
 {

@@ -25,7 +25,7 @@ pub(crate) fn put_word(writer: &mut BlockWriter, word: &[u8])
     writer.put_padded(12, word);
 }
 
-/// MONEY, where the format has it.
+/// MONEY, if the format has it.
 #[tactic(auto, using(crate::proofs::FieldLemmas::field_lengths))]
 pub(crate) fn put_money(writer: &mut BlockWriter, format: Format, money: u64)
     requires { length writer.old + 8 ≤ 512 }
@@ -73,7 +73,7 @@ pub(crate) fn put_copy(writer: &mut BlockWriter, copy: Option<TapeCopy>)
     }
 }
 
-/// The four characters of a language, with the spaces behind it.
+/// The four characters of a language, padded with spaces.
 pub(crate) fn put_lang(writer: &mut BlockWriter, lang: &Lang)
     requires { length writer.old + 4 ≤ 512 }
     ensures fields { writer.new ≡ writer.old ++ lang_field lang.now }
@@ -101,7 +101,7 @@ pub(crate) fn put_traps(writer: &mut BlockWriter, traps: &Traps)
     writer.put_zeros(16 - 2 * others.len());
 }
 
-/// Whether a file is online, and its block numbers where it is.
+/// Whether a file is online, and its block numbers if it is.
 pub(crate) fn put_online(writer: &mut BlockWriter, format: Format, online: Option<&BlockList>)
     requires places { IfSome (option_copied online) (λ places. list_all (is_place format) places ≡ true) }
     requires room { length writer.old + 385 ≤ 512 }

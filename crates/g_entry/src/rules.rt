@@ -1,4 +1,4 @@
-//! The rules that the users and files of one directory keep among each other.
+//! The rules that the users and files of a directory satisfy together.
 ghost use Rattle.std.specs.Prelude.{◌≡◌, ◌≢◌, ◌↔◌, All, AllPairs, IfOk, IsTrue};
 ghost use Rattle.g_entry.specs.FileNames.{name_of};
 ghost use Rattle.g_entry.specs.Rules.{AreFiles, AreUsers, SameName, StampsBelow};
@@ -9,8 +9,8 @@ use g_base::{NoMemory, are_distinct};
 use g_name::{Lang, Local};
 use std::alloc::Global;
 
-/// Whether users keep the rules among each other (docs/FORMATS.md): they have the numbers of their places, MASTER and
-/// MACROS come first, a superior stands before its subjects, and no two have one name.
+/// Whether the users satisfy the rules together (docs/FORMATS.md): each has its position as its number, MASTER and
+/// MACROS come first, a superior precedes its subjects, and names are distinct.
 pub fn users_keep(alloc: Global, users: &[UserRec]) -> Result<bool, NoMemory>
     ensures { IfOk result (λ keep. IsTrue keep ↔ AreUsers users.now) }
 {
@@ -20,8 +20,8 @@ pub fn users_keep(alloc: Global, users: &[UserRec]) -> Result<bool, NoMemory>
     names_differ(alloc, users)
 }
 
-/// Whether each user has the number of its place, the first two are those that every filestore has, and all others are
-/// below users before them.
+/// Whether each user has its position as its number, the first two are those of every filestore, and the superior of
+/// each other user precedes it.
 fn places_are_kept(users: &[UserRec]) -> bool
     ensures { IsTrue result ↔ KeepPlaces users.now }
 {
@@ -49,16 +49,16 @@ fn is_valid_user_place(i: usize, user: &UserRec) -> bool
     }
 }
 
-/// Whether no two users have one name.
+/// Whether the users' names are distinct.
 fn names_differ(alloc: Global, users: &[UserRec]) -> Result<bool, NoMemory>
     ensures { IfOk result (λ differ. IsTrue differ ↔ AllPairs (λ u v. u.user ≢ v.user) users.now) }
 {
     are_distinct(alloc, users, |user| user.user.copy())
 }
 
-/// Whether files keep the rules among each other (docs/FORMATS.md), where there are so many users: owners and those who
-/// are trapped are users, no two files have one full name or one stamp, an empty file has no copy on tape, and there are
-/// at most 1,024.
+/// Whether the files satisfy the rules together (docs/FORMATS.md) in a directory of `users` users: owners and trapped
+/// users are users, full names and stamps are distinct, an empty file has no copy on tape, and there are at most 1,024
+/// files.
 pub fn files_keep(alloc: Global, users: usize, files: &[FileRec]) -> Result<bool, NoMemory>
     ensures { IfOk result (λ keep. IsTrue keep ↔ AreFiles users files.now) }
 {
@@ -68,7 +68,7 @@ pub fn files_keep(alloc: Global, users: usize, files: &[FileRec]) -> Result<bool
     files_differ(alloc, files)
 }
 
-/// Whether each file keeps the rules that concern no other file.
+/// Whether each file satisfies the rules that concern no other file.
 fn all_keep(users: usize, files: &[FileRec]) -> bool
     ensures { IsTrue result ↔ All (KeepsAlone users) files.now }
 {
@@ -87,7 +87,7 @@ fn file_keeps(users: usize, r: &FileRec) -> bool
         && (r.len != 0 || r.tape.is_none())
 }
 
-/// The full name of a file, with its owner's number.
+/// The full name of a file, with the number of its owner.
 #[derive(PartialEq, Eq, Hash, Drop)]
 struct FileName {
     owner: u8,
@@ -96,7 +96,7 @@ struct FileName {
     lang: Lang,
 }
 
-/// Whether no two files have one full name or one stamp.
+/// Whether full names and stamps are distinct.
 fn files_differ(alloc: Global, files: &[FileRec]) -> Result<bool, NoMemory>
     ensures { IfOk result (λ differ. IsTrue differ ↔
         (AllPairs (λ r s. SameName r s → ⊥) files.now × AllPairs (λ r s. r.stamp ≢ s.stamp) files.now)) }
@@ -104,7 +104,7 @@ fn files_differ(alloc: Global, files: &[FileRec]) -> Result<bool, NoMemory>
     Ok(full_names_differ(alloc, files)? && stamps_differ(alloc, files)?)
 }
 
-/// Whether no two files have one full name.
+/// Whether full names are distinct.
 fn full_names_differ(alloc: Global, files: &[FileRec]) -> Result<bool, NoMemory>
     ensures { IfOk result (λ differ. IsTrue differ ↔ AllPairs (λ r s. SameName r s → ⊥) files.now) }
 {
@@ -122,14 +122,14 @@ fn file_name(r: &FileRec) -> FileName
     }
 }
 
-/// Whether no two files have one stamp.
+/// Whether stamps are distinct.
 fn stamps_differ(alloc: Global, files: &[FileRec]) -> Result<bool, NoMemory>
     ensures { IfOk result (λ differ. IsTrue differ ↔ AllPairs (λ r s. r.stamp ≢ s.stamp) files.now) }
 {
     are_distinct(alloc, files, |r| r.stamp)
 }
 
-/// Whether no file is as new as the version that is made next.
+/// Whether each file's stamp is less than that of the next version.
 pub fn stamps_are_below(next: u64, files: &[FileRec]) -> bool
     ensures { IsTrue result ↔ StampsBelow next files.now }
 {

@@ -1,8 +1,8 @@
 //! Whether two blocks are the same.
 ghost use Rattle.std.specs.Prelude.{◌≡◌, ◌↔◌, IsTrue, length};
 
-/// Whether two texts of one length, as two blocks, are the same. It looks at all bytes: without a way out of the loop a
-/// compiler takes many at a time.
+/// Whether two texts of equal length, such as two blocks, are the same. It reads all bytes: without an early exit a
+/// compiler compares many at a time.
 pub fn is_same(one: &[u8], other: &[u8]) -> bool
     requires { length one.now ≡ length other.now }
     ensures { IsTrue result ↔ (one.now ≡ other.now) }
@@ -14,7 +14,7 @@ pub fn is_same(one: &[u8], other: &[u8]) -> bool
     same
 }
 
-/// Whether all were the same, and these two are.
+/// Whether the bytes so far and these two were the same.
 fn still_same(same: bool, one: u8, other: u8) -> bool
     ensures { IsTrue result ↔ (IsTrue same × (one ≡ other)) }
 {

@@ -1,5 +1,5 @@
-//! Reads the parts of a record. Each call undoes the one that writes the part; of other bytes it says nothing, since a
-//! decoder compares the whole block.
+//! Reads the parts of a record. Each call is the inverse of the one that writes the part. For other bytes the result is
+//! unspecified, since a decoder compares the whole block.
 ghost use Rattle.std.specs.Prelude.{◌≡◌, ◌≤◌, ◌+◌, ◌^◌, ◌<◌, ◌*◌, ℕ, List, nat_lt, true, ◌∷◌, ◌++◌, length, drop, Option, Some, IfSome, IsSomeAnd};
 ghost use Rattle.std.specs.List.{flat_map, list_all};
 ghost use Rattle.g_base.specs.Fields.{number, padded};
@@ -40,7 +40,7 @@ pub(crate) fn take_local(reader: &mut BlockReader) -> Option<Local>
     Local::new(front_of(len, field))
 }
 
-/// So many bytes of a field, or all where it has fewer.
+/// The first `len` bytes of a field, or all of it if it is shorter.
 fn front_of(len: u8, field: &[u8]) -> &[u8]
     ensures { (bytes : List ℕ) → length bytes ≤ length field.now → len ≡ length bytes → field.now ≡ padded (length field.now) bytes
         → result.now ≡ bytes }
@@ -48,7 +48,7 @@ fn front_of(len: u8, field: &[u8]) -> &[u8]
     &field[..field.len().min(usize::from(len))]
 }
 
-/// A language, with the spaces behind it.
+/// A language, padded with spaces.
 pub(crate) fn take_lang(reader: &mut BlockReader) -> Option<Lang>
     requires { 4 ≤ length reader.old }
     ensures left { length reader.new + 4 ≡ length reader.old }
@@ -136,7 +136,7 @@ fn traps_of(owner: u8, count: u8, field: &[u8]) -> Option<Traps>
     Traps::of(owner, others.as_slice())
 }
 
-/// Pairs of a user's number and modes: none where a number says no modes.
+/// Pairs of a user's number and modes. `None` if a number isn't a valid set of modes.
 fn pairs_of(count: u8, field: &[u8]) -> Option<ArrayVec<(u8, Modes), 8>>
     requires { length field.now ≡ 16 }
     ensures { (pairs : List (ℕ × ℕ)) → length pairs ≤ 8 → list_all (λ pair. nat_lt pair.1 32) pairs ≡ true → count ≡ length pairs

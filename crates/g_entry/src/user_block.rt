@@ -17,14 +17,14 @@ pub fn encode_user_in(format: Format, r: &UserRec) -> Block
     encode_user_held(format, r, false)
 }
 
-/// The user of this number whose block on disc it is, in a format. None exactly where no user has that block.
+/// The user of this number with this block on disc, in a format. `None` if and only if no user has that block.
 pub fn decode_user_in(format: Format, b: &Block, number: u8) -> Option<UserRec>
     ensures found { IfSome result (λ r. (r.number ≡ number) × IsUser format r
         × (b.now ≡ user_block format 0 r)) }
     ensures none { IfNone result ((r : UserRec) → r.number ≡ number → IsUser format r
         → b.now ≡ user_block format 0 r → ⊥) }
 
-    // What was written is read back, so a user has one block.
+    // What was written is decoded as itself, so a user has exactly one block.
     ensures again { (r : UserRec) → r.number ≡ number → IsUser format r
         → b.now ≡ user_block format 0 r → result ≡ Some r }
 {
@@ -34,8 +34,8 @@ pub fn decode_user_in(format: Format, b: &Block, number: u8) -> Option<UserRec>
     }
 }
 
-/// The block of a user in a dump, whose byte 27 says whether the user's files are held in that dump (docs/FORMATS.md). On
-/// disc it is 0 for all.
+/// The block of a user in a dump. Its byte 27 says whether the dump has the user's files (docs/FORMATS.md); on disc it is
+/// 0.
 pub fn encode_user_held(format: Format, r: &UserRec, held: bool) -> Block
     requires { IsUser format r.now }
     ensures { result ≡ user_block format (held_byte held) r.now }
@@ -45,7 +45,7 @@ pub fn encode_user_held(format: Format, r: &UserRec, held: bool) -> Block
     writer.finish()
 }
 
-/// Puts the fields of a user's block into a writer that has nothing yet, so that the block needn't move.
+/// Writes the fields of a user's block to a new writer, so that the block needn't be moved.
 #[tactic(auto, using(crate::proofs::FieldLemmas::field_lengths, crate::proofs::FieldLemmas::name_lengths), unfolding(crate::specs::UserFields::user_fields))]
 pub fn put_user(writer: &mut BlockWriter, format: Format, r: &UserRec, held: bool)
     requires empty { writer.old ≡ [] }
@@ -68,15 +68,15 @@ fn flag(held: bool) -> u8
     if held { 1 } else { 0 }
 }
 
-/// The user of this number whose block in a dump it is, and whether the user is held. None exactly where no user has that
-/// block.
+/// The user of this number with this block in a dump, and whether the dump has the user's files. `None` if and only if no
+/// user has that block.
 pub fn decode_user_held(format: Format, b: &Block, number: u8) -> Option<(UserRec, bool)>
     ensures found { IfSome result (λ f. (f.0.number ≡ number) × IsUser format f.0
         × (b.now ≡ user_block format (held_byte f.1) f.0)) }
     ensures none { IfNone result ((r : UserRec) (held : Bool) → r.number ≡ number → IsUser format r
         → b.now ≡ user_block format (held_byte held) r → ⊥) }
 
-    // What was written is read back, so a user has one block, and it tells whether the user is held.
+    // What was written is decoded as itself, so a user has exactly one block, which says whether the user is held.
     ensures again { (r : UserRec) (held : Bool) → r.number ≡ number → IsUser format r
         → b.now ≡ user_block format (held_byte held) r → result ≡ Some (r, held) }
 {
@@ -88,7 +88,7 @@ pub fn decode_user_held(format: Format, b: &Block, number: u8) -> Option<(UserRe
     }
 }
 
-/// What stands in the fields of a user's block.
+/// The user in the fields of a user's block.
 fn fields_of(format: Format, b: &Block, number: u8) -> Option<(UserRec, bool)>
     ensures number { IfSome result (λ f. f.0.number ≡ number) }
     ensures again { (r : UserRec) (held : Bool) → r.number ≡ number → IsUser format r

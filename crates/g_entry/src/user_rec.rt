@@ -3,7 +3,7 @@ ghost use Rattle.std.specs.Prelude.{◌≡◌};
 
 use g_name::User;
 
-/// A user, whose number is the place of the record among those of users. SPACE counts blocks of 512 bytes, TIME units.
+/// A user. Its number is the position of its record in the directory. SPACE counts blocks of 512 bytes, TIME units.
 #[derive(Drop, PartialEq, Eq)]
 pub struct UserRec {
     pub number: u8,
@@ -16,7 +16,7 @@ pub struct UserRec {
 }
 
 impl UserRec {
-    /// The same record once more, which takes no memory.
+    /// A copy of the record. It allocates nothing.
     pub fn copy(&self) -> UserRec
         ensures { result ≡ self.now }
     {

@@ -1,5 +1,5 @@
 -- Files of zeros.
--- serves: `is_blank`, `make_blank`
+-- serves: is_blank (blank)
 use Rattle.std.proofs.Common.{◌≡◌, ℕ, ◌+◌, ◌-◌, ◌≤◌, List, ◌++◌, length, take, drop, replicate, Ok, sym, ap, ◌∙◌, arith}
 use Rattle.std.specs.Prelude.{Option}
 use Rattle.std.specs.Option.{ForSome}

@@ -1,5 +1,5 @@
 -- What single calls do to a file in memory.
--- serves: `MemoryFile`
+-- serves: len (bytes), write_at (written)
 use Rattle.std.proofs.Common.{◌≡◌, ℕ, ◌+◌, ◌-◌, ◌<◌, ◌≤◌, List, ◌++◌, length, take, drop, get_or, replicate, Result, Ok, Err, IfOk, OnErr, OnOk, Some, refl, sym, ap, subst, ◌∙◌, inl, inr, arith, length-take}
 use Rattle.std.proofs.lemmas.Bool.{cases_lt}
 use Rattle.std.proofs.lemmas.List.{get_or-replicate, get_or-take, get_or_past, length-replicate, take-take}

@@ -1,5 +1,5 @@
 -- What several reads or writes of a stream do one after another.
--- serves: `read_some`, `put_whole`
+-- serves: put_whole
 use Rattle.std.proofs.Common.{◌≡◌, ℕ, ◌+◌, List, ◌++◌, take, drop, Some, None, refl, sym, ap, subst, ◌∙◌}
 use Rattle.std.specs.Prelude.{Option}
 use Rattle.std.specs.Option.{ForSome}

@@ -1,4 +1,4 @@
-//! Blocks of a text, counts and fuses by rows that were worked out by hand.
+//! Blocks of a text, counts and fuses, by rows that were worked out manually.
 use g_base::{BlockList, Fuse, are_distinct, blocks_for, raised};
 
 #[test]

@@ -1,8 +1,7 @@
 //! The worked rows of the choice, of budgets and of a tariff.
-ghost use Rattle.g_sched.specs.Rule.{IsInRange};
+ghost use Rattle.g_rules.specs.Rule.{IsInRange};
 
-use g_budget::{Account, Charge, NoMoney, NoTime, Tariff, Usage};
-use g_sched::{Standing, WeighRule, choose};
+use g_rules::{Charge, Standing, Tariff, Usage, WeighRule, choose};
 
 /// Two jobs, of 50 and of 10 units: what was charged to each before the choice, and the place chosen.
 static CHOICES: [(u64, u64, usize); 8] = [
@@ -48,19 +47,7 @@ fn the_least_share_of_its_allowance_goes(rt: HostRuntime) {
 }
 
 #[test]
-fn accounts_and_prices(rt: HostRuntime) {
-    let mut account: Account<NoTime> = Account::new(100);
-    assert!(rt; account.reserve(60) == Ok(()));
-    assert!(rt; account.left() == 40);
-    assert!(rt; account.reserve(41) == Err(NoTime { ask: 41, left: 40 }));
-    account.settle(60, 10);
-    assert!(rt; account.left() == 90);
-    let mut money: Account<NoMoney> = Account::new(999_996);
-    let refused = NoMoney {
-        ask: 1_000_000,
-        left: 999_996,
-    };
-    assert!(rt; money.reserve(1_000_000) == Err(refused));
+fn a_price(rt: HostRuntime) {
     let tariff = Tariff::new(|usage: &Usage| Charge {
         units: 2 + u64::from(usage.orders),
         money: 0,

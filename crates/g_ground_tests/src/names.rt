@@ -1,4 +1,4 @@
-//! Names, good and bad, with the places taken from the grammar by hand.
+//! Names, good and bad, with the bad places derived manually from the grammar.
 use g_name::{BadName, Full, Lang, Local, Path, Text, User, parse_path};
 use std::process::Abort;
 
@@ -81,7 +81,7 @@ static BAD: [(&[u8], usize); 36] = [
     (b"F(2/ABCDE)", 8),
 ];
 
-/// What is no user, and no local name.
+/// Texts that are no user and no local name.
 static NO_USERS: [(&[u8], usize); 7] = [
     (b"", 0),
     (b"A", 0),
@@ -100,7 +100,7 @@ static NO_LOCALS: [(&[u8], usize); 5] = [
     (b"ABCDEFGHIJKLM", 12),
 ];
 
-/// Whether a name is the one that is wanted.
+/// Whether a name is the expected one.
 fn is_name(name: &[u8], wanted: Option<&[u8]>) -> bool {
     match wanted {
         Some(wanted) => name == wanted,
@@ -154,7 +154,7 @@ fn bad_names(rt: HostRuntime) {
     }
 }
 
-/// The full name of a text that gives its user and generation.
+/// The full name of a text with user and generation.
 fn full_of(rt: &impl Abort, text: &[u8]) -> Full {
     let Path {
         user,

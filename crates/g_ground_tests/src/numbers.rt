@@ -1,7 +1,7 @@
 //! Rows of numbers.
 use std::process::Abort;
 
-/// The numbers of a row, at most 16, with zeros behind them. They are written in octal or in decimal, which is its base.
+/// The numbers of a row, at most 16, filled up with zeros. They are written in octal or in decimal, as the base says.
 pub(crate) fn numbers(rt: &impl Abort, base: u32, row: &str) -> [u32; 16] {
     assert!(rt; base == 8 || base == 10);
     let mut numbers = [0; 16];

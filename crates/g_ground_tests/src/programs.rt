@@ -1,4 +1,4 @@
-//! Steps of small programs, program files and transfers. Every expected word is reckoned by hand, in octal.
+//! Steps of small programs, program files and transfers. Every expected word was computed manually, in octal.
 
 mod rows;
 mod texts;
@@ -19,7 +19,7 @@ fn word(rt: &impl Abort, bits: u32) -> Word {
     Word::new(bits).expect(rt, "24 bits")
 }
 
-/// Puts words at addresses.
+/// Writes words to addresses.
 fn put(rt: &impl Abort, program: &mut Program, words: &[(u32, u32)]) {
     for (address, bits) in words {
         assert!(rt; *address < program.size());
@@ -38,7 +38,7 @@ fn shows(rt: &impl Abort, program: &Program, words: &[(u32, u32)]) {
     }
 }
 
-/// Does an order, which tells this and goes on there.
+/// Executes an order, which has this event and continues at this address.
 fn steps(rt: &impl Abort, program: &mut Program, event: &Event, next: u32) {
     assert!(rt; program.step() == *event);
     assert!(rt; u32::from(program.next()) == next, "at {next}");
@@ -51,8 +51,8 @@ fn order(rt: &impl Abort, x: u32, f: u32, m: u32, n: u32) -> Word {
     encode(&order.expect(rt, "an order"))
 }
 
-/// Does the order of a row at word 21 of a program of 32 words, behind one that sets overflow or doesn't, and compares what is
-/// behind it. An order that leaves the next address at 21 must be illegal.
+/// Executes the order of a row at word 21 of a program of 32 words, after one that sets overflow or doesn't, and compares the state after it. An
+/// order that leaves the next address at 21 must be illegal.
 fn check(rt: &(impl Abort + AllocGlobal), row: &str) {
     let [
         x,
@@ -73,7 +73,7 @@ fn check(rt: &(impl Abort + AllocGlobal), row: &str) {
         _,
     ] = numbers(rt, 8, row);
     let order = order(rt, x, f, m, n);
-    // ADN 7 1 on the greatest number, or NULL
+    // ADN 7 1 on the greatest number, or NULL.
     let first = if overflow == 1 {
         0o74040001
     } else {
@@ -165,13 +165,13 @@ fn worked_rows(rt: HostRuntime) {
     );
 }
 
-/// At its entry 0 it takes 1 off its first accumulator, 2 at first, until that is 0, and then asks for a transfer.
+/// At its entry 0 it subtracts 1 from its first accumulator, which is 2, until it is 0, and then requests a transfer.
 static COUNTING: &[u8] = b"00000040\n00000002\n\
     00000000\n00000000\n00000000\n00000000\n00000000\n00000000\n00000000\n00000000\n\
     00000000\n00000000\n00000000\n00000000\n00000000\n00000000\n00000000\n00000000\n\
     00000000\n00000000\n00000000\n04140001\n02500024\n06740010\n";
 
-/// Orders at one stretch; and PERI with an address that wraps: 100 and 32,766 are 98.
+/// Many orders in one run; and PERI with an address that wraps: 100 and 32,766 are 98.
 #[test]
 fn stretches(rt: HostRuntime) {
     let mut program = loaded(&rt, COUNTING);
@@ -186,8 +186,8 @@ fn stretches(rt: HostRuntime) {
     steps(&rt, &mut program, &Event::Peri { area: 98 }, 21);
 }
 
-/// A program of 32,768 words, loaded and stepped once; its first order is none, so that a run does nothing. And files that
-/// are none, with their first bad line, the last of them of 32 words with a line behind the last one.
+/// A program of 32,768 words, loaded and stepped once; its first word is no order, so a run executes nothing. And files that aren't programs, with
+/// their first bad line, the last of them of 32 words with a line after the last one.
 #[test]
 fn ample(rt: HostRuntime) {
     let mut program = loaded(&rt, b"00100000\n12345670\n77777777\n");
@@ -199,7 +199,7 @@ fn ample(rt: HostRuntime) {
     );
     assert!(rt; program.word(32768) == None);
     assert!(rt; program.next() == 0 && !program.overflow());
-    // no order has the function 047
+    // No order has the function 047.
     assert!(rt; program.run(64) == 0 && program.next() == 0);
     let none = word(&rt, 0o12345670);
     steps(&rt, &mut program, &Event::Illegal { word: none, at: 0 }, 0);

@@ -1,4 +1,4 @@
-//! One record of each kind in each format, against bytes that were written out by hand.
+//! One record of each kind in each format, compared with bytes that were written out manually.
 use g_base::{Block, BlockList};
 use g_entry::{
     FileRec, Format, Head, Intent, TapeCopy, UserRec, decode_file_in, decode_head_in,
@@ -20,7 +20,7 @@ static FILE: [u8; 61] =
 static HEAD: [u8; 39] =
     *b"G3SL\x00\x02\x01\x02\x03\x04\x05\x06\x07\x08\0\0\0\0\0\0\0\x07\x01\x00\x0f\x42\x3f\x01\x02\x03\x04\0\0\0\0\0\0\0\x08";
 
-/// The pieces one behind the other, with zeros behind them.
+/// The pieces in order, filled up with zeros.
 fn block_of(pieces: [&[u8]; 2]) -> Block {
     let mut block = [0; 512];
     let mut at = 0;
@@ -43,7 +43,7 @@ fn with_byte(block: &Block, at: usize, byte: u8) -> Block {
     changed
 }
 
-/// A byte of a user that makes the block none: its place, and the byte.
+/// A byte that makes a user's block invalid: its place, and the byte.
 static BAD_USERS: [(usize, u8); 10] = [
     (0, 0),
     (1, 0),
@@ -88,7 +88,7 @@ fn users(rt: HostRuntime) {
 #[test]
 fn users_in_a_dump(rt: HostRuntime) {
     let block = block_of([&USER, b""]);
-    // The byte that says whether the user is held, and the answer.
+    // The byte that says whether the user is held, and the result.
     for (byte, want) in [(0, Some(false)), (1, Some(true)), (2, None), (255, None)] {
         let written = with_byte(&block, 27, byte);
         let found = decode_user_held(Format::Two, &written, 2);
@@ -114,7 +114,7 @@ fn first_user(number: u8, user: User) -> UserRec {
     }
 }
 
-/// The same of a file.
+/// The same for a file.
 static BAD_FILES: [(usize, u8); 20] = [
     (0, 2),
     (2, 2),
@@ -175,7 +175,7 @@ fn files(rt: HostRuntime) {
     assert!(rt; decode_file_in(Format::Two, &empty_block(), 5).is_none());
 }
 
-/// The same of a head.
+/// The same for a head.
 static BAD_HEADS: [(usize, u8); 9] = [
     (0, 0),
     (4, 1),

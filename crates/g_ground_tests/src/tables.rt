@@ -24,7 +24,7 @@ fn file(rt: &impl Abort, number: u16) -> FileRec
     }
 }
 
-/// Two groups of numbers that are full, and a third: the least free number is in the second, then behind it.
+/// Two groups of numbers that are full, and a third: the least free number is in the second, then after it.
 #[test]
 fn ample(rt: HostRuntime) {
     let mut table = NumberTable::new(rt.alloc()).expect(&rt, "memory");
@@ -50,7 +50,7 @@ fn ample(rt: HostRuntime) {
     assert!(rt; table.len() == 1_024);
 }
 
-/// Files are walked over by number, in whatever order they came.
+/// Files are visited by number, for any order in which they were added.
 #[test]
 fn files(rt: HostRuntime) {
     let mut table = FileTable::new(rt.alloc()).expect(&rt, "memory");

@@ -1,4 +1,4 @@
-//! Each call once, on a file of user 0 that more and more users are let into.
+//! Each call once, on a file of user 0 to which more and more users get access.
 use g_trap::{Mode, Modes, Traps, TrapsFull};
 
 #[test]

@@ -1,4 +1,4 @@
-//! Worked values, reckoned by hand: words, characters and the orders that words hold, in octal as they are written on paper.
+//! Worked values, computed manually: words, characters and the orders of words, in octal.
 use crate::numbers::numbers;
 use g_order::{Condition, Function, Illegal, Operation, Order, decode, encode};
 use g_word::{Word, byte_of, code_of};
@@ -57,8 +57,7 @@ fn words(rt: HostRuntime) {
     }
 }
 
-/// A byte coming in, its code, and the byte going out again: of `0`, `?`, ` `, `/`, `@`, `H`, `_`, `h`, `~`, and of bytes that
-/// have no code.
+/// A byte, its code, and the byte of that code: for `0`, `?`, ` `, `/`, `@`, `H`, `_`, `h`, `~`, and for bytes that have no code.
 static CODES: &str = "60 0 60
 77 17 77
 40 20 40
@@ -99,7 +98,7 @@ fn characters(rt: HostRuntime) {
     }
 }
 
-/// A word, the X, F, M and N of its order, and what that does.
+/// A word, the X, F, M and N of its order, and its function.
 static ORDERS: [(u32, u8, u8, u8, u16, Function); 9] = [
     (0o10020024, 1, 0o000, 2, 20, Function::Load(Operation::Take)),
     (
@@ -147,7 +146,7 @@ fn orders(rt: HostRuntime) {
             "{bits}"
         );
     }
-    // words that no row has: 004, 060, 074 with X 5, 077, 160 with X 3, 177
+    // Words without an order: 004, 060, 074 with X 5, 077, 160 with X 3, 177.
     for bits in [
         0o00200000, 0o03000000, 0o53600000, 0o03760000, 0o37000000, 0o07740000,
     ] {

@@ -1,4 +1,5 @@
--- A dump that stands on a reel, put together from its header, its records and its mark, and taken apart.
+-- A dump on a reel, composed of its header, its records and its mark, and decomposed into them.
+-- serves: read_dump (none, read, some), read_mark (again, found), read_records (found)
 use Rattle.std.proofs.Common.{◌≡◌, ℕ, zero, suc, ◌+◌, ◌-◌, ◌^◌, ◌<◌, ◌≤◌, Bool, false, List, [], ◌∷◌, ◌++◌, length, get_or, take, drop, replicate, Option, Some, None, refl, sym, ◌∙◌, ap, arith, slice_get, subst, inl, inr}
 use Rattle.std.specs.Prelude.{◌⊎◌, All, IfNone, IfSome, IsTrue, map}
 use Rattle.std.specs.Option.{ForSome}
@@ -29,7 +30,7 @@ use Rattle.g_incr.proofs.PieceLemmas.{at_header, at_mark}
 use Rattle.g_incr.proofs.RuleLemmas.{moved}
 use Rattle.g_incr.proofs.TapeLemmas.{ReadsTape, same_len}
 
--- PUT TOGETHER
+-- Composing a dump.
 abbrev pub dump_from : ℕ → Header → DumpDir → List (List ℕ) → Dump
 dump_from serial h dir content = record {
   format = h.format;
@@ -193,7 +194,7 @@ module _ (bs : List (List ℕ)) (e : Dump) (stands : StandsOn bs e) where
         };
       }
 
--- NO DUMP STANDS THERE
+-- No dump is at this place.
 pub none_by_header : (serial place : ℕ) (rack : Rack) → FindsHeader serial place rack None → HasNone serial place rack
 none_by_header serial place rack finds = λ bs told d on at stands.
     let found = finds bs told d stands.rules at (ap (slice_get bs) (sym at) ∙ header_there bs d stands) in

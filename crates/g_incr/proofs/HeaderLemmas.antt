@@ -1,4 +1,5 @@
--- The header and the mark of a dump, as they are written and read.
+-- Writing and reading the header and the mark of a dump.
+-- serves: encode_header, encode_mark, fields_of
 use Rattle.std.proofs.Common.{◌≡◌, ℕ, ◌+◌, ◌-◌, ◌^◌, ◌<◌, List, [], ◌++◌, length, replicate, refl, sym, ◌∙◌, ap, arith}
 use Rattle.std.specs.Prelude.{codes}
 use Rattle.std.proofs.lemmas.List.{append-nil, length-append, length-replicate}
@@ -12,7 +13,7 @@ use Rattle.g_incr.specs.Layout.{Dump, IsDump, count_of, header_block, header_fie
 use Rattle.g_incr.specs.Notes.{IsHeaderOf, IsNoteOf}
 use Rattle.g_incr.proofs.OneLemmas.{header_peeled, header_zeros}
 
--- a number that was put
+-- A number that was written.
 pub put_length : (n x : ℕ) (old new : List ℕ) → new ≡ old ++ number n x → length new ≡ length old + n
 put_length n x old new is = ap length is ∙ length-append old (number n x) ∙ ap (λ k. length old + k) (length-number n x)
 
@@ -38,7 +39,7 @@ header_written h w0 w1 w2 w3 w4 w5 w6 w7 w8 e0 e1 e2 e3 e4 e5 e6 e7 e8 d of =
     ap (padded 512) (e8 ∙ ap (λ (w : List ℕ). w ++ number 8 h.note.next_stamp) s7
     ∙ ap (λ (n : ℕ). codes "G3HD" ++ number 2 (format_number d.format) ++ number 8 d.number ++ number 4 d.place ++ number 4 (count_of d) ++ number 2 (length d.users) ++ number 2 (length d.files) ++ number 8 n) is_next)
 
--- a full block has no zeros behind it
+-- A full block needs no padding.
 padded_full : (n : ℕ) (bytes : List ℕ) → length bytes ≡ n → padded n bytes ≡ bytes
 unfolding padded
 padded_full n bytes long = ap (λ (k : ℕ). bytes ++ replicate {A = ℕ} k 0) (let none : n - length bytes ≡ 0 = omega arith in none) ∙ append-nil bytes

@@ -1,4 +1,5 @@
--- Lists, and what stands at their places.
+-- Lists, and the items at their positions.
+-- serves: read_blocks (fewer), read_dump (read, some), read_mark (again, found), records_in (none), DumpLemmas, PieceLemmas, RecordsLemmas, and 3 more
 use Rattle.std.specs.Prelude.{IfNone, IfSome, map}
 use Rattle.std.proofs.Common.{◌≡◌, ◌⊎◌, inl, inr, ℕ, zero, suc, ◌+◌, ◌<◌, ◌≤◌, List, [], ◌∷◌, ◌++◌, length, take, drop, get_or, Option, Some, None, refl, sym, ◌∙◌, ap, arith, slice_get, subst}
 
@@ -36,7 +37,7 @@ get_some [] i within = absurd (let no : ⊥ = omega arith in no)
 get_some (y ∷ ys) zero within = (y, refl)
 get_some (y ∷ ys) (suc i) within = get_some ys i (omega arith)
 
--- what stands in a list with one more behind it
+-- The items of a list with one more appended.
 pub get_push : {X : Type 0} (xs : List X) (y : X) (i : ℕ) (x : X) → slice_get (xs ++ y ∷ []) i ≡ Some x → (slice_get xs i ≡ Some x) ⊎ ((i ≡ length xs) × (x ≡ y))
 get_push [] y zero x is = inr (refl, cc)
 get_push [] y (suc i) x is = absurd (let no : ⊥ = cc in no)
@@ -68,7 +69,7 @@ one_at zero (y ∷ ys) x is = let same : y ≡ x = cc in ap (λ z. z ∷ []) sam
 one_at (suc k) [] x is = absurd (let no : ⊥ = cc in no)
 one_at (suc k) (y ∷ ys) x is = one_at k ys x is
 
--- what a clause says of an option, where it is known which it is
+-- The meaning of a clause about an option, once the option is known.
 pub at_some : {X : Type 0} (o : Option X) (x : X) (P : X → Type 0) → o ≡ Some x → IfSome o P → P x
 at_some {X = X} o x P is has = subst (λ (q : Option X). IfSome q P) is has
 

@@ -1,4 +1,5 @@
--- Records that are numbered one behind the other.
+-- Records that are numbered consecutively.
+-- serves: PlanLemmas, crates above
 use Rattle.std.proofs.Common.{◌≡◌, ℕ, zero, suc, ◌+◌, ◌<◌, List, [], ◌∷◌, ◌++◌, length, get_or, All, refl, ◌∙◌, ap, arith}
 use Rattle.std.proofs.lemmas.List.Elements.{All-cons, All-head, All-nil, All-tail}
 use Rattle.g_entry.specs.declared.file_rec.FileRec.{FileRec}
@@ -16,7 +17,7 @@ pub length-numbered : (n : ℕ) (xs : List FileRec) → length (numbered_from n 
 length-numbered n [] = refl
 length-numbered n (x ∷ xs) = ap suc (length-numbered (n + 1) xs)
 
--- numbered as they stand
+-- Each record has its position as its number.
 pub number_at : (n : ℕ) (rs : List FileRec) (i : ℕ) (d : FileRec) → i < length (numbered_from n rs) → (get_or (numbered_from n rs) i d).number ≡ n + i
 number_at n [] i d within = let no : ⊥ = omega (arith, within) in absurd no
 number_at n (r ∷ rs) zero d within = let sum : n ≡ n + 0 = omega arith in sum

@@ -1,4 +1,5 @@
 -- Two dumps with the same blocks are one.
+-- serves: HeaderLemmas, RecordsLemmas, crates above
 use Rattle.std.proofs.Common.{◌≡◌, ◌⊎◌, ℕ, suc, ◌+◌, ◌-◌, ◌<◌, ◌≤◌, Bool, true, false, List, [], ◌∷◌, ◌++◌, length, get_or, take, drop, replicate, Some, None, refl, sym, ◌∙◌, ap, arith, slice_get, subst, inl, inr}
 use Rattle.std.specs.Prelude.{◌==◌, ◌||◌, map, codes, All, IfSome, option_map, if◌then◌else◌, slice_index}
 use Rattle.std.specs.List.Sorted.{IsStrictlyIncreasing}
@@ -17,7 +18,7 @@ use Rattle.g_entry.proofs.OneEncoding.{file_again, same_format, user_held_again}
 use Rattle.g_entry.proofs.RecordLemmas.{format_fits}
 use Rattle.g_incr.specs.Layout.{Dump, IsDump, count_of, dump_blocks, header_block, header_fields, holds, mark_block, numbers_in, user_in, file_in}
 
--- two lists of one length in front of the same blocks
+-- Two lists of equal length that precede the same blocks.
 pub same_front : (xs ys a b : List (List ℕ)) → length xs ≡ length ys → xs ++ a ≡ ys ++ b → (xs ≡ ys) × (a ≡ b)
 same_front xs ys a b long is = (
   sym (take_at xs a (length xs) refl) ∙ ap (take (length xs)) is ∙ take_at ys b (length xs) (sym long),
@@ -33,7 +34,7 @@ pub header_peeled : (d : Dump) → header_block d
 unfolding header_fields padded
 header_peeled d = simp append_assoc
 
--- what a header tells
+-- The facts that a header determines.
 pub record SameHeader (d e : Dump) : Type 0 where
   pub format : d.format ≡ e.format
   pub number : d.number ≡ e.number
@@ -125,12 +126,12 @@ same_files format rs ss num_r num_s all_r all_s long is = same_lists rs ss long 
     ∙ (slice_get-map (λ (w : FileRec). file_block format w (numbers_in w)) ss i ∙ ap (option_map (λ (w : FileRec). file_block format w (numbers_in w))) at_s) in
     (file_again format r s (numbers_in r) (numbers_in s) (all_r i d within) (all_s i d inside) (no_numbers format r) (no_numbers format s) (num_r i r at_r ∙ sym (num_s i s at_s)) (same_Some block_r block_s there)).0)
 
--- HELD USERS: rising numbers are told by which are among them
+-- Held users: an increasing list of numbers is determined by its members.
 abbrev pub RisesFrom : ℕ → List ℕ → Type 0
 RisesFrom a [] = Unit {0}
 RisesFrom a (x ∷ xs) = (a ≤ x) × RisesFrom (x + 1) xs
 
--- the tail of a rising list, whose first number is above the head
+-- The tail of a strictly increasing list, whose first number is greater than the head.
 rising_tail : (x : ℕ) (xs : List ℕ) → IsStrictlyIncreasing (x ∷ xs) → IsStrictlyIncreasing xs
 rising_tail x xs rising k within =
     let next : suc k + 1 ≡ suc (k + 1) = omega arith in
@@ -200,7 +201,7 @@ same_held m a b rise_a rise_b all_a all_b same =
     by_bound n (inl below) = same_flags (holds a n) (holds b n) (same n below)
     by_bound n (inr past) = none_beyond m n a all_a past ∙ sym (none_beyond m n b all_b past)
 
--- THE DUMP that stands at one place of one reel
+-- The dump at one place of one reel is unique.
 pub same_dump : (d e : Dump) → IsDump d → IsDump e → d.serial ≡ e.serial → d.place ≡ e.place → dump_blocks d ≡ dump_blocks e → d ≡ e
 unfolding dump_blocks
 same_dump d e is_d is_e serial place is =

@@ -1,4 +1,5 @@
--- The blocks of a dump one by one, as a plan has them.
+-- The individual blocks of a dump, as the plan gives them.
+-- serves: content, file, header, mark, user, DumpLemmas, WaitingLemmas, crates above
 use Rattle.std.proofs.Common.{◌≡◌, ◌⊎◌, ℕ, zero, suc, ◌+◌, ◌^◌, ◌<◌, true, false, List, [], ◌∷◌, ◌++◌, length, get_or, take, Some, None, refl, sym, ◌∙◌, ap, arith, slice_get, subst, inl, inr}
 use Rattle.std.specs.Prelude.{◌==◌, map, option_map, IfSome, Option, if◌then◌else◌}
 use Rattle.std.proofs.lemmas.Bool.{cases_Bool, cond-false, cond-true, eq-eqb, ne_eqb}

@@ -1,4 +1,5 @@
--- What a plan makes of its records keeps the rules of a dump.
+-- The records of a plan's dump satisfy the rules of a dump.
+-- serves: plan_gives_dump, PieceLemmas, crates above
 use Rattle.std.proofs.Common.{◌≡◌, ◌≢◌, ◌⊎◌, ℕ, zero, suc, ◌+◌, ◌*◌, ◌<◌, ◌≤◌, ◌^◌, Bool, true, false, List, [], ◌∷◌, length, get_or, Option, Some, None, refl, sym, ◌∙◌, ap, arith, subst, inl, inr}
 use Rattle.std.specs.Prelude.{◌==◌, ◌&&◌, nat_le, nat_lt, filter, All, IfSome, is_some, is_none}
 use Rattle.std.proofs.lemmas.Bool.{and_from, and_parts, both_ways, cases_Bool, cond-false, cond-true, eq-eqb, le-leb, lt-ltb, ltb-true}
@@ -27,7 +28,7 @@ pub record KeepsCopy (r s : FileRec) : Type 0 where
   pub waits : waits r ≡ false
   pub tape : s.tape ≡ r.tape
 
--- a record of the dump, beside the record that it was made of: that one with another number and place on tape
+-- A record of the dump and the record that it was made from: the same, with another number and place on tape.
 pub record IsMade (serial from to : ℕ) (r s : FileRec) : Type 0 where
   pub same : s ≡ record r { number = s.number; tape = s.tape }
   pub copy : GetsCopy serial from to r s ⊎ KeepsCopy r s

@@ -1,4 +1,5 @@
 -- The records of a dump, block by block.
+-- serves: files_in (none), records_in (none), users_in (none)
 use Rattle.std.proofs.Common.{◌≡◌, ◌⊎◌, ℕ, ◌+◌, ◌<◌, ◌≤◌, Bool, true, false, List, [], ◌∷◌, ◌++◌, length, get_or, take, drop, Some, refl, sym, ◌∙◌, ap, arith, slice_get, subst, inl, inr}
 use Rattle.std.specs.Prelude.{◌==◌, ◌||◌, All, map, option_map, if◌then◌else◌, slice_index}
 use Rattle.std.specs.List.Sorted.{IsStrictlyIncreasing}
@@ -159,7 +160,7 @@ pub files_are_one : (format : Format) (rs ss : List FileRec) (blocks : List (Lis
 files_are_one format rs ss blocks so too =
     same_files format rs ss so.numbered too.numbered so.each too.each (sym (length-files format rs blocks so) ∙ length-files format ss blocks too) (sym so.blocks_are ∙ too.blocks_are)
 
--- THE RECORDS that were read break a rule, so no others stand there
+-- The records that were read break a rule, and the blocks are those of no other records.
 pub no_records : (serial : ℕ) (h : Header) (us vs : List UserRec) (hs ks : List ℕ) (fs gs : List FileRec) (blocks front back : List (List ℕ)) → AreUsersIn h.format us hs front → AreFilesIn h.format fs back
     → front ≡ take h.note.users blocks → back ≡ drop h.note.users blocks → (KeepRules serial h.note us hs fs → ⊥) → HasRecords serial h vs ks gs blocks → ⊥
 no_records serial h us vs hs ks fs gs blocks front back users files front_is back_is broken has =

@@ -1,4 +1,5 @@
--- Reads of a reel, and what they tell.
+-- Reads of a reel, and what follows from them.
+-- serves: read_block (found, reads), read_blocks (fewer, found, reads), read_dump (reads), read_mark (again, found), DumpLemmas, crates above
 use Rattle.std.proofs.Common.{◌≡◌, ℕ, ◌+◌, ◌<◌, ◌≤◌, Bool, true, false, List, [], ◌∷◌, ◌++◌, length, take, drop, Option, Some, None, Result, Ok, Err, refl, sym, ◌∙◌, ap, arith, subst, slice_get, inl, inr}
 use Rattle.std.specs.Prelude.{◌↔◌, ◌⊎◌, nat_lt, option_map, if◌then◌else◌}
 use Rattle.std.specs.Option.{ForSome}
@@ -108,7 +109,7 @@ module _ (s : ℕ) (old new : Rack) where
     kept = λ other. kept;
   }
 
--- one reader behind another
+-- One reader after another.
 pub reads_then : (s : ℕ) (first middle last : Rack) (fault : Option ShelfFault) → ReadsTape s first None middle → ReadsTape s middle fault last → ReadsTape s first fault last
 reads_then s first middle last fault one two =
     let same = refusal_after s first middle one.only in
@@ -205,7 +206,7 @@ module _ (s from k : ℕ) (blocks : List (List ℕ)) (old mid : Rack) (so : Have
       let over = past q is in
       let at = so.at in omega arith
 
--- a reader whose answer is handed on, behind reads that went well
+-- A reader whose result is returned, after reads that succeeded.
 pub then_reel : {A : Type 0} (s : ℕ) (first middle last : Rack) (result : Result A ShelfFault) → ReadsTape s first None middle → ReadsReel s result middle last → ReadsReel s result first last
 then_reel s first middle last (Ok x) one two = to_ok s first last x (reads_then s first middle last None one (from_ok s middle last x two))
 then_reel s first middle last (Err f) one two = to_err s first last f (reads_then s first middle last (Some f) one (from_err s middle last f two))

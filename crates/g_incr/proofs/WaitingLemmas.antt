@@ -1,4 +1,5 @@
 -- What waits ahead of each file of a plan, and the version that has a block of content.
+-- serves: content
 use Rattle.std.proofs.Common.{◌≡◌, ◌⊎◌, inl, inr, ℕ, ◌+◌, ◌-◌, ◌*◌, ◌<◌, ◌≤◌, true, false, List, [], ◌∷◌, ◌++◌, length, take, drop, get_or, sym, ◌∙◌, ap, arith, leb, slice_get, subst, Bool}
 use denote.Ref.{Bor}
 use denote.Param.Members.{Mut}
@@ -53,7 +54,7 @@ ahead_rises files n all so i j d le within =
     let rise = blocks_rise files i j le in
     omega (arith, low, high, rise)
 
--- the version that has the block, where so many stand ahead of it
+-- The version that has the block, if that many blocks are ahead of it.
 version_found : (files : List FileRec) (offset i part : ℕ) (a : Ahead) (r : FileRec) → i < length files → r ≡ get_or files i r → waits r ≡ true → part < blocks_for r.len → IsAhead files i a → offset ≡ a.blocks + part
     → IsVersionAt files offset a.versions part
 version_found files offset i part a r within is wait below so sum =
@@ -73,7 +74,8 @@ file_there files i within =
     let (r, is) = get_some files i within in
     (r, sym (get_or_from_slice_get files i r r is))
 
--- where all before j have no more blocks ahead of them than this, and all from j on have more
+-- The file before position j has at most this many blocks ahead of it, and the version with the block at this offset is
+-- found from it.
 pub record IsBehind (files : List FileRec) (all : List Ahead) (offset j : ℕ) : Type 0 where
   pub some : 1 ≤ j
   pub within : j ≤ length files
@@ -81,7 +83,7 @@ pub record IsBehind (files : List FileRec) (all : List Ahead) (offset j : ℕ) :
   pub found : (d : Ahead) → IsVersionAt files offset (get_or all (j - 1) d).versions (offset - (get_or all (j - 1) d).blocks)
 
 module _ (files : List FileRec) (all : List Ahead) (offset : ℕ) (so : AreAhead files (length files + 1) all) where
-  -- the file of which no more are ahead, where more are ahead of the next
+  -- The file with at most this many blocks ahead of it, if the next file has more.
   file_found : (i : ℕ) (a b : Ahead) (r : FileRec) → i < length files → r ≡ get_or files i r → IsAhead files i a → IsAhead files (i + 1) b → a.blocks ≤ offset → offset < b.blocks
       → IsVersionAt files offset a.versions (offset - a.blocks)
   file_found i a b r within is here next low high = by_waiting (cases_Bool (waits r))

@@ -1,4 +1,4 @@
--- READERS OF TAPE: what they may change, why they fail, and what they find.
+-- Readers of tape: what they may change, why they fail, and what they find.
 use Rattle.std.specs.Prelude.{◌≡◌, ℕ, ◌+◌, ◌<◌, ◌≤◌, ◌↔◌, Some, Result, Err}
 use Rattle.std.specs.Option.{ForSome}
 use Rattle.g_base.specs.Counts.{Rose}
@@ -12,8 +12,8 @@ use Rattle.g_incr.specs.declared.note.DumpNote.{DumpNote}
 use Rattle.g_incr.specs.Layout.{Dump, IsDump, StandsOn, ends}
 use Rattle.g_incr.specs.Notes.{IsDirOf}
 
--- A call that reads one reel: nothing happens but reads. It refuses exactly where the reel isn't there or isn't mounted, and
--- a read fault is its answer just where the count of them rose.
+-- A call that reads one reel. Only reads happen. It is refused if and only if the rack doesn't have the reel or the reel
+-- isn't mounted. A read fault is returned only if the count of read faults rose; otherwise that count is unchanged.
 pub record ReadsReel {A : Type 0} (serial : ℕ) (result : Result A ShelfFault) (old new : Rack) : Type 0 where
   pub only : OnlyReads old new
   pub no_tape : (result ≡ Err NoTape) ↔ (refuses_unmount (reel serial old.reels) ≡ Some tape.NoTape)
@@ -21,8 +21,8 @@ pub record ReadsReel {A : Type 0} (serial : ℕ) (result : Result A ShelfFault) 
   pub kept : (result ≡ Err ReadFault → ⊥) → new.read_faults ≡ old.read_faults
   pub rose : result ≡ Err ReadFault → Rose old.read_faults new.read_faults
 
--- A dump was found at this place of the reel: it keeps the rules and ends on the reel, also where nothing of it is told, and
--- where it is told what the reel holds it stands there whole.
+-- A dump was found at this place of the reel. It satisfies the rules and ends on the reel, even if the reel's blocks aren't
+-- exposed; if they are, the dump is complete there.
 pub record IsFound (serial place : ℕ) (rack : Rack) (dir : DumpDir) : Type 0 where
   pub dump : Dump
   pub rules : IsDump dump
@@ -32,11 +32,11 @@ pub record IsFound (serial place : ℕ) (rack : Rack) (dir : DumpDir) : Type 0 w
   pub stands : ForSome (blocks_of serial rack) (λ blocks. StandsOn blocks dump)
   pub fits : ForSome (reel serial rack.reels) (λ r. ends dump ≤ r.len)
 
--- no dump stands whole at this place of the reel
+-- No dump is complete at this place of the reel.
 abbrev pub HasNone : ℕ → ℕ → Rack → Type 0
 HasNone serial place rack = ForSome (blocks_of serial rack) (λ blocks. (d : Dump) → d.serial ≡ serial → d.place ≡ place → StandsOn blocks d → ⊥)
 
--- the blocks that tell of a dump were read: its header, its records and its mark
+-- The blocks that describe a dump were read: its header, its records and its mark.
 pub record HasReadDump (serial : ℕ) (note : DumpNote) (old new : Rack) : Type 0 where
   pub front : (k : ℕ) → note.place ≤ k → k < note.place + 1 + note.users + note.files → HasRead serial k old new
   pub mark : HasRead serial (note.place + 1 + note.count) old new

@@ -2,7 +2,7 @@
 use g_plain::StoreFault;
 use thiserror::Error;
 
-/// Why a reader of a reel answers nothing. No fault changes what the reel holds.
+/// Why a reader of a reel returns no result. No fault changes what the reel holds.
 #[derive(Clone, Copy, Debug, PartialEq, Eq, Error)]
 pub enum ShelfFault {
     /// No reel of that serial is in the rack.
@@ -14,12 +14,12 @@ pub enum ShelfFault {
     /// A read of the reel failed.
     #[error("the tape could not be read")]
     ReadFault,
-    /// The memory was refused.
+    /// Memory ran out.
     #[error("out of memory")]
     NoMemory,
 }
 
-/// What the fault is to a store that hands it on as it is.
+/// The fault as a store returns it.
 impl From<ShelfFault> for StoreFault {
     ghost use Rattle.std.specs.Prelude.{◌≡◌};
     ghost use Rattle.g_incr.specs.Faults.{store_fault};

@@ -8,7 +8,7 @@ use crate::note::{DumpNote, Header};
 use g_base::{Block, BlockReader, BlockWriter};
 use g_entry::{Format, is_same};
 
-/// The header of every dump of which it tells.
+/// The header of every dump that `h` describes.
 #[tactic(auto, using(g_base::proofs::FieldLemmas::length_fields))]
 pub(crate) fn encode_header(h: &Header) -> Block
     ensures { (d : Dump) → IsHeaderOf d h.now → result ≡ header_block d }
@@ -25,12 +25,12 @@ pub(crate) fn encode_header(h: &Header) -> Block
     writer.finish()
 }
 
-/// What the header of a dump at this place tells. None where it is the header of none.
+/// The header in the block at this place. `None` if it is the header of no dump.
 pub(crate) fn decode_header(b: &Block, place: u32) -> Option<Header>
     ensures limits { IfSome result (λ h. IsInLimits h.note × (h.note.place ≡ place)) }
     ensures found { IfSome result (λ h. (d : Dump) → IsHeaderOf d h → b.now ≡ header_block d) }
 
-    // What was written is read back.
+    // What was written is decoded as itself.
     ensures again { (d : Dump) → IsDump d → d.place ≡ place → b.now ≡ header_block d
         → (h : Header) × (result ≡ Some h) × IsHeaderOf d h }
 {
@@ -46,7 +46,7 @@ pub(crate) fn decode_header(b: &Block, place: u32) -> Option<Header>
     }
 }
 
-/// What stands in the fields of a header, first the number of the format.
+/// The values in the fields of a header, preceded by the number of the format.
 fn fields_of(b: &Block) -> (u16, DumpNote)
     ensures { (d : Dump) → IsDump d → b.now ≡ header_block d
         → (result.0 ≡ format_number d.format) × IsNoteOf d result.1 }
@@ -71,7 +71,7 @@ fn fields_of(b: &Block) -> (u16, DumpNote)
     (format, note)
 }
 
-/// The format of this number.
+/// The format with this number.
 fn format_of(number: u16) -> Option<Format>
     ensures { (format : Format) → number ≡ format_number format → result ≡ Some format }
 {
@@ -95,7 +95,7 @@ fn are_in_limits(n: &DumpNote) -> bool
         && records <= n.count
 }
 
-/// The mark of every dump that the note tells of.
+/// The mark of every dump that the note describes.
 #[tactic(auto, using(g_base::proofs::FieldLemmas::length_fields))]
 pub(crate) fn encode_mark(n: &DumpNote) -> Block
     ensures { (d : Dump) → IsNoteOf d n.now → result ≡ mark_block d }

@@ -1,5 +1,5 @@
-//! A dump and the blocks of tape that it takes: what a dump will hold, the writer of its blocks, and the reader of a dump
-//! that stands on a reel.
+//! A dump and the blocks of tape that it occupies: what a dump will hold, the writer of its blocks, and the reader of a
+//! dump on a reel.
 #![tactic(auto)]
 
 ghost use Rattle.g_incr.specs.Plan.{PlanGivesDump};
@@ -21,7 +21,7 @@ pub use read::read_dump;
 pub use tape::{read_block, read_blocks};
 pub use writer::{Piece, Writer, copied_users};
 
-/// A plan gives a dump that keeps the rules of a dump, whatever the content.
+/// A plan gives a dump that satisfies the rules, for any content.
 pub fn plan_gives_dump()
     ensures dump { PlanGivesDump }
 {}

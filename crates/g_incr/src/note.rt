@@ -1,8 +1,8 @@
-//! What is told of a dump that stands on a reel.
+//! Descriptions of a dump on a reel.
 use g_entry::{FileRec, Format, UserRec};
 
-/// What a dump's header says: its number, its first block, how many blocks it has between header and mark, how many of
-/// them are users and files, and the next stamp at its opening.
+/// The contents of a dump's header: its number, its first block, how many blocks it has between header and mark, how
+/// many of them are users and files, and the next stamp when it was opened.
 #[derive(Clone, Copy, PartialEq, Eq)]
 pub struct DumpNote {
     pub number: u64,
@@ -20,8 +20,8 @@ pub(crate) struct Header {
     pub note: DumpNote,
 }
 
-/// The records of a dump: all users in order of number, the numbers of those whose directories it holds, and their files,
-/// which have the numbers of their places.
+/// The records of a dump: all users in order of number, the numbers of the users whose directories it holds, and their
+/// files, which have their positions as numbers.
 #[derive(Drop)]
 pub struct DumpDir {
     pub note: DumpNote,

@@ -1,4 +1,4 @@
-//! The dump that stands at a place of a reel, read without its content.
+//! Reads the dump at a place of a reel, without its content.
 ghost use Rattle.std.specs.Prelude.{◌≡◌, ◌<◌, ◌≤◌, ◌^◌, IfNone, IfOk, IfSome, IsTrue};
 ghost use Rattle.g_tape.specs.Reads.{HasRead};
 ghost use Rattle.g_incr.specs.Finding.{FindsHeader, FindsMark, HasHeader, HasMark, HasNoRecords, HoldsRecords, mark_at};
@@ -16,8 +16,8 @@ use g_entry::is_same;
 use g_tape::Tapes;
 use std::alloc::Global;
 
-/// The dump that stands whole at block `place` of the reel, in either format (docs/FORMATS.md); none exactly where no dump
-/// does. Its content isn't read. `NoTape`, `NotMounted`, `ReadFault`, `NoMemory`.
+/// The complete dump at block `place` of the reel, in either format (docs/FORMATS.md). `None` if and only if there is no
+/// such dump. Its content isn't read. `NoTape`, `NotMounted`, `ReadFault`, `NoMemory`.
 pub fn read_dump<T: Tapes>(
     alloc: Global,
     tapes: &mut T,
@@ -42,7 +42,7 @@ pub fn read_dump<T: Tapes>(
     read_records(alloc, tapes, serial, &header)
 }
 
-/// What the header at this place tells. None where there is the header of no dump.
+/// The header at this place. `None` if there is the header of no dump.
 fn read_header<T: Tapes>(
     tapes: &mut T,
     serial: u32,
@@ -60,7 +60,7 @@ fn read_header<T: Tapes>(
     }
 }
 
-/// Whether the mark of the dump of which the note tells stands behind its content.
+/// Whether the mark of the dump that the note describes follows its content.
 fn read_mark<T: Tapes>(tapes: &mut T, serial: u32, n: &DumpNote) -> Result<bool, ShelfFault>
     ensures reads { ReadsReel serial result (T.rack tapes.old) (T.rack tapes.new) }
     ensures found { IfOk result (λ found. IsTrue found → HasMark serial n.now (T.rack tapes.old) (T.rack tapes.new)) }
@@ -73,7 +73,7 @@ fn read_mark<T: Tapes>(tapes: &mut T, serial: u32, n: &DumpNote) -> Result<bool,
     }
 }
 
-/// The block behind the content, or 65,536 where that is less: no reel has so many blocks.
+/// The block after the content, or 65,536 if that is less: no reel has so great a block number.
 fn mark_place(n: &DumpNote) -> u32
     ensures most { result ≤ mark_at n.now }
     ensures exact { result < 65536 → result ≡ mark_at n.now }
@@ -93,7 +93,7 @@ fn is_mark(block: &Block, n: &DumpNote) -> bool
     is_same(&encode_mark(n), block)
 }
 
-/// The records behind the header. None exactly where there are none that a dump with this header has.
+/// The records after the header. `None` if and only if they aren't those of a dump with this header.
 fn read_records<T: Tapes>(
     alloc: Global,
     tapes: &mut T,

@@ -11,7 +11,7 @@ use g_base::{Block, NoMemory};
 use g_entry::{FileRec, Format, UserRec, decode_file_on_tape, decode_user_held};
 use std::alloc::Global;
 
-/// The records in these blocks, the users' and behind them the files'. None exactly where they are not those of a dump with
+/// The records in these blocks: first the users, then the files. `None` if and only if they aren't those of a dump with
 /// this header on this reel.
 pub(crate) fn records_in(
     alloc: Global,
@@ -51,7 +51,7 @@ pub(crate) fn records_in(
     }
 }
 
-/// The users whose blocks these are, and the numbers of those who are held. None exactly where a block is no user's.
+/// The users with these blocks, and the numbers of the held ones. `None` if and only if a block isn't that of a user.
 fn users_in(
     alloc: Global,
     format: Format,
@@ -75,7 +75,7 @@ fn users_in(
     Ok(Some((users, held)))
 }
 
-/// Puts a user behind the others, and the number behind the others where the user is held.
+/// Appends a user, and its number if the user is held.
 fn add_user(
     user: UserRec,
     is_held: bool,
@@ -92,7 +92,7 @@ fn add_user(
     Ok(())
 }
 
-/// The files whose blocks these are. None exactly where a block is no file's.
+/// The files with these blocks. `None` if and only if a block isn't that of a file.
 fn files_in(
     alloc: Global,
     format: Format,

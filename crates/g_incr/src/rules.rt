@@ -1,4 +1,4 @@
-//! The rules that the records of a dump keep among each other.
+//! The rules that the records of a dump satisfy together.
 ghost use Rattle.std.specs.Prelude.{◌≡◌, ◌≢◌, ◌↔◌, ◌+◌, ◌≤◌, true, false, ℕ, All, AllPairs, IfOk, IsTrue, MatchOption, is_some, length};
 ghost use Rattle.g_entry.specs.FileFields.{IsFile};
 ghost use Rattle.g_incr.specs.Layout.{FollowOn, holds, is_at, is_between};
@@ -40,7 +40,7 @@ fn owners_are_held(held: &[u8], files: &[FileRec]) -> bool
     files.iter().all(|r| is_held(held, r.owner))
 }
 
-/// Whether the files stand by owner.
+/// Whether the files are sorted by owner.
 fn owners_rise(files: &[FileRec]) -> bool
     ensures { IsTrue result ↔ AllPairs (λ r s. r.owner ≤ s.owner) files.now }
 {
@@ -61,7 +61,7 @@ fn have_copies(files: &[FileRec]) -> bool
     files.iter().all(|r| r.len == 0 || r.tape.is_some())
 }
 
-/// Whether the copies that lie in the dump follow each other, from its first block of content to its last.
+/// Whether the copies that lie in the dump follow one another, from its first block of content to its last.
 fn follow_on(serial: u32, n: &DumpNote, files: &[FileRec]) -> bool
     requires few { length files.now ≤ 1024 }
     requires each { All IsFile files.now }

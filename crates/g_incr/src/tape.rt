@@ -1,4 +1,4 @@
-//! Blocks of a reel, read one by one.
+//! Reads blocks of a reel.
 ghost use Rattle.std.specs.Prelude.{◌≡◌, ◌≢◌, ℕ, ◌+◌, ◌^◌, ◌<◌, ◌≤◌, IfNone, IfOk, IfSome, drop, length, slice_get, take};
 ghost use Rattle.std.specs.Option.{ForSome};
 ghost use Rattle.g_tape.specs.Rack.{reel, refuses_unmount};
@@ -11,13 +11,13 @@ use g_entry::empty_block;
 use g_tape::{TapeFault, Tapes};
 use std::alloc::Global;
 
-/// Block `k` of a reel, or none where the reel ends before it. `NoTape`, `NotMounted`, `ReadFault`.
+/// Block `k` of a reel, or `None` if the reel ends before it. `NoTape`, `NotMounted`, `ReadFault`.
 pub fn read_block<T: Tapes>(tapes: &mut T, serial: u32, k: u32) -> Result<Option<Block>, ShelfFault>
     ensures reads { ReadsReel serial result (T.rack tapes.old) (T.rack tapes.new) }
     ensures found { IfOk result (λ o. ForSome (blocks_of serial (T.rack tapes.old)) (λ bs. slice_get bs k ≡ o)) }
     ensures read { IfOk result (λ o. IfSome o (λ b. HasRead serial k (T.rack tapes.old) (T.rack tapes.new))) }
 
-    // Where the reel ends is told, whether or not the blocks are.
+    // The end of the reel is known whether or not its blocks are exposed.
     ensures within { IfOk result (λ o. IfSome o (λ b. ForSome (reel serial (T.rack tapes.old).reels) (λ r. k < r.len))) }
     ensures past { IfOk result (λ o. IfNone o (ForSome (reel serial (T.rack tapes.old).reels) (λ r. r.len ≤ k))) }
     ensures memory { result ≢ Err ShelfFault.NoMemory }
@@ -50,8 +50,8 @@ fn can_be_read<T: Tapes>(tapes: &T, serial: u32) -> Result<(), ShelfFault>
     }
 }
 
-/// The `count` blocks of a reel from block `from` on, or as many of them as there are. `NoTape`, `NotMounted`, `ReadFault`,
-/// `NoMemory`.
+/// The `count` blocks of a reel from block `from` on, or fewer if the reel ends before. `NoTape`, `NotMounted`,
+/// `ReadFault`, `NoMemory`.
 pub fn read_blocks<T: Tapes>(
     alloc: Global,
     tapes: &mut T,
@@ -65,7 +65,7 @@ pub fn read_blocks<T: Tapes>(
     ensures read { IfOk result (λ v. (k : ℕ) → from ≤ k → k < from + length v.items
         → HasRead serial k (T.rack tapes.old) (T.rack tapes.new)) }
 
-    // Fewer only where the reel ends, which is told whether or not the blocks are.
+    // Fewer only if the reel ends, which is known whether or not its blocks are exposed.
     ensures most { IfOk result (λ v. length v.items ≤ count) }
     ensures fewer { IfOk result (λ v. length v.items < count
         → ForSome (reel serial (T.rack tapes.old).reels) (λ r. r.len ≤ from + length v.items)) }

@@ -8,7 +8,7 @@ use g_base::{NoMemory, blocks_for};
 use g_entry::FileRec;
 use std::alloc::Global;
 
-/// What waits ahead of a file: how many versions, and how many blocks they take.
+/// The waiting versions ahead of a file: how many they are, and how many blocks they occupy.
 #[derive(Clone, Copy)]
 pub(crate) struct Ahead {
     pub(crate) versions: u32,
@@ -22,7 +22,7 @@ pub(crate) fn waits(r: &FileRec) -> bool
     r.len > 0 && r.tape.is_none()
 }
 
-/// What waits ahead of each file, and last what waits in all.
+/// The waiting versions ahead of each file, and finally those of all files.
 pub(crate) fn all_ahead(alloc: Global, files: &[FileRec]) -> Result<Vec<Ahead>, NoMemory>
     requires few { length files.now ≤ 1024 }
     requires each { All IsFile files.now }

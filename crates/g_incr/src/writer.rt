@@ -1,4 +1,4 @@
-//! The writer of a dump: what the dump will hold, and block by block what goes to tape.
+//! The writer of a dump: what the dump will hold, and each of its blocks.
 ghost use Rattle.std.specs.Prelude.{◌≡◌, ℕ, ◌+◌, ◌<◌, ◌≤◌, IfNone, IfOk, IfSome, List, Some, length, slice_get};
 ghost use Rattle.g_incr.specs.Pieces.{dumped_rec, plan_from};
 ghost use Rattle.g_incr.specs.Plan as plan;
@@ -12,16 +12,16 @@ use g_entry::{FileRec, Format, TapeCopy, UserRec, encode_file_in, encode_user_he
 use std::alloc::Global;
 use std::marker::Model;
 
-/// What goes into a block of a dump: what the writer put there, or block `part` of a version's bytes, where `version`
-/// counts the versions that wait, in the order of their records, from 0.
+/// The source of a block of a dump: the writer itself, or block `part` of a version's bytes, where `version` counts the
+/// waiting versions from 0, in the order of their records.
 #[derive(Clone, Copy, PartialEq, Eq)]
 pub enum Piece {
     Ready,
     Content { version: usize, part: u32 },
 }
 
-/// A dump that is being written (docs/FORMATS.md). Contracts see it as its plan. What waits ahead of each file is counted
-/// once, so that no piece costs a walk over the files.
+/// A dump that is being written (docs/FORMATS.md). Contracts see it as its plan. The waiting versions ahead of each file
+/// are counted once, so that finding a piece needs no pass over the files.
 #[derive(Drop)]
 pub struct Writer {
     serial: u32,
@@ -50,7 +50,8 @@ impl Model for Writer {
 
 impl Writer {
     /// The writer of the dump of this number that begins at block `place` of the reel. It holds all users and the files of
-    /// those whose numbers are in `held`, by owner, then by number, as they are on the disc now: these it takes over.
+    /// the users whose numbers are in `held`, by owner, then by number, as they are on the disc now. It takes ownership of
+    /// these files.
     pub fn new(
         alloc: Global,
         serial: u32,
@@ -79,15 +80,15 @@ impl Writer {
         })
     }
 
-    /// How many blocks of tape the dump takes.
+    /// The number of blocks of tape that the dump occupies.
     pub fn needs(&self) -> u32
         ensures { result ≡ plan.needs self.now }
     {
         self.note().count + 2
     }
 
-    /// The piece that is block `k` of the dump, counted from 0. `Ready`: it was put into `into`. `Content`: it is for the
-    /// caller to fill in, and `into` is as it was.
+    /// The piece that is block `k` of the dump, counted from 0. `Ready`: it was written to `into`. `Content`: the caller
+    /// must provide it, and `into` is unchanged.
     pub fn piece(&self, k: u32, into: &mut Block) -> Piece
         requires { k < plan.needs self.now }
         ensures ready { result ≡ Piece.Ready → plan.IsReadyAt self.now k into.new }
@@ -126,7 +127,7 @@ impl Writer {
         }
     }
 
-    /// What the dump's header tells.
+    /// The note of the dump.
     fn note(&self) -> DumpNote
         ensures number { result.number ≡ self.now.number }
         ensures place { result.place ≡ self.now.place }
@@ -181,7 +182,7 @@ impl Writer {
         }
     }
 
-    /// The record of file i as the dump has it.
+    /// The record of file i in the dump.
     fn dumped(&self, i: u32) -> FileRec
         requires { i < length self.now.files }
         ensures { IfSome (slice_get self.now.files i) (λ r. result ≡ dumped_rec self.now i r) }
@@ -221,7 +222,7 @@ impl Writer {
     }
 }
 
-/// The records of these users once more.
+/// Copies of the records of these users.
 pub fn copied_users(alloc: Global, users: &[UserRec]) -> Result<Vec<UserRec>, NoMemory>
     ensures { IfOk result (λ copied. copied.items ≡ users.now) }
 {

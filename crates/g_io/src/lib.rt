@@ -1,4 +1,4 @@
-//! Bytes in and bytes out: where a script comes from and where its text goes, each fault with its cause.
+//! Bytes in and bytes out: the source of a script and the sink of the text. Each fault has its cause in a count.
 #![tactic(auto)]
 
 mod memory;

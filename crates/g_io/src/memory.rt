@@ -1,4 +1,4 @@
-//! A source and a sink in memory, for tests: they tell their bytes, and fail where they are told to.
+//! A source and a sink in memory, for tests. They expose their bytes, and chosen calls fail.
 ghost use Rattle.std.specs.Prelude.{◌≡◌, ℕ, ◌+◌, ◌-◌, ◌<◌, ◌≤◌, ◌⊎◌, ◌↔◌, List, [], ◌++◌, length, drop, Some, min, take, IfOk, OnOk, OnErr, IsErr, Contains, vec_len, vec_capacity};
 ghost use Rattle.g_base.specs.Counts.{one_more};
 ghost use Rattle.g_io.specs.Streams.{Takes, with_more, HasPutPart, CountsFault};
@@ -9,7 +9,7 @@ use g_base::{NoMemory, ReadFailed, WriteFailed, raised};
 use std::alloc::Global;
 use std::marker::Model;
 
-/// A source over bytes in memory.
+/// A source that reads from memory.
 #[derive(Drop)]
 pub struct MemorySource {
     bytes: Vec<u8>,
@@ -28,7 +28,7 @@ impl Model for MemorySource {
 }
 
 impl MemorySource {
-    /// A source of these bytes. The calls of `take` whose numbers, counted from 1, are in `fail` fail, and no others.
+    /// A source of these bytes. Exactly the calls of `take` whose numbers, counted from 1, are in `fail` fail.
     pub fn new(bytes: Vec<u8>, fail: Vec<u64>) -> MemorySource
         ensures { result ≡ record { left = bytes.items; fail = fail.items; calls = 0; faults = 0 } }
     {
@@ -42,7 +42,7 @@ impl MemorySource {
     }
 }
 
-/// Copies as much as fits of the front of `from` to the front of `into`, and says how many bytes.
+/// Copies as much of the front of `from` as fits to the front of `into` and returns the number of bytes.
 fn copy_front(from: &[u8], into: &mut [u8]) -> usize
     ensures count { result ≡ min (length from.now) (length into.old) }
     ensures copied { into.new ≡ take result from.now ++ drop result into.old }
@@ -77,7 +77,7 @@ impl Source for MemorySource {
     }
 }
 
-/// A sink into memory.
+/// A sink that appends to memory.
 #[derive(Drop)]
 pub struct MemorySink {
     text: Vec<u8>,
@@ -96,8 +96,8 @@ impl Model for MemorySink {
 }
 
 impl MemorySink {
-    /// An empty sink with room for `room` bytes, whose memory is taken at once. The calls of `put` whose numbers,
-    /// counted from 1, are in `fail` fail, and those whose piece exceeds the room that is left, and no others.
+    /// An empty sink with a capacity of `room` bytes, allocated at once. The calls of `put` that fail are those whose
+    /// numbers, counted from 1, are in `fail`, and those whose piece exceeds the remaining capacity.
     pub fn new(alloc: Global, room: usize, fail: Vec<u64>) -> Result<MemorySink, NoMemory>
         ensures { IfOk result (λ s. s ≡ record { text = []; room = room; fail = fail.items; calls = 0; faults = 0 }) }
     {
@@ -111,7 +111,7 @@ impl MemorySink {
         })
     }
 
-    /// What was written.
+    /// The bytes that were written.
     pub fn text(&self) -> &[u8]
         ensures { result.now ≡ self.now.text }
     {
@@ -124,7 +124,7 @@ impl Sink for MemorySink {
 
     ghost faults = { λ s. s.faults };
 
-    /// As the trait says; besides, a failing call appends nothing.
+    /// As the trait states; in addition, a failing call appends nothing.
     fn put(&mut self, piece: &[u8]) -> Result<(), WriteFailed>
         ensures put { OnOk result (Some self.new.text ≡ with_more (Some self.old.text) piece.now) }
         ensures part { OnErr result (HasPutPart (Some self.old.text) piece.now (Some self.new.text)) }

@@ -1,9 +1,10 @@
--- What every turn comes to at its end.
+-- The result of every turn at its end.
+-- serves: turns_come_to_one_end, TurnLemmas
 use Rattle.std.proofs.Common.{◌≡◌, ◌+◌, ◌-◌, ◌<◌, ◌≤◌, min, Bool, true, false, not, Option, Some, None, IfSome, is_some, inl, inr, refl, sym, subst, arith}
 use Rattle.std.proofs.Math.Nat.{le-min}
 use Rattle.std.proofs.lemmas.Bool.{leb-false, leb-true, ltb-false, ltb-true}
-use Rattle.g_budget.specs.Tariff.{IsCharge}
-use Rattle.g_budget.specs.declared.tariff.Charge.{Charge}
+use Rattle.g_rules.specs.Tariff.{IsCharge}
+use Rattle.g_rules.specs.declared.tariff.Charge.{Charge}
 use Rattle.g_job.specs.TurnEnd.{behind_turn, charged, end_by, is_free, is_money_up, is_time_up, money_left, money_of, turn_end, turn_of, units_left, units_of, up_line}
 use Rattle.g_job.specs.Rules.{IsJob}
 use Rattle.g_job.specs.Spending.{ComesTo, EndsFor, Spends}
@@ -32,7 +33,7 @@ pub end_charged : (j : JobState) (w : Work) (charge : Charge) → is_some (turn_
 end_charged j w charge = charged_by w.stop j w charge
 
 module _ (j : JobState) (w : Work) (charge : Charge) where
-  -- of work that isn't over: TIME and MONEY tell whether the job goes on
+  -- for work that isn't over, TIME and MONEY decide whether the job continues
   up_comes : (time_up money_up : Bool) → w.stop ≡ None → is_time_up j charge ≡ time_up → is_money_up j charge ≡ money_up
       → ComesTo j w (Some charge) (turn_of (units_of j charge) (money_of j charge) (up_line time_up money_up (charged j w charge))) (behind_turn (charged j w charge) (up_line time_up money_up (charged j w charge)))
   up_comes true money_up is time money =

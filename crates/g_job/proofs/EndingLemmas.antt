@@ -1,10 +1,11 @@
--- The end of a turn in the code: the job's rules, and that it is the end that is defined.
+-- The end of a turn in the code: it preserves the job's rules, and is the end that is defined.
+-- serves: charge (ok), end_by (ok), settle (ok), TurnLemmas
 use Rattle.std.proofs.Common.{◌≡◌, ℕ, ◌+◌, ◌<◌, Bool, true, false, List, ◌++◌, length, Option, Some, None, is_some, option_map, refl, sym, ap, ◌∙◌, subst}
 use Rattle.std.proofs.lemmas.Bool.{true≢false}
 use Rattle.std.specs.Fn.{FnReturnsAt, Shared}
 use denote.Ref.{Bor}
-use Rattle.g_budget.specs.declared.tariff.Charge.{Charge}
-use Rattle.g_budget.specs.declared.tariff.Usage.{Usage}
+use Rattle.g_rules.specs.declared.tariff.Charge.{Charge}
+use Rattle.g_rules.specs.declared.tariff.Usage.{Usage}
 use Rattle.g_job.specs.Beginning.{room_of}
 use Rattle.g_job.specs.Ending.{IsClear, IsWaiting, turn_by, with_last}
 use Rattle.g_job.specs.TurnEnd.{IsTurn, behind_turn, charged, charged_end, end_by, is_free, last_line, money_of, turn_of, units_of, waited}
@@ -17,24 +18,24 @@ use Rattle.g_job.specs.declared.turn.Turn.TheVariants as turn
 use Rattle.g_lines.specs.Lines.{ended}
 use Rattle.g_job.proofs.RulesLemmas.{rules_of_clear}
 
--- a job with nothing that waits
+-- a job with nothing pending
 cleared : (j : JobState) → IsClear j → record j { pending = None; wants = None } ≡ j
 cleared j clear =
     ap (λ (p : Option Pending). record j { pending = p; wants = None }) (sym clear.0) ∙ ap (λ (s : Option ℕ). record j { wants = s }) (sym clear.1)
 
--- the job may wait, with what a turn that waits is gone on with
+-- the job may wait, with what a turn that waits resumes with
 pub waiting_of : (j : JobState) (w : Work) (stop : Option Stop) (serial : ℕ) → IsWithin (room_of j) w → IsGoneOnWith j.monitor w → w.desk ≡ j.desk → stop ≡ w.stop → stop ≡ Some (Waits serial)
     → IsWaiting j w.again
 waiting_of j w stop serial within gone desk es is =
     let more : is_some w.again ≡ true = subst (λ (s : Option Stop). HasMore s w.again) (sym es ∙ is) within.waits in
     (more, gone.pending, subst (λ (d : Desk). 0 < length d.levels.levels) desk (gone.level more))
 
--- nothing waits any more
+-- nothing is pending any more
 pub clear_rules : (j : JobState) (desk : Desk) → IsJob j → IsJob (record j { desk = desk; pending = None; wants = None })
 clear_rules j desk rules =
     rules_of_clear j rules j.used j.used_money j.turns desk j.monitor j.over rules.covered rules.paid rules.turned rules.has_time rules.file
 
--- the job behind a turn that is charged, as the code makes it
+-- the job after a turn that is charged, as the code computes it
 abbrev pub settled : JobState → List ℕ → Charge → Option (List ℕ) → JobState
 settled j text charge last = record j {
   used = j.used + units_of j charge;
@@ -71,7 +72,7 @@ module _ (j : JobState) (text : List ℕ) (charge : Charge) (stop : Option Stop)
       ∙ ap (λ (k : JobState). let both : Turn × JobState = (turn_of (units_of j charge) (money_of j charge) (last_line stop j charge (charged j w charge)), k) in both)
       (settled_is j w charge (last_line stop j charge (charged j w charge)) clear going desk)
 
--- a turn that is charged ends as that is defined
+-- a turn that is charged ends as defined
 by_free : (stop : Option Stop) → is_free stop ≡ false → (j : JobState) (w : Work) (charge : Charge) → end_by stop j w (Some charge) ≡ Some (charged_end stop j w charge)
 by_free None free j w charge = refl
 by_free (Some Full) free j w charge = refl
@@ -79,14 +80,14 @@ by_free (Some Done) free j w charge = refl
 by_free (Some (Waits serial)) free j w charge = absurd (true≢false free)
 by_free (Some Broken) free j w charge = absurd (true≢false free)
 
--- a turn and a job come to such an end
+-- a turn and a job have such an end
 abbrev Comes : JobState → Charge → Option Stop → Work → ℕ → ℕ → Desk → List ℕ → Bool → Turn → Type 0
 Comes j charge stop w units money desk monitor over t =
     let both : Turn × JobState = (t, record j { used = j.used + units; used_money = j.used_money + money; turns = j.turns + 1; desk = desk; monitor = monitor; over = over }) in
     both ≡ charged_end stop j w charge
 
 module _ (j : JobState) (text : List ℕ) (charge : Charge) (stop : Option Stop) (last : Option (List ℕ)) (clear : IsClear j) (going : j.over ≡ false) where
-  -- as the code makes it
+  -- as the code computes it
   pub settle_end : (units money : ℕ) (desk : Desk) (monitor : List ℕ) (over : Bool) (t : Turn)
       → ((w : Work) → last ≡ option_map ended (last_line stop j charge (charged j w charge)))
       → units ≡ units_of j charge → money ≡ money_of j charge → desk ≡ j.desk → monitor ≡ with_last (j.monitor ++ text) last → over ≡ is_some last → t ≡ turn_by units money over

@@ -1,4 +1,5 @@
 -- The first line of a monitoring file is short.
+-- serves: first_line (short)
 use Rattle.std.proofs.Common.{◌≡◌, ℕ, ◌^◌, ◌<◌, ◌≤◌, true, ◌&&◌, nat_le, List, [], ◌∷◌, ◌++◌, length, length-append, decimal, codes, lit<, lit≤, lt_of_lt_of_le, arith}
 use Rattle.std.specs.List.{list_all}
 use Rattle.std.proofs.lemmas.Bool.{and_parts, false≢true, leb-true}

@@ -1,10 +1,11 @@
--- Behind every turn a job keeps its rules.
+-- Every turn preserves the rules of a job.
+-- serves: turns_keep_the_rules, TurnLemmas
 use Rattle.std.proofs.Common.{◌≡◌, ℕ, ◌+◌, ◌-◌, ◌<◌, ◌≤◌, Bool, true, false, List, [], ◌∷◌, ◌++◌, length, length-append, decimal, codes, Option, Some, None, IfSome, is_some, refl, sym, subst, lit<, lit≤, lt_of_le_of_lt, arith}
 use Rattle.std.proofs.Math.Nat.{le-min, min-le_right}
 use Rattle.std.proofs.lemmas.Bool.{leb-false, true≢false}
 use Rattle.std.proofs.lemmas.Fmt.{length-decimal-le}
-use Rattle.g_budget.specs.Tariff.{IsCharge}
-use Rattle.g_budget.specs.declared.tariff.Charge.{Charge}
+use Rattle.g_rules.specs.Tariff.{IsCharge}
+use Rattle.g_rules.specs.declared.tariff.Charge.{Charge}
 use Rattle.g_job.specs.Beginning.{room_of}
 use Rattle.g_turn.specs.Bounds.{HasMore, IsWithin}
 use Rattle.g_job.specs.TurnEnd.{behind_turn, broken, charged, end_by, is_money_up, is_time_up, money_left, money_of, turn_end, units_left, units_of, up_line, waited}
@@ -16,11 +17,11 @@ use Rattle.g_job.proofs.RulesLemmas.{rules_of_clear, rules_of_rest}
 use Rattle.g_monitor.specs.JobLines.{job_line}
 use Rattle.g_monitor.specs.declared.job_lines.JobLine.TheVariants as line
 
--- a number up to a million has seven digits at most
+-- a number up to a million has at most seven digits
 million_short : (n : ℕ) → n ≤ 1000000 → length (decimal n) ≤ 7
 million_short n most = length-decimal-le 7 n (lit< tt) (lt_of_le_of_lt most (lit< tt)) (lt_of_le_of_lt most (lit< tt))
 
--- words before and behind a number, and a byte 10
+-- words before and after a number, and a byte 10
 between_short : (before number behind : List ℕ) (n : ℕ) → length before + length number + length behind ≤ n → length (ended ((before ++ number) ++ behind)) ≤ n + 1
 between_short before number behind n few =
     omega (arith, few, length-append before number, length-append (before ++ number) behind, length-append ((before ++ number) ++ behind) (10 ∷ []))
@@ -38,7 +39,7 @@ money_short n most = let seven : length (decimal n) ≤ 7 = million_short n most
 full_short : length (ended (job_line line.Full)) ≤ 23
 full_short = lit≤ tt
 
--- what a turn adds has its room
+-- what a turn adds fits into the file
 added_fits : (j : JobState) (w : Work) → length j.monitor ≤ 1048576 → length w.text ≤ room_of j → length (j.monitor ++ w.text) ≤ 1048576
 added_fits j w file text =
     let both : length (j.monitor ++ w.text) ≡ length j.monitor + length w.text = length-append j.monitor w.text in omega (arith, both, file, text)
@@ -79,7 +80,7 @@ module _ (j : JobState) (w : Work) (charge : Charge) (rules : IsJob j) (going : 
   ended_keeps : (last : List ℕ) → length (ended last) ≤ 23 → IsJob (behind_turn (charged j w charge) (Some last))
   ended_keeps last short = charged_keeps ((j.monitor ++ w.text) ++ ended last) true (λ is. absurd (true≢false is)) (last_fits (j.monitor ++ w.text) (ended last) text_kept short)
 
-  -- a job that goes on
+  -- a job that continues
   goes_keeps : is_time_up j charge ≡ false → IsJob (charged j w charge)
   goes_keeps time =
       charged_keeps (j.monitor ++ w.text) j.over (λ is. below) (subst (λ (over : Bool). length (j.monitor ++ w.text) ≤ most_bytes over) (sym going) text_kept)

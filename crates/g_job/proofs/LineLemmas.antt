@@ -1,4 +1,5 @@
--- The lines of a text, as programs and units have them and as macros and documents have them.
+-- The lines of a text by two definitions: that of programs and units, and that of macros and documents.
+-- serves: lines_are_lines_of_programs
 use Rattle.std.proofs.Common.{◌≡◌, ◌==◌, ℕ, Bool, true, false, List, [], ◌∷◌, if◌then◌else◌, refl, ap, ◌∙◌}
 use Rattle.g_lines.specs.Lines.{lines_of, onto_first}
 use Rattle.g_mill.specs.Lines.{before_lines, lines}

@@ -1,4 +1,5 @@
--- A job at a terminal: when it is ready, and what a turn leaves of its document.
+-- A job at a terminal: when it is ready, and the effect of a turn on its document.
+-- serves: add_line, ready_with, turn (seat), turns_keep_the_document
 use Rattle.std.proofs.Common.{◌≡◌, ◌∙◌, ◌<◌, Bool, true, false, IfSome, List, [], ◌∷◌, Option, Some, None, ap, arith, inr, is_some, length, refl, subst, ℕ, ◌||◌}
 use Rattle.std.specs.Fn.{Shared}
 use denote.Ref.{Bor}
@@ -7,8 +8,8 @@ use Rattle.g_turn.proofs.WellThen.{well_gives}
 use Rattle.g_turn.specs.Bounds.{AlwaysGives}
 use Rattle.g_turn.specs.State.{Broken, Done, Full, Stop, Waits, Work}
 use Rattle.g_turn.specs.Steps.{RanWell}
-use Rattle.g_budget.specs.declared.tariff.Charge.{Charge}
-use Rattle.g_budget.specs.declared.tariff.Usage.{Usage}
+use Rattle.g_rules.specs.declared.tariff.Charge.{Charge}
+use Rattle.g_rules.specs.declared.tariff.Usage.{Usage}
 use Rattle.g_job.specs.Beginning.{begin, room_of}
 use Rattle.g_job.specs.TurnEnd.{IsTurn, behind_turn, charged, end_by, last_line}
 use Rattle.g_job.specs.Rules.{IsJob}
@@ -24,7 +25,7 @@ use Rattle.g_job.proofs.RulesLemmas.{rules_of_rest}
 use Rattle.g_plain.specs.Programs.{Answer}
 use Rattle.g_plain.specs.declared.calls.StoreCall.{StoreCall}
 
--- what was ready stays so with a line more
+-- a ready job is still ready after one more line
 pub typed_stays : (j : JobState) (line : List ℕ) → is_ready j ≡ true → is_ready (typed_to line j) ≡ true
 typed_stays j line ready = by (is_some j.desk.running) (is_some j.pending) ready
   where
@@ -33,7 +34,7 @@ typed_stays j line ready = by (is_some j.desk.running) (is_some j.pending) ready
     by false true is = refl
     by false false is = are_ready_stays line j.desk.levels is
 
--- THE RULES of a job stand where its levels change, and none of them goes
+-- THE RULES of a job hold after its levels change, if none is dropped
 pub rules_with : (change : Stack → Stack) (j : JobState) → (0 < length j.desk.levels.levels → 0 < length (change j.desk.levels).levels) → IsJob j → IsJob (with_stack change j)
 rules_with change j some rules =
     rules_of_rest j rules (record j.desk { levels = change j.desk.levels }) j.pending j.wants j.terminal rules.waits rules.goes_on (λ there. some (rules.level there))
@@ -46,7 +47,7 @@ document_there change (level ∷ other ∷ below) some = omega arith
 pub typed_rules : (line : List ℕ) (j : JobState) → IsJob j → IsJob (typed_to line j)
 typed_rules line j rules = rules_with (with_typed line) j (document_there (line_added line) j.desk.levels.levels) rules
 
--- THE PROGRAM OF A TURN leaves the document
+-- THE PROGRAM OF A TURN leaves the document unchanged, or drops it
 pub leaves_document : (j : JobState) → IsJob j → AlwaysGives (LeavesDocument j) (turn_work j)
 leaves_document j rules = begins_leaves j.desk.levels.held (typed_lines j) (room_of j) j.user j.pending (begin j) refl rules.level (refl, inr refl)
 
@@ -54,7 +55,7 @@ module _ {S : Type 0} (answers : S → List ℕ → StoreCall → Answer → S �
   pub turn_leaves : (j : JobState) (old : S) (w : Work) (new : S) → IsJob j → RanWell answers is_spent can_wait j.user old (turn_work j) w new → LeavesDocument j w
   turn_leaves j old w new rules r = well_gives answers is_spent can_wait j.user (LeavesDocument j) (turn_work j) old w new (leaves_document j rules) r
 
--- the end of a turn leaves the terminal, and the desk that its work left
+-- the end of a turn leaves the terminal and the desk of its work unchanged
 abbrev pub HasSeat : JobState → Work → JobState → Type 0
 HasSeat j w new = (new.terminal ≡ j.terminal) × (new.desk ≡ w.desk)
 

@@ -1,4 +1,5 @@
--- The programs of turns are honest, and keep the limits.
+-- The programs of turns are honest, and stay within the limits.
+-- serves: turns_keep_their_limits, turns_say_why_they_are_over, CauseLemmas, WellLemmas, crates above
 use Rattle.std.proofs.Common.{ℕ, ◌+◌, ◌-◌, ◌≤◌, List, length, Option, Some, None, IfSome, lit≤, arith}
 use Rattle.g_turn.specs.Bounds.{AlwaysGives, IsWithin}
 use Rattle.g_turn.specs.Causes.{IsHonest}
@@ -17,7 +18,7 @@ use Rattle.g_job.specs.Turns.{turn_work}
 pub turn_honest : (j : JobState) → IsHonest (turn_work j)
 turn_honest j = begins_honest (room_of j) j.user j.pending (begin j) tt
 
--- what was kept is within its limits
+-- what was stored is within its limits
 kept_fits : (monitor : List ℕ) (orders blocks : ℕ) (text : List ℕ) → length monitor + length text ≤ 1048576 → length text ≤ 1048576 - length monitor
 kept_fits monitor orders blocks text fits = omega (arith, fits)
 
@@ -28,7 +29,7 @@ begins_gives j (Some (AgainCommand text orders blocks command)) rule few =
     does_fired_gives (room_of j) j.user command (with_kept text orders blocks (begin j))
     (kept_fits j.monitor orders blocks text rule.room, rule.orders_few, rule.blocks_few, few, tt, tt)
 
--- EVERY TURN keeps its limits
+-- EVERY TURN stays within its limits
 pub turn_within : (j : JobState) → IsJob j → length j.desk.units.writers ≤ 16 → AlwaysGives (IsWithin (room_of j)) (turn_work j)
 turn_within j rules few =
     gives_more (In (room_of j) 4096) (IsWithin (room_of j)) (λ w g. within_of (room_of j) w g) (turn_work j) (begins_gives j j.pending rules.goes_on few)

@@ -1,12 +1,13 @@
 -- A turn of the code is the turn that is defined.
+-- serves: make (err, ok), make_again (err, ok), turn (ok, seat, spends, stopped, waited, waits)
 use Rattle.std.proofs.Common.{◌≡◌, ◌↔◌, ℕ, ◌+◌, ◌≤◌, Bool, false, List, length, Option, Some, None, Result, Ok, Err, IfOk, IfSome, OnErr, OnOk, is_some, refl, sym, ap, ◌∙◌, subst, arith}
 use Rattle.std.proofs.lemmas.Bool.{false≢true}
 use Rattle.std.specs.Fn.{Shared}
 use denote.Ref.{Bor}
 use Rattle.g_base.specs.declared.memory.NoMemory.{NoMemory}
-use Rattle.g_budget.specs.Tariff.{IsCharge, IsTariff, IsUsage}
-use Rattle.g_budget.specs.declared.tariff.Charge.{Charge}
-use Rattle.g_budget.specs.declared.tariff.Usage.{Usage}
+use Rattle.g_rules.specs.Tariff.{IsCharge, IsTariff, IsUsage}
+use Rattle.g_rules.specs.declared.tariff.Charge.{Charge}
+use Rattle.g_rules.specs.declared.tariff.Usage.{Usage}
 use Rattle.g_job.specs.Beginning.{begin, room_of}
 use Rattle.g_turn.specs.Bounds.{IsKeptWithin, IsWithin}
 use Rattle.g_turn.specs.Causes.{CauseOf, last_answer}
@@ -32,12 +33,12 @@ use Rattle.g_plain.specs.Programs.{Answer, RanInPart}
 use Rattle.g_plain.specs.Runs.{RanBy}
 use Rattle.g_plain.specs.declared.calls.StoreCall.{StoreCall}
 
--- two that are so where it went well
+-- two facts that hold on success
 pub both_ok : {T E A B C : Type 0} (r : Result T E) → (A → B → C) → OnOk r A → OnOk r B → OnOk r C
 both_ok (Ok x) follows a b = follows a b
 both_ok (Err e) follows a b = tt
 
--- and what a turn is gone on with is such
+-- what a turn resumes with is well-formed
 pending_of : (monitor : List ℕ) (room : ℕ) (most : ℕ) (p : Option Pending) → length monitor + room ≤ 1048576 → IfSome p (IsKeptWithin room) → IfSome p IsAgain → IfSome p (IsPending monitor)
 pending_of monitor room most None fits kept is = tt
 pending_of monitor room most (Some (AgainLine text)) fits kept is = tt
@@ -66,7 +67,7 @@ module _ {S : Type 0} (answers : S → List ℕ → StoreCall → Answer → S �
       (subst (λ (p : Option Pending). RanWell answers is_spent can_wait j.user old (begins room j.user p (begin j)) w new) ep
       (subst (λ (x : Work). RanWell answers is_spent can_wait j.user old (begins room j.user pending x) w new) es r))
 
-  -- and where memory was wanting on its way
+  -- the same, if memory ran out on its way
   pub begun_part : (j : JobState) (room : ℕ) (pending : Option Pending) (start : Work) (old new : S) → room ≡ room_of j → pending ≡ j.pending → start ≡ begin j
       → RanInPart answers j.user old (begins room j.user pending start) new → RanInPart answers j.user old (turn_work j) new
   begun_part j room pending start old new er ep es r =
@@ -74,14 +75,14 @@ module _ {S : Type 0} (answers : S → List ℕ → StoreCall → Answer → S �
       (subst (λ (p : Option Pending). RanInPart answers j.user old (begins room j.user p (begin j)) new) ep
       (subst (λ (x : Work). RanInPart answers j.user old (begins room j.user pending x) new) es r))
 
-  -- what was told on its way, and why it is over
+  -- the answers on its way, and why it is over
   pub told : (j : JobState) (old : S) (w : Work) (new : S) → RanWell answers is_spent can_wait j.user old (turn_work j) w new
       → (told : List Answer) × RanBy answers j.user old (turn_work j) told w new × CauseOf (last_answer told) w.stop
   told j old w new r =
       let by = ran_by answers j.user (turn_work j) old w new (turn_ran answers is_spent can_wait j old w new r) in
       (by.0, by.1, turn_cause answers j old by.0 w new by.1)
 
--- a turn ends in one way, with whatever desk and whatever wait the job was before
+-- the end of a turn doesn't depend on the desk or the wait of the job before
 same_end : (j : JobState) (desk : Desk) (w : Work) (stop : Option Stop) (charge : Option Charge) → end_by stop (record j { desk = desk; pending = None; wants = None }) w charge ≡ end_by stop j w charge
 same_end j desk w None None = refl
 same_end j desk w None (Some charge) = refl
@@ -97,7 +98,7 @@ same_end j desk w (Some (Waits serial)) (Some charge) = refl
 comes_to : (j : JobState) (w : Work) (charge : Option Charge) (t : Turn) (new : JobState) → (let end : Option (Turn × JobState) = Some (t, new) in turn_end j w charge ≡ end) → ComesTo j w charge t new
 comes_to j w charge t new is = subst (λ (end : Option (Turn × JobState)). IfSome end (λ e. ComesTo j w charge e.0 e.1)) is (end_comes j w charge)
 
--- a turn that was stopped answers so
+-- a turn that was stopped returns this
 abbrev pub turn_in : Turn → Option (Turn × JobState) → Turn
 turn_in other None = other
 turn_in other (Some end) = end.0
@@ -139,14 +140,14 @@ module _ {F : Type 0} (calls : Shared F (Bor Usage × Unit {0}) Charge) (rule : 
       subst (λ (e : Option (Turn × JobState)). IfSome e (λ x. Spends j x.0 x.1)) end
       (end_spends j w charge rules going (charge_of tariff (room_of j) w charge within priced))
 
-  -- and the job keeps its rules
+  -- the job's rules hold afterwards
   pub kept_of : IsTariff calls rule → (j : JobState) (w : Work) (t : Turn) (new : JobState) → IsJob j → j.over ≡ false → IsWithin (room_of j) w → IsGoneOnWith j.monitor w
       → IsTurn calls rule j w t new → IsJob new
   kept_of tariff j w t new rules going within gone (charge, priced, end) =
       subst (λ (e : Option (Turn × JobState)). IfSome e (λ x. IsJob x.1)) end
       (rules_kept j w charge rules going (charge_of tariff (room_of j) w charge within priced) within gone)
 
-  -- whether it has ended, or memory was wanting and it is as behind its work
+  -- the turn has ended, or memory ran out and the job is as its work left it
   pub rules_after : IsTariff calls rule → (j mid : JobState) (w : Work) (new : JobState) (r : Result Turn NoMemory) → IsJob j → j.over ≡ false → IsWithin (room_of j) w → IsGoneOnWith j.monitor w
       → mid ≡ record j { desk = mid.desk; pending = None; wants = None } → IfOk r (λ t. IsTurn calls rule mid w t new) → OnErr r (new ≡ mid) → IsJob new
   rules_after tariff j mid w new (Ok t) rules going within gone is ended kept = kept_of tariff j w t new rules going within gone (turn_before j mid w t new is ended)

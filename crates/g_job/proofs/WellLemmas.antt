@@ -1,4 +1,5 @@
--- Programs that were run over any store: what follows of how they ended.
+-- Programs that were run on any store: consequences of how they ended.
+-- serves: turn (stopped, waits), turns_leave_their_store, TurnLemmas
 use Rattle.std.proofs.Common.{◌≡◌, ◌↔◌, ◌≤◌, length, ℕ, Bool, true, false, List, Option, Some, Ok, Err, refl, sym, ap, ◌∙◌, subst}
 use Rattle.std.proofs.lemmas.Bool.{false≢true}
 use Rattle.g_turn.specs.Bounds.{AlwaysGives, IsWithin, MayAnswer}
@@ -14,7 +15,7 @@ use Rattle.g_plain.specs.Programs.{Answer, Asks, Call, Gives, IsAnswer, Ran}
 use Rattle.g_plain.specs.declared.calls.StoreCall.{StoreCall}
 use Rattle.g_plain.specs.declared.faults.StoreFault.TheVariants as fault
 
--- an answer that a store may give is one with which a program goes on
+-- a program continues after any answer that a store may give
 may_answer : (asked : StoreCall) (answer : Answer) → MayAnswer asked answer → IsAnswer answer
 may_answer asked (Ok reply) may = tt
 may_answer asked (Err fault.NoMemory) may = absurd may
@@ -64,17 +65,17 @@ module _ {S : Type 0} (answers : S → List ℕ → StoreCall → Answer → S �
   well_ran (Gives x) old given new r = r
   well_ran (Call asked more) old given new r = (r.0, r.1, r.2.is, may_answer asked r.0 r.2.may, well_ran (more r.0) r.1 given new r.3)
 
-  -- nothing was mounted
+  -- no reel was mounted
   well_same : (p : Asks Work) (old : S) (given : Work) (new : S) → Well old p given new → (serial : ℕ) → can_wait new serial ≡ can_wait old serial
   well_same (Gives x) old given new r serial = ap (λ (s : S). can_wait s serial) r.1
   well_same (Call asked more) old given new r serial = well_same (more r.0) r.1 given new r.3 serial ∙ r.2.same serial
 
-  -- where a program stops at once
+  -- if a program stops at once
   stops_well : (stop : Stop) (p : Asks Work) (old : S) (w : Work) (new : S) → StopsAt stop p → Well old p w new → (w.stop ≡ Some stop) × (new ≡ old)
   stops_well stop (Gives x) old w new s r = (ap (λ (y : Work). y.stop) r.0 ∙ s, r.1)
   stops_well stop (Call asked more) old w new s r = absurd s
 
-  -- the store is spent exactly behind a stop
+  -- the store is spent if and only if there was a stop
   spent_by : (asked : StoreCall) (more : Answer → Asks Work) (old : S) (answer : Answer) (mid : S) (w : Work) (new : S) → IsHonest (Call asked more) → Step old asked answer mid
       → Well mid (more answer) w new → (is_spent mid ≡ false → IsHonest (more answer) → (is_spent new ≡ true) ↔ (w.stop ≡ Some Broken)) → (is_spent new ≡ true) ↔ (w.stop ≡ Some Broken)
   spent_by asked more old (Err (fault.WaitTape serial)) mid w new h step r again =
@@ -94,7 +95,7 @@ module _ {S : Type 0} (answers : S → List ℕ → StoreCall → Answer → S �
   well_spent (Call asked more) old w new h unspent r =
       spent_by asked more old r.0 r.1 w new h r.2 r.3 (λ fresh honest. well_spent (more r.0) r.1 w new honest fresh r.3)
 
-  -- who waits, waits for a reel that isn't mounted
+  -- a wait is for a reel that isn't mounted
   waits_by : (asked : StoreCall) (more : Answer → Asks Work) (old : S) (answer : Answer) (mid : S) (w : Work) (new : S) → IsHonest (Call asked more) → Step old asked answer mid
       → Well mid (more answer) w new → (serial : ℕ) → w.stop ≡ Some (Waits serial) → (IsHonest (more answer) → can_wait new serial ≡ true) → can_wait new serial ≡ true
   waits_by asked more old (Err (fault.WaitTape other)) mid w new h step r serial waits again =
@@ -110,7 +111,7 @@ module _ {S : Type 0} (answers : S → List ℕ → StoreCall → Answer → S �
   well_waits (Call asked more) old w new h r serial waits =
       waits_by asked more old r.0 r.1 w new h r.2 r.3 serial waits (λ honest. well_waits (more r.0) r.1 w new honest r.3 serial waits)
 
-  -- what is so of all that a program can give is so
+  -- a property of everything that a program can return holds for what it returned
   well_gives : (P : Work → Type 0) (p : Asks Work) (old : S) (given : Work) (new : S) → AlwaysGives P p → Well old p given new → P given
   well_gives P (Gives x) old given new g r = subst P (sym r.0) g
   well_gives P (Call asked more) old given new g r = well_gives P (more r.0) r.1 given new (g r.0 r.2.may) r.3

@@ -1,6 +1,6 @@
-//! The end of a turn: its charge, its last line, and what the job is then.
+//! The end of a turn: its charge, its last line, and the job afterwards.
 ghost use Rattle.std.specs.Prelude.{◌≡◌, ◌+◌, ◌++◌, min, None, Some, false, option_map, true, IfOk, OnErr, OnOk};
-ghost use Rattle.g_budget.specs.Tariff.{IsTariff};
+ghost use Rattle.g_rules.specs.Tariff.{IsTariff};
 ghost use Rattle.g_job.specs.Beginning.{room_of};
 ghost use Rattle.g_turn.specs.Bounds.{IsWithin};
 ghost use Rattle.g_job.specs.TurnEnd as ends;
@@ -16,15 +16,15 @@ ghost use Rattle.g_monitor.specs.JobLines.{job_line};
 use crate::Turn;
 use crate::parts::Parts;
 use g_base::NoMemory;
-use g_budget::{Charge, Tariff, Usage};
 use g_monitor::JobLine;
 use g_name::Text;
+use g_rules::{Charge, Tariff, Usage};
 use g_turn::{Stop, Work};
 use std::alloc::Global;
 
 impl Parts {
-    /// Ends a turn by what its work has made, which lies where it was made.
-    // Each turn comes to it, and to the three below: what they answer is looked at where it is made.
+    /// Ends a turn by the results of its work, which are used in place.
+    // Inlined, like the three functions below: every turn calls them, and their results are used where they are computed.
     #[inline(always)]
     pub(crate) fn end<F: Fn(&Usage) -> Charge>(
         &mut self,
@@ -47,7 +47,7 @@ impl Parts {
         self.end_by(alloc, tariff, stop)
     }
 
-    /// Ends a turn whose work is over for this, or isn't.
+    /// Ends a turn whose work is over for this reason, or isn't over.
     #[inline(always)]
     fn end_by<F: Fn(&Usage) -> Charge>(
         &mut self,
@@ -115,8 +115,8 @@ impl Parts {
         }
     }
 
-    /// The job waits for the reel of this serial, and goes on with what its work kept for that.
-    // A turn seldom comes to it: a function of its own keeps its room out of each.
+    /// The job waits for the reel of this serial, and stores what its work resumes with.
+    // A turn rarely calls it: as a function of its own it adds no stack space to others.
     #[inline(never)]
     fn wait_for(&mut self, alloc: Global, serial: u32)
         requires { IsWaiting (job_of self.old) self.old.work.again }
@@ -131,8 +131,8 @@ impl Parts {
         self.ready = true;
     }
 
-    /// The job was stopped: it takes no turn any more.
-    // It comes once in a job at most: a function of its own keeps its room out of each turn.
+    /// The job was stopped: it takes no more turns.
+    // Called at most once in a job: as a function of its own it adds no stack space to other turns.
     #[inline(never)]
     fn break_off(&mut self) -> Result<(), NoMemory>
         ensures ok { OnOk result (self.new ≡ record self.old {
@@ -146,8 +146,7 @@ impl Parts {
         Ok(())
     }
 
-    /// Charges a turn, of each kind no more than is left, and says the job's last line where it ends, behind what the turn
-    /// adds.
+    /// Charges a turn, of each kind at most what is left. If the job ends, its last line is appended to the turn's text.
     #[inline(always)]
     fn settle(&mut self, charge: Charge, stop: Option<Stop>) -> Result<Turn, NoMemory>
         requires open { self.old.over ≡ false }
@@ -172,7 +171,7 @@ impl Parts {
         Ok(turn_of(units, money, last.is_some()))
     }
 
-    /// The last line of the job behind a turn of this charge, where the job ends.
+    /// The last line of the job after a turn of this charge, if the job ends.
     fn last_line(&self, stop: Option<Stop>, charge: Charge) -> Option<JobLine>
         requires rules { IsJob (job_of self.now) }
         requires charged { ends.is_free (option_map stop_of stop) ≡ false }
@@ -193,14 +192,14 @@ impl Parts {
     }
 }
 
-/// What is charged: what the tariff says, cut to what is left.
+/// The charge: that of the tariff, limited to what is left.
 fn at_most_left(charge: u64, left: u64) -> u64
     ensures { result ≡ min charge left }
 {
     if charge <= left { charge } else { left }
 }
 
-/// The last line where TIME or MONEY is used up.
+/// The last line if TIME or MONEY is used up.
 fn up_line(time_up: bool, money_up: bool, used: u64, used_money: u64) -> Option<JobLine>
     ensures { option_map job_line result ≡ up_text time_up money_up used used_money }
 {
@@ -213,8 +212,8 @@ fn up_line(time_up: bool, money_up: bool, used: u64, used_money: u64) -> Option<
     }
 }
 
-/// Puts what a turn adds behind a monitoring file, and behind both the last line, where there is one. It is put behind what
-/// the turn adds first, in whose room it is made. Where memory is wanting, the file is as it was.
+/// Appends a turn's text to a monitoring file, followed by the last line, if there is one. The last line is appended to the turn's text first, in
+/// whose memory it is built. If memory runs out, the file is unchanged.
 fn add(monitor: &mut Text, work: &mut Work, last: Option<JobLine>) -> Result<(), NoMemory>
     ensures ok { OnOk result (monitor.new ≡ with_last (monitor.old ++ work.old.text) (option_map ended (option_map job_line last))) }
     ensures err { OnErr result (monitor.new ≡ monitor.old) }
@@ -224,7 +223,7 @@ fn add(monitor: &mut Text, work: &mut Work, last: Option<JobLine>) -> Result<(),
     add_text(monitor, work.text())
 }
 
-/// Puts a last line with its byte 10 behind what a turn adds, where there is one.
+/// Appends a last line with its byte 10 to the turn's text, if there is one.
 fn push_last(work: &mut Work, last: Option<JobLine>) -> Result<(), NoMemory>
     ensures ok { OnOk result (work.new.text ≡ with_last work.old.text (option_map ended (option_map job_line last))) }
     ensures desk { work.new.desk ≡ work.old.desk }
@@ -235,7 +234,7 @@ fn push_last(work: &mut Work, last: Option<JobLine>) -> Result<(), NoMemory>
     }
 }
 
-/// Puts a text behind a monitoring file, unless it is empty, as that of most turns of a program is.
+/// Appends a text to a monitoring file, unless it is empty, as it is for most turns of a program.
 fn add_text(monitor: &mut Text, text: &Text) -> Result<(), NoMemory>
     ensures ok { OnOk result (monitor.new ≡ monitor.old ++ text.now) }
     ensures err { OnErr result (monitor.new ≡ monitor.old) }
@@ -246,7 +245,7 @@ fn add_text(monitor: &mut Text, text: &Text) -> Result<(), NoMemory>
     monitor.extend(text.as_slice())
 }
 
-/// What the turn answers: that the job goes on, or has ended.
+/// The result of the turn: the job continues, or has ended.
 fn turn_of(units: u64, money: u64, ends: bool) -> Turn
     ensures { result ≡ turn_by units money ends }
 {

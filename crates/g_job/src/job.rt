@@ -1,6 +1,6 @@
 //! A job between its turns.
 ghost use Rattle.std.specs.Prelude.{◌≡◌, ◌≤◌, ◌↔◌, ℕ, [], List, Ok, false, true, IfOk, OnErr, length};
-ghost use Rattle.g_budget.specs.Tariff.{IsTariff};
+ghost use Rattle.g_rules.specs.Tariff.{IsTariff};
 ghost use Rattle.g_job.specs.Beginning.{job_begun, room_of, standing_of};
 ghost use Rattle.g_turn.specs.Bounds.{IsWithin};
 ghost use Rattle.g_turn.specs.Causes.{CauseOf, last_answer};
@@ -13,26 +13,25 @@ ghost use Rattle.g_lines.specs.Lines.{ended};
 ghost use Rattle.g_monitor.specs.JobLines.{header};
 ghost use Rattle.g_plain.specs.Programs.{Answer, RanInPart};
 ghost use Rattle.g_plain.specs.Runs.{RanBy};
-ghost use Rattle.g_sched.specs.Rule.{IsInRange};
+ghost use Rattle.g_rules.specs.Rule.{IsInRange};
 
 use crate::new_job::NewJob;
 use crate::parts::Parts;
 use crate::turn::Turn;
 use g_base::NoMemory;
-use g_budget::{Charge, Tariff, Usage};
 use g_macro::Levels;
 use g_monitor::push_header;
 use g_name::{Local, Text, User};
 use g_peri::Units;
 use g_plain::Filestore;
-use g_sched::Standing;
+use g_rules::{Charge, Standing, Tariff, Usage};
 use g_turn::Work;
 use std::alloc::Global;
 use std::marker::Model;
 
-/// A job: its document with the macros that it has called, a program, units, its allowances of TIME and MONEY, and its
-/// monitoring file. Contracts see a `JobState` (`docs/DEFINITIONS.md`, "A job and its turn"). Its parts lie in a box: a job is
-/// moved into the table of jobs and out of it, and with it a pointer.
+/// A job: its document with the macros that it has called, a program, units, its allowances of TIME and MONEY, and its monitoring file. Contracts see
+/// a `JobState` (`docs/DEFINITIONS.md`, "g_job"). Its parts are boxed: moving a job into the table of jobs and out of it moves a
+/// pointer.
 #[derive(Drop)]
 pub struct Job {
     pub(crate) parts: Box<Parts>,
@@ -58,7 +57,7 @@ impl Model for Job {
 }
 
 impl Job {
-    /// The job of this number that begins: no turn was taken, and its monitoring file has its first line.
+    /// The job of this number at its beginning: no turn was taken, and its monitoring file has its first line.
     pub fn new(alloc: Global, number: u64, job: NewJob) -> Result<Job, NoMemory>
         requires allowance { (1 ≤ job.time) × (job.time ≤ 1000000) }
         requires money { job.money ≤ 1000000 }
@@ -101,11 +100,10 @@ impl Job {
         }
     }
 
-    /// Takes a turn: goes on with what waited, or with a run of the program that isn't over, or takes the next line; does its
-    /// command and the WHENEVER behind it; and charges all that by the tariff, each kind cut to what the job has left.
+    /// Takes a turn: resumes with what waited, or continues a run of the program that isn't over, or takes the next line; executes its command and
+    /// the WHENEVER after it; and charges all that by the tariff, each kind limited to what the job has left.
     ///
-    /// Where memory is wanting, a front of the turn's calls was made, and nothing is known of the job any more: it takes no
-    /// further turn.
+    /// If memory runs out, a prefix of the turn's calls was made, and the job is unspecified: it takes no more turns.
     pub fn turn<S: Filestore, F: Fn(&Usage) -> Charge>(
         &mut self,
         alloc: Global,
@@ -123,7 +121,7 @@ impl Job {
             × IsWithin (room_of self.old) work
             × IsTurn F.Fn tariff.now self.old work turn self.new) }
 
-        // Without memory a front of these calls was answered.
+        // Without memory a prefix of these calls was answered.
         ensures err { OnErr result
             (RanInPart S.answers self.old.user store.old (turn_work self.old) store.new) }
 
@@ -141,8 +139,7 @@ impl Job {
         }
     }
 
-    /// The monitoring file so far: at most 1,048,576 bytes, and behind them one last line of at most 23, once the job has
-    /// ended.
+    /// The monitoring file so far: at most 1,048,576 bytes, and one last line of at most 23 more once the job has ended.
     pub fn monitor(&self) -> &[u8]
         ensures bytes { result.now ≡ self.now.monitor }
         ensures most { length self.now.monitor ≤ most_bytes self.now.over }
@@ -178,8 +175,8 @@ impl Job {
         self.parts.used_money
     }
 
-    /// Where the job stands, by which the next turn is chosen: its number, the units of TIME charged so far, its
-    /// allowance of them, and how many of its turns were charged.
+    /// The standing of the job, by which the next turn is chosen: its number, the units of TIME charged so far, its allowance in units, and how many
+    /// of its turns were charged.
     pub fn standing(&self) -> Standing
         ensures value { result ≡ standing_of self.now }
         ensures in_range { IsInRange result }
@@ -193,23 +190,23 @@ impl Job {
     }
 }
 
-/// The room with which a monitoring file and the text of a job's turns begin, in bytes: that of a few lines.
+/// The initial capacity of a monitoring file and of the text of a job's turns, in bytes: that of a few lines.
 const ROOM: usize = 256;
 
-/// An empty text with room for a few lines, so that it doesn't grow bit by bit.
+/// An empty text with capacity for a few lines, so that it doesn't grow in small steps.
 fn with_room(alloc: Global) -> Result<Text, NoMemory>
     ensures { IfOk result (λ text. text ≡ []) }
 {
     Ok(Text::from(Vec::with_capacity(alloc, ROOM)?))
 }
 
-/// The first line of a monitoring file, with its byte 10, put into this text, which is empty.
+/// The first line of a monitoring file, with its byte 10, written to this empty text.
 fn first_line(empty: Text, number: u64, name: &Local, user: &User) -> Result<Text, NoMemory>
     requires { empty ≡ [] }
     ensures line { IfOk result (λ text. text ≡ ended (header number name.now user.now)) }
     ensures short { IfOk result (λ text. length text ≤ 1048576) }
 {
-    // Names are short.
+    // Establishes that names are short.
     let _name = name.as_slice();
     let _user = user.as_slice();
     let mut text = empty;

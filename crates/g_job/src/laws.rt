@@ -1,7 +1,7 @@
-//! Laws of turns. They do nothing; their clauses say what holds of the program of every turn, and of every end.
+//! Laws of turns. They do nothing; their clauses hold for the program of every turn, and for every end.
 ghost use Rattle.std.specs.Prelude.{◌≡◌, ◌≤◌, ℕ, List, length, Option, None, Some, IfSome, is_some, not, true, false, ◌↔◌};
-ghost use Rattle.g_budget.specs.Tariff.{IsCharge};
-ghost use Rattle.g_budget.specs.declared.tariff.Charge.{Charge};
+ghost use Rattle.g_rules.specs.Tariff.{IsCharge};
+ghost use Rattle.g_rules.specs.declared.tariff.Charge.{Charge};
 ghost use Rattle.g_job.specs.Beginning.{room_of};
 ghost use Rattle.g_turn.specs.Bounds.{AlwaysGives, IsWithin};
 ghost use Rattle.g_turn.specs.Causes.{CauseOf, IsHonest, last_answer};
@@ -22,8 +22,8 @@ ghost use Rattle.g_plain.specs.Runs.{RanBy};
 
 use g_plain::{Filestore, HoldsTree};
 
-/// Over any store: a turn waits exactly where its last answer was a wait, for that reel, and was stopped exactly where that
-/// was a stop. Behind a wait and a stop nothing more is asked, and the answers of a turn give one work.
+/// For any store: a turn waits for a reel if and only if its last answer was a wait for that reel, and was stopped if and only if that answer was a
+/// stop. After a wait or a stop no call is made, and the answers of a turn determine one work.
 pub fn turns_say_why_they_are_over<S: Filestore>()
     ensures once { (j : JobState) → IsHonest (turn_work j) }
     ensures cause { (j : JobState) (old : S) (told : List Answer) (work : Work) (new : S)
@@ -35,8 +35,8 @@ pub fn turns_say_why_they_are_over<S: Filestore>()
         → RanBy S.answers j.user start (turn_work j) told other end → work ≡ other }
 {}
 
-/// A turn that waits or was stopped ends without a charge and in no other way, and every other turn with one. What it
-/// comes to is told by why its work is over; a turn that is charged takes a unit of TIME at least, or ends the job.
+/// A turn that waits or was stopped ends without a charge and in no other way, and every other turn with one. Its result is determined by the reason
+/// why its work is over. A turn that is charged takes at least one unit of TIME, or ends the job.
 pub fn turns_come_to_one_end()
     ensures free { (j : JobState) (work : Work)
         → is_some (turn_end j work None) ≡ is_free work.stop }
@@ -49,20 +49,20 @@ pub fn turns_come_to_one_end()
         → IfSome (turn_end j work charge) (λ end. Spends j end.0 end.1) }
 {}
 
-/// Whatever a store may answer, a turn runs at most 64 orders, hands over at most 4,096 blocks, and adds to the monitoring
-/// file no more than it has room for; and a turn that waits has something to go on with.
+/// For any answers of a store, a turn runs at most 64 orders, transfers at most 4,096 blocks, and adds to the monitoring file no more than it has
+/// room for; and a turn that waits has something to resume with.
 pub fn turns_keep_their_limits()
     ensures { (j : JobState) → IsJob j → length j.desk.units.writers ≤ 16
         → AlwaysGives (IsWithin (room_of j)) (turn_work j) }
 {}
 
-/// Whatever a store may answer, a turn leaves the lines of the document as they are, or drops it with all levels, and leaves
-/// it held open as it is; and what a turn is gone on with has a level.
+/// For any answers of a store, a turn leaves the lines of the document unchanged, or drops it with all levels, and doesn't change whether it is held
+/// open; and what a turn resumes with has a level.
 pub fn turns_keep_the_document()
     ensures { (j : JobState) → IsJob j → AlwaysGives (LeavesDocument j) (turn_work j) }
 {}
 
-/// Behind a turn within its limits a job keeps its rules.
+/// A turn within its limits preserves the rules of a job.
 pub fn turns_keep_the_rules()
     ensures { (j : JobState) (work : Work) (charge : Option Charge)
         → IsJob j → j.over ≡ false → IfSome charge IsCharge
@@ -70,8 +70,8 @@ pub fn turns_keep_the_rules()
         → IfSome (turn_end j work charge) (λ end. IsJob end.1) }
 {}
 
-/// Over any store, by what each call of one does: behind a turn the store is spent exactly where the turn was stopped, the
-/// reel that a turn waits for isn't mounted, no turn mounts one, and a turn keeps its limits.
+/// For any store, by the contract of its calls: after a turn the store is spent if and only if the turn was stopped, the reel that a turn waits for
+/// isn't mounted, no turn mounts one, and a turn stays within its limits.
 pub fn turns_leave_their_store<S: Filestore>()
     ensures ran { (j : JobState) (old : S) (work : Work) (new : S)
         → RanWell S.answers S.is_spent S.can_wait j.user old (turn_work j) work new
@@ -91,8 +91,8 @@ pub fn turns_leave_their_store<S: Filestore>()
         → IsWithin (room_of j) work }
 {}
 
-/// Over a store that holds a tree, whatever else it does, the program of a turn was asked of that tree, call by call: each
-/// answer is the plain step's, or a wait or a refusal of a device that leaves the tree, or a stop.
+/// For any store that holds a tree, the program of a turn was run on that tree, call by call: each answer is the plain step's, or a wait or a refusal
+/// of a device that leaves the tree unchanged, or a stop.
 pub fn turns_are_asked_of_a_plain_tree<S: HoldsTree>()
     ensures { (j : JobState) (old : S) (work : Work) (new : S) (t : Tree)
         → S.holds old t → Ran S.answers j.user old (turn_work j) work new

@@ -1,5 +1,5 @@
-//! Jobs: a document, the macros that it calls, units, a program, an allowance; and what one turn of all that asks of a
-//! store and makes of the answers. A job at a terminal has a document that grows by the lines that are typed.
+//! Jobs: a document, the macros that it calls, units, a program, an allowance; and the calls that one turn of a job makes to a store, with the use of
+//! the answers. A job at a terminal has a document that grows by the lines that are typed.
 #![tactic(auto)]
 
 mod ending;

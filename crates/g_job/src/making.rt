@@ -13,11 +13,11 @@ use g_plain::Filestore;
 use g_turn::Asker;
 use std::alloc::Global;
 
-/// The most bytes of a monitoring file, before its last line.
+/// The maximum length of a monitoring file in bytes, before its last line.
 const MOST: usize = 1_048_576;
 
 impl Parts {
-    /// Does the work of a turn, which takes what waited. Mostly nothing did.
+    /// Does the work of a turn, resuming with what is pending. Usually nothing is.
     pub(crate) fn make<S: Filestore>(
         &mut self,
         alloc: Global,
@@ -58,8 +58,8 @@ impl Parts {
         }
     }
 
-    /// Does the work of a turn that goes on with what waited.
-    // What waits is large, and a turn seldom goes on with it: a function of its own keeps its room out of each.
+    /// Does the work of a turn that resumes with what is pending.
+    // What is pending is large, and a turn rarely resumes with it: as a function of its own it adds no stack space to others.
     #[inline(never)]
     fn make_again<S: Filestore>(&mut self, alloc: Global, store: &mut S) -> Result<(), NoMemory>
         requires running { S.is_spent store.old ≡ false }

@@ -1,8 +1,8 @@
-//! What a job is made of.
+//! The parts of a job.
 use g_name::{Local, Text, User};
 use g_turn::{Suspended, Work};
 
-/// What a job is made of. Its work keeps what the last turn made until the next one begins; contracts of a job don't see that.
+/// The parts of a job. Its work stores the results of the last turn until the next one begins; contracts of a job don't see that.
 #[derive(Drop)]
 pub(crate) struct Parts {
     pub number: u64,
@@ -14,13 +14,13 @@ pub(crate) struct Parts {
     pub used_money: u64,
     pub turns: u64,
     pub work: Work,
-    /// What the next turn goes on with, where the last one waited.
+    /// What the next turn resumes with, if the last one waited.
     pub again: Option<Suspended>,
     pub wants: Option<u32>,
     pub monitor: Text,
     pub over: bool,
-    /// The terminal at which it is, if it is at one.
+    /// The terminal of the job, if it has one.
     pub terminal: Option<u8>,
-    /// Whether it may go on, which is looked at once a turn and at each line that is typed.
+    /// Whether it may take a turn, which is computed once a turn and for each typed line.
     pub ready: bool,
 }

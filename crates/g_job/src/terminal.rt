@@ -8,8 +8,7 @@ use g_base::NoMemory;
 use g_name::Text;
 
 impl Job {
-    /// Holds the document open for lines to come: a document without a line left doesn't end the job, and it takes a turn
-    /// only where it is ready.
+    /// Holds the document open for more lines: the job doesn't end when its document has no line left, and takes a turn only if it is ready.
     pub fn hold(&mut self)
         ensures { self.new ≡ terminals.held self.old }
     {
@@ -24,7 +23,7 @@ impl Job {
         self.parts.terminal = Some(terminal);
     }
 
-    /// Puts a line behind those of the document; without memory nothing changes.
+    /// Appends a line to the document; without memory nothing changes.
     pub fn add_line(&mut self, line: Text) -> Result<(), NoMemory>
         requires { IsOneLine line }
         ensures ok { OnOk result (self.new ≡ terminals.typed_to line self.old) }
@@ -36,14 +35,14 @@ impl Job {
         Ok(())
     }
 
-    /// Whether the job is ready with this line behind those of its document, of which no other is looked at.
+    /// Whether the job is ready with this line at the end of its document; no other line is read.
     fn ready_with(&self, line: &[u8]) -> bool
         ensures { result ≡ terminals.is_ready (terminals.typed_to line.now self.now) }
     {
         self.parts.ready || self.parts.work.ready_with(line)
     }
 
-    /// No more lines are to come: the job ends as any other does.
+    /// No more lines will be typed: the job ends as any other does.
     pub fn finish(&mut self)
         ensures { self.new ≡ terminals.logged_out self.old }
     {
@@ -51,16 +50,15 @@ impl Job {
         self.parts.ready = true;
     }
 
-    /// Whether the job can go on before more lines come, be it that it waits for a reel or not: a run of its program isn't
-    /// over, what waited is still to be done, its document isn't held open, a macro has a line left, or the next line of the
-    /// document is no INPUT, or one whose `////` is there.
+    /// Whether the job can take a turn before more lines are typed, whether or not it waits for a reel: a run of its program isn't over, something is
+    /// pending, its document isn't held open, a macro has a line left, or the next line of the document is no INPUT, or one whose `////` is there.
     pub fn ready(&self) -> bool
         ensures { result ≡ terminals.is_ready self.now }
     {
         self.parts.ready
     }
 
-    /// The terminal at which it is, if it is at one.
+    /// The terminal of the job, if it has one.
     pub fn terminal(&self) -> Option<u8>
         ensures { result ≡ self.now.terminal }
     {

@@ -1,14 +1,14 @@
-//! What a turn of a job comes to.
+//! The result of a job's turn.
 
-/// What a turn of a job comes to. Units of TIME and MONEY are those of this turn, each cut to what the job had left.
+/// The result of a job's turn. Units of TIME and MONEY are those of this turn, each limited to what the job had left.
 #[derive(Clone, Copy, PartialEq, Eq)]
 pub enum Turn {
-    /// The job goes on.
+    /// The job continues.
     Ran { units: u64, money: u64 },
-    /// A call waits for the reel of this serial. Nothing was charged, and the turn is gone on with once it is mounted.
+    /// A call waits for the reel of this serial. Nothing was charged, and the turn resumes once it is mounted.
     Wants { serial: u32 },
     /// The job ended: it was done, its monitoring file was full, or its TIME or its MONEY was used up.
     Ended { units: u64, money: u64 },
-    /// A call was stopped: the store takes no call any more, and the job no turn. Nothing was charged.
+    /// A device write failed during a call: the store takes no more calls, and the job no more turns. Nothing was charged.
     Broken,
 }

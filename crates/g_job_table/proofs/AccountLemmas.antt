@@ -1,4 +1,5 @@
--- Accounts: where a user's stands, and what ended jobs leave of it.
+-- Accounts: the place of a user's account, and what ended jobs leave of it.
+-- serves: account_for, charge, end (kept, settled), has_account, left_for, place_for, searched, NumberLemmas, OpeningLemmas, RowLemmas, and 2 more
 use Rattle.std.proofs.Common.{◌≡◌, ◌+◌, ◌-◌, ◌<◌, ◌∙◌, ◌++◌, ◌∷◌, [], Bool, List, None, Option, Some, ap, append-nil, arith, cond, drop, false, find, get_or, is_some, length, refl, slice_get, subst, suc, sum_by, sym, take, take_all, true, true≢false, unwrap_or, zero, ℕ}
 use Rattle.std.specs.Option.{option_map, option_or}
 use Rattle.std.proofs.lemmas.Bool.{cond_both, false≢true}
@@ -33,20 +34,20 @@ pub cond_none : {X : Type 0} (b : Bool) (x : X) (o : Option X) → cond b (Some 
 cond_none true x o e = absurd (none-some x (sym e))
 cond_none false x o e = (refl, e)
 
--- where none passes so far, and the next one doesn't
+-- no item passes so far, and the next one doesn't
 pub find_more : {X : Type 0} (p : X → Bool) (xs : List X) (i : ℕ) (x : X) → i < length xs → x ≡ get_or xs i x → find p (take i xs) ≡ None → p x ≡ false → find p (take (i + 1) xs) ≡ None
 find_more p xs i x within is none fails =
     ap (find p) (take_more xs i x within ∙ ap (λ y. take i xs ++ y ∷ []) (sym is)) ∙ find-append p (take i xs) (x ∷ [])
     ∙ ap (λ o. option_or o (cond (p x) (Some x) None)) none ∙ ap (λ b. cond b (Some x) None) fails
 
--- what a look-up finds passes
+-- an item that a look-up finds passes
 pub find_passes : {X : Type 0} (p : X → Bool) (xs : List X) (x : X) → find p xs ≡ Some x → p x ≡ true
 find_passes p [] x e = absurd (none-some x e)
 find_passes p (y ∷ xs) x e =
     cond_both (p y) (Some y) (find p xs) (λ o. o ≡ Some x → p x ≡ true) (λ passes here. subst (λ z. p z ≡ true) (same_Some y x here) passes)
     (λ fails later. find_passes p xs x later) e
 
--- the account at a place before which none is the user's
+-- the account at a place is the first of the user's if none before it is the user's
 pub IsPlaceFor-first : (kept : List Account) (user : List ℕ) (place : ℕ) (a : Account) → kept_for (take place kept) user ≡ None → slice_get kept place ≡ Some a → same_text a.user user ≡ true
     → IsPlaceFor kept user place
 IsPlaceFor-first [] user place a none there named = absurd (none-some a there)
@@ -72,7 +73,7 @@ IsPlaceFor-first (b ∷ kept) user (suc place) a none there named =
           ap (λ (t : Bool). cond t (less j b ∷ kept) (b ∷ charged j kept)) (ap (λ (u : List ℕ). same_text b.user u) is ∙ other) ∙ ap (λ ks. b ∷ ks) (rest.charge j is);
     }
 
--- nobody's account is charged
+-- no account is charged
 pub charged-none : (j : JobState) (kept : List Account) → kept_for kept j.user ≡ None → charged j kept ≡ kept
 charged-none j [] none = refl
 charged-none j (a ∷ kept) none =
@@ -129,7 +130,7 @@ both-settled j true None kept e = ap (option_map (less j)) e
 both-settled j true (Some a) kept e = ap (option_map (less j)) e ∙ ap (λ (x : Account). Some x) (left-spent j a)
 both-settled j false old kept e = e
 
--- who has an account has it still
+-- a user who has an account still has it
 pub charged-keeps : (j : JobState) (kept : List Account) → KeepAccounts kept (charged j kept)
 charged-keeps j kept user some = ap is_some (kept-charged j kept user) ∙ both (same_text j.user user) (kept_for kept user) some
   where
@@ -161,14 +162,14 @@ left_by (Some a) kept jobs user left mine e time money =
           ∙ ap (λ (u : List ℕ). a.money - sum_by (λ s. s.money) a.ended - sum_by (λ j. j.money) (jobs_of u jobs)) named,
     )
 
--- what is left is what is left in a world
+-- what is left in the table is what is left in a world
 pub left-world : (accounts : List Opened) (kept : List Account) (jobs : List JobState) (user : List ℕ) (left : Account) → AreKept accounts kept → IsLeft kept jobs user left
     → (left.time ≡ time_left (unwrap_or (account_of accounts user) (no_account user)) jobs) × (left.money ≡ money_left (unwrap_or (account_of accounts user) (no_account user)) jobs)
 left-world accounts kept jobs user left are is =
     left_by (account_of accounts user) (kept_for kept user) jobs user left
     (λ a e. same_eq a.user user (find_passes (λ (x : Opened). same_text x.user user) accounts a e)) (are user) is.time is.money
 
--- nothing is held by nobody
+-- without jobs nothing is held
 pub IsLeft-none : (kept : List Account) (user : List ℕ) (left : Account) → left ≡ unwrap_or (kept_for kept user) (empty_for user) → IsLeft kept [] user left
 IsLeft-none kept user left is = record {
   time = ap (λ (a : Account). a.time) is ∙ sym (minus_nil (unwrap_or (kept_for kept user) (empty_for user)).time);
@@ -220,7 +221,7 @@ pub account_is : (a : Account) (user : List ℕ) (time money : ℕ) → user ≡
     → let new : Account = record { user = user; time = time; money = money } in new ≡ a
 account_is a user time money named times moneys = λ i. record { user = named i; time = times i; money = moneys i }
 
--- an account that stands at a place is found
+-- an account that is at a place is found
 pub kept-some : (kept : List Account) (user : List ℕ) (place : ℕ) (a : Account) → slice_get kept place ≡ Some a → same_text a.user user ≡ true → true ≡ is_some (kept_for kept user)
 kept-some [] user place a there named = absurd (none-some a there)
 kept-some (b ∷ kept) user zero a there named =
@@ -235,7 +236,7 @@ length-charged j (a ∷ kept) =
     cond_both (same_text a.user j.user) (less j a ∷ kept) (a ∷ charged j kept) (λ ks. length ks ≡ suc (length kept)) (λ here. refl)
     (λ other. ap (λ (n : ℕ). suc n) (length-charged j kept))
 
--- accounts that were charged in their own places
+-- accounts that were charged in place
 pub charged-whole : (j : JobState) (kept : List Account) (len : ℕ) → len ≡ length kept → take len (charged j kept ++ drop (length (charged j kept)) kept) ≡ charged j kept
 charged-whole j kept len is =
     let same = length-charged j kept in

@@ -1,4 +1,5 @@
--- The jobs that can step, one after another.
+-- The jobs that can step, in order.
+-- serves: choose, first_of, one_can_step
 use Rattle.std.proofs.Common.{◌≡◌, ◌+◌, ◌<◌, ◌≤◌, ◌∙◌, ◌++◌, ◌∷◌, ◌⊎◌, [], Bool, IfSome, List, None, Option, Some, ap, arith, cond, false, get_or, inl, inr, length, map, not, refl, slice_get, subst, sym, suc, take, true, zero, ℕ}
 use Rattle.std.specs.Fn.{FnReturnsAt, Shared}
 use Rattle.std.specs.Option.{option_map}
@@ -7,10 +8,10 @@ use Rattle.std.proofs.lemmas.Bool.{cond_both}
 use Rattle.std.proofs.lemmas.List.{length-map, length_push, take_all}
 use Rattle.std.proofs.lemmas.List.Elements.{filter_more}
 use Rattle.std.proofs.lemmas.Option.{none-some, same_Some, slice_get-map, slice_get_read}
-use Rattle.g_sched.specs.declared.choice.Candidate.{Candidate}
-use Rattle.g_sched.specs.declared.rule.Standing.{Standing}
-use Rattle.g_sched.specs.Choice.{IsNoLater}
-use Rattle.g_sched.proofs.Least.{IsBestOf, IsChosen-from_least, IsLeast-more}
+use Rattle.g_rules.specs.declared.choice.Candidate.{Candidate}
+use Rattle.g_rules.specs.declared.rule.Standing.{Standing}
+use Rattle.g_rules.specs.Choice.{IsNoLater}
+use Rattle.g_rules.proofs.Least.{IsBestOf, IsChosen-from_least, IsLeast-more}
 use Rattle.g_job.specs.Beginning.{standing_of}
 use Rattle.g_job.specs.State.{JobState}
 use Rattle.g_store_model.specs.State.{State}
@@ -48,7 +49,7 @@ able-one s (m ∷ jobs) zero j there can =
 able-one s (m ∷ jobs) (suc place) j there can =
     cond_both (can_step s m) (m ∷ able_in s jobs) (able_in s jobs) (λ ks. true ≡ not (has_none ks)) (λ able. refl) (λ not_able. able-one s jobs place j there can)
 
--- it stands behind those before it that can
+-- it follows those before it that can step
 able-at : (s : State) (jobs : List JobState) (i : ℕ) (j : JobState) → slice_get jobs i ≡ Some j → can_step s j ≡ true
     → slice_get (able_in s jobs) (length (able_in s (take i jobs))) ≡ Some j
 able-at s [] i j there can = absurd (none-some j there)
@@ -90,7 +91,7 @@ map_some None x e = absurd (none-some x e)
 map_some (Some j) x e = (j, refl, same_Some (standing_of j) x e)
 
 module _ {U : Type 0} (rules : Shared U (Bor Standing × Unit {0}) ℕ) (rule : U) where
-  -- of the jobs so far so many can step, and this is the best of them
+  -- of the first i jobs, `able` can step, and this is the best of them
   abbrev pub IsSeen : State → List JobState → ℕ → ℕ → Option Candidate → Type 0
   IsSeen s jobs i able first =
       (able ≡ length (able_in s (take i jobs))) × IsBestOf rules rule (map standing_of (able_in s jobs)) able first
@@ -115,7 +116,7 @@ module _ {U : Type 0} (rules : Shared U (Bor Standing × Unit {0}) ℕ) (rule : 
       → i < length jobs → j ≡ get_or jobs i j → can_step s j ≡ false → IsSeen s jobs i able first → IsSeen s jobs (i + 1) able first
   seen-same s jobs i able j first within is not_able (count, best) = (count ∙ ap length (sym (able-same s jobs i j within is not_able)), best)
 
-  -- all were seen
+  -- all jobs were seen
   pub seen-whole : (s : State) (jobs : List JobState) (i able : ℕ) (first : Option Candidate) → length jobs ≤ i
       → IsSeen s jobs i able first → IsFirst rules rule (able_in s jobs) first
   seen-whole s jobs i able None whole (count, none) =

@@ -1,4 +1,5 @@
--- Jobs by number: the order of numbers is kept, and a job at a place is the one of its number.
+-- Jobs by number: changes preserve the order of numbers, and a job at a place is the one of its number.
+-- serves: end (job, jobs, kept, settled), go_down, logout, push, push_at (there), push_shown, turn (err, gone, ok), type_line, ChoiceLemmas, and 2 more
 use Rattle.std.proofs.Common.{◌≡◌, ◌+◌, ◌-◌, ◌<◌, ◌≤◌, ◌∙◌, ◌==◌, ◌++◌, ◌∷◌, [], All, Bool, List, None, Some, ap, arith, cond, eq-eqb, false, filter, get_or, length, length-set, ne_eqb, not, refl, set, slice_get, subst, suc, sym, true, zero, ℕ}
 use Rattle.std.specs.List.{remove}
 use Rattle.std.proofs.lemmas.Bool.{cond_both}
@@ -28,7 +29,7 @@ Rise-at low [] next k b r there = absurd (none-some b there)
 Rise-at low (j ∷ jobs) next zero b (first, more) there = omega (arith, first, ap (λ (x : JobState). x.number) (same_Some j b there))
 Rise-at low (j ∷ jobs) next (suc k) b (first, more) there = let later = Rise-at (j.number + 1) jobs next k b more there in omega (arith, first, later)
 
--- of two the one in front has no greater number
+-- of two jobs, the earlier one has no greater number
 pub Rise-two : (low : ℕ) (jobs : List JobState) (next i k : ℕ) (a b : JobState) → Rise low jobs next → i ≤ k → slice_get jobs i ≡ Some a → slice_get jobs k ≡ Some b → a.number ≤ b.number
 Rise-two low [] next i k a b r order here there = absurd (none-some a here)
 Rise-two low (j ∷ jobs) next zero k a b (first, more) order here there =
@@ -44,7 +45,7 @@ Rise-filter p low (j ∷ jobs) next (first, more) =
     cond_both (p j) (j ∷ filter p jobs) (filter p jobs) (λ ks. Rise low ks next) (λ here. (first, rest))
     (λ gone. Rise-low (j.number + 1) low (filter p jobs) next (omega (arith, first)) rest)
 
--- another job in the place of one of its number
+-- a job is replaced by another of the same number
 pub Rise-set : (low : ℕ) (jobs : List JobState) (next place : ℕ) (j k : JobState) → Rise low jobs next → slice_get jobs place ≡ Some j → k.number ≡ j.number → Rise low (set jobs place k) next
 Rise-set low [] next place j k r there is = absurd (none-some j there)
 Rise-set low (m ∷ jobs) next zero j k (first, more) there is =
@@ -112,7 +113,7 @@ only_at low (m ∷ jobs) next (suc place) j (first, more) there =
 pub IsOnly-at : (low : ℕ) (jobs : List JobState) (next place : ℕ) (j : JobState) → Rise low jobs next → slice_get jobs place ≡ Some j → IsOnly jobs place j
 IsOnly-at low jobs next place j r there = (only_at low jobs next place j r there).1
 
--- a job behind others of smaller numbers
+-- a job after others of smaller numbers
 later_found : (m j : JobState) (low : ℕ) (jobs : List JobState) → low ≤ m.number → (m.number + 1 ≤ j.number) × (job_in j.number jobs ≡ Some j)
     → (low ≤ j.number) × (job_in j.number (m ∷ jobs) ≡ Some j)
 later_found m j low jobs first (above, found) =
@@ -135,12 +136,12 @@ able_from p low (m ∷ jobs) next place j (first, more) there =
     cond_both (p m) (m ∷ filter p jobs) (filter p jobs) (λ ks. slice_get ks place ≡ Some j → (low ≤ j.number) × (job_in j.number (m ∷ jobs) ≡ Some j))
     (λ able. here_found m j low jobs (filter p jobs) place first later) (λ not_able. later place) there
 
--- a job that is kept is the one of its number
+-- a job that passes a filter is the one of its number
 pub found-able : (p : JobState → Bool) (low : ℕ) (jobs : List JobState) (next place : ℕ) (j : JobState) → Rise low jobs next → slice_get (filter p jobs) place ≡ Some j
     → job_in j.number jobs ≡ Some j
 found-able p low jobs next place j r there = (able_from p low jobs next place j r there).1
 
--- where there is no job of the number, none is taken out
+-- if no job has the number, none is removed
 pub without-none : (n : ℕ) (jobs : List JobState) → job_in n jobs ≡ None → without_job n jobs ≡ jobs
 without-none n [] none = refl
 without-none n (j ∷ jobs) none =
@@ -157,7 +158,7 @@ AreJobs-remove jobs next place j are there =
       allowed = subst (λ ks. All IsAllowed ks) only.gone (All-filter (λ (k : JobState). not (k.number == j.number)) IsAllowed jobs are.allowed);
     }
 
--- with a job behind the others
+-- with a job appended
 pub AreJobs-push : (jobs : List JobState) (next : ℕ) (j : JobState) → AreJobs jobs next → length jobs < 64 → j.number ≡ next → IsAllowed j → AreJobs (jobs ++ j ∷ []) (next + 1)
 AreJobs-push jobs next j are room is allowed = record {
   few = omega (arith, room, length_push jobs j);
@@ -165,7 +166,7 @@ AreJobs-push jobs next j are room is allowed = record {
   allowed = All-push IsAllowed jobs j are.allowed allowed;
 }
 
--- with another in the place of one of the same number and allowance
+-- with a job replaced by another of the same number and allowance
 pub AreJobs-set : (jobs : List JobState) (next place : ℕ) (j k : JobState) → AreJobs jobs next → slice_get jobs place ≡ Some j → k.number ≡ j.number → k.allowance ≡ j.allowance
     → AreJobs (set jobs place k) next
 AreJobs-set jobs next place j k are there is same = record {
@@ -177,15 +178,15 @@ AreJobs-set jobs next place j k are there is same = record {
     here : IsAllowed j
     here = subst IsAllowed (get_or_from_slice_get jobs place j j there) (All-get_or IsAllowed jobs place j (slice_get_within jobs place j there) are.allowed)
 
--- with nobody
+-- without jobs
 pub AreJobs-none : (jobs : List JobState) (next : ℕ) → AreJobs jobs next → AreJobs [] next
 AreJobs-none jobs next are = record { few = omega arith; rise = Rise-next 1 jobs next are.rise; allowed = All-nil IsAllowed }
 
--- what was written at a place is taken out there
+-- what was written at a place is removed there
 pub remove-set : (jobs : List JobState) (place : ℕ) (j : JobState) → remove (set jobs place j) place ≡ remove jobs place
 remove-set jobs place j = λ i. take-set jobs place j i ++ drop-set-lt (suc place) jobs place j (omega arith) i
 
--- a job of the next number behind the others is found there
+-- a job of the next number is found at the end
 pub found-pushed : (low : ℕ) (jobs : List JobState) (next : ℕ) (j : JobState) → Rise low jobs next → j.number ≡ next → job_in j.number (jobs ++ j ∷ []) ≡ Some j
 found-pushed low [] next j r is = ap (λ (b : Bool). cond b (Some j) None) (eq-eqb j.number j.number refl)
 found-pushed low (k ∷ jobs) next j (first, more) is =
@@ -193,6 +194,6 @@ found-pushed low (k ∷ jobs) next j (first, more) is =
     let apart : (k.number == j.number) ≡ false = ne_eqb k.number j.number (λ e. absurd (omega (arith, e, later, is))) in
     ap (λ (b : Bool). cond b (Some k) (job_in j.number (jobs ++ j ∷ []))) apart ∙ found-pushed (k.number + 1) jobs next j more is
 
--- what stands at a place is one job
+-- there is only one job at a place
 pub same-at : (jobs : List JobState) (place : ℕ) (job a b : JobState) → slice_get jobs place ≡ Some job → a ≡ get_or jobs place a → b ≡ get_or jobs place b → a ≡ b
 same-at jobs place job a b there first second = first ∙ get_or_from_slice_get jobs place job a there ∙ sym (second ∙ get_or_from_slice_get jobs place job b there)

@@ -1,4 +1,5 @@
--- Accounts that open, beside those of a world.
+-- Accounts that open, compared with those of a world.
+-- serves: open_accounts (all, opened), open_each, crates above
 use Rattle.std.proofs.Common.{◌≡◌, ◌+◌, ◌-◌, ◌<◌, ◌∙◌, ◌++◌, ◌||◌, ◌∷◌, [], Bool, List, None, Option, Some, ap, arith, cond, false, filter, find, get_or, is_some, length, map, not, refl, sym, take, true, ℕ}
 use Rattle.std.specs.Option.{option_map, option_or}
 use Rattle.std.proofs.lemmas.Bool.{cond_both, false≢true}
@@ -64,7 +65,7 @@ Opens-push old now users i u opens within is user =
     ∙ or_push opening (kept_for old user) (user_in (take i users) user) (same_text u.user user) u
     ∙ ap (λ (o : Option UserRec). option_or (kept_for old user) (option_map opening o)) (sym (user_in-more users i u user within is))
 
--- who has no account isn't among those who have one
+-- a user without an account isn't among those who have one
 none_has : (accounts : List Opened) (user : List ℕ) → account_of accounts user ≡ None → has_account accounts user ≡ false
 none_has [] user none = refl
 none_has (a ∷ accounts) user none =
@@ -131,11 +132,11 @@ AreKept-opened s accounts old new users rows are opens user =
     (λ u is. same_eq u.user user (find_passes (λ (r : UserRec). same_text r.user user) users u is)) (rows user))
     ∙ ap (option_map left_behind) (sym (find-append (λ (a : Opened). same_text a.user user) accounts more))
 
--- behind the opening each user has one
+-- after the opening each user has an account
 pub Opens-all : (old new : List Account) (users : List UserRec) → Opens old users new → HaveAccounts users new
 Opens-all old new users opens user some = ap is_some (opens user) ∙ or_some opening (kept_for old user) (user_in users user) some
 
--- where each user has one, none opens
+-- if each user has an account, none opens
 pub none_opens : (s : State) (accounts : List Opened) (kept : List Account) (users : List UserRec) → HaveAccounts users kept → HaveRows users (rows_of s) → AreKept accounts kept
     → AreKept (with_new s accounts) kept
 none_opens s accounts kept users all rows are = AreKept-opened s accounts kept kept users rows are (λ user. or_same opening (kept_for kept user) (user_in users user) (all user))

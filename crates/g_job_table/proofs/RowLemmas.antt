@@ -1,4 +1,5 @@
--- The users of a store's records, beside the rows of the tree that they stand for.
+-- The users of a store's records, and the rows of the tree that they represent.
+-- serves: crates above
 use Rattle.std.proofs.Common.{◌≡◌, ◌∙◌, ◌||◌, ◌∷◌, [], Bool, List, None, Option, Some, ap, cond, false, find, is_some, map, refl, sym, true, ℕ}
 use Rattle.std.specs.FinMap as finmap
 use Rattle.std.specs.FinMap.{entries, get, get-entries, get-from_entries}
@@ -37,7 +38,7 @@ module _ {V : Type 0} where
   value_cond true e rest later is = refl
   value_cond false e rest later is = is
 
-  -- a look-up by the same text is one by the order of texts
+  -- a look-up by equal text is a look-up by the order of texts
   found_by : (es : List (List ℕ × V)) (user : List ℕ) → option_map (λ (d : List ℕ × V). d.1) (find (λ e. same_text e.0 user) es) ≡ finmap.find text_cmp user es
   found_by [] user = refl
   found_by (e ∷ es) user =
@@ -57,7 +58,7 @@ module _ {V : Type 0} where
   value_key f None = refl
   value_key f (Some u) = refl
 
-  -- what a map of records by name has for a user
+  -- the value of a user in a map of records by name
   pub got_by_name : (f : UserRec → V) (users : List UserRec) (user : List ℕ) → get (finmap.from_entries {R = text_cmp} (map (λ (r : UserRec). (r.user, f r)) users)) user ≡ option_map f (user_in users user)
   got_by_name f users user =
       get-from_entries text_total (map (λ (r : UserRec). (r.user, f r)) users) user ∙ sym (found_by (map (λ (r : UserRec). (r.user, f r)) users) user)
@@ -89,7 +90,7 @@ row_found users files bytes next user =
     found_by (entries (tree_of users files bytes next).users) user ∙ sym (get-entries (tree_of users files bytes next).users user)
     ∙ got_by_name (user_row_of users) users user
 
--- the rows of the tree that records stand for are those of the records
+-- the rows of the tree that records represent are those of the records
 pub rows_have : (users : List UserRec) (files : List FileRec) (bytes : FileRec → List ℕ) (next : ℕ) → HaveRows users (entries (tree_of users files bytes next).users)
 rows_have users files bytes next user =
     sym (row_parts (find (λ e. same_text e.0 user) (entries (tree_of users files bytes next).users))

@@ -1,4 +1,5 @@
--- The seats of the jobs: what each change of the jobs makes of them, and who sits where.
+-- The seats of the jobs: how each change of the jobs changes them, and which job is at a terminal.
+-- serves: end, login_refusal (refusal), logout, push, push_at, push_shown, turn, type_line
 use Rattle.std.proofs.Common.{◌≡◌, ◌∙◌, ◌==◌, ◌++◌, ◌∷◌, ◌&&◌, [], Bool, List, None, Option, Some, ap, append-nil, cond, eq-eqb, eqb-true, false, filter, map, not, refl, set, slice_get, subst, suc, sym, true, zero, ℕ}
 use Rattle.std.specs.Prelude.{Err, Ok, OnOk, Result, find, is_some, if◌then◌else◌}
 use Rattle.std.proofs.lemmas.Option.{none-some, same_Some}
@@ -12,7 +13,7 @@ use Rattle.g_job_table.specs.Numbers.{AreJobs, job_in}
 use Rattle.g_job_table.specs.Seating.{seated_before, seats_in}
 use Rattle.g_job_table.proofs.NumberLemmas.{AreJobs-set, IsOnly-at}
 
--- A JOB BEHIND THE OTHERS has the last seat, if it has one
+-- A JOB APPENDED has the last seat, if it has one
 before_append : (o : Option ℕ) (number : ℕ) (held : Bool) (xs ys : List Seat) → seated_before o number held (xs ++ ys) ≡ seated_before o number held xs ++ ys
 before_append None number held xs ys = refl
 before_append (Some t) number held xs ys = refl
@@ -31,7 +32,7 @@ seats-seated jobs j t some held =
     seats-append jobs (j ∷ []) ∙ ap (λ (o : Option ℕ). seats_in jobs ++ seated_before o j.number j.desk.levels.held []) some
     ∙ ap (λ (b : Bool). seats_in jobs ++ seated_before (Some t) j.number b []) held
 
--- A JOB IS TAKEN OUT, and its seat is free
+-- A JOB IS REMOVED, and its seat is free
 same_both : (b : Bool) (seats : List Seat) → seats ≡ cond b seats seats
 same_both true seats = refl
 same_both false seats = refl
@@ -53,7 +54,7 @@ seats-without n (j ∷ jobs) =
     ∙ ap (λ (seats : List Seat). cond (not (j.number == n)) (seated_before j.terminal j.number j.desk.levels.held seats) seats) (seats-without n jobs)
     ∙ sym (without_before j.terminal j.number n j.desk.levels.held (seats_in jobs))
 
--- ANOTHER JOB IN ITS PLACE that has the same seat
+-- A JOB REPLACED by another that has the same seat
 pub seats-set : (jobs : List JobState) (place : ℕ) (j k : JobState) → slice_get jobs place ≡ Some j → k.terminal ≡ j.terminal → k.number ≡ j.number → k.desk.levels.held ≡ j.desk.levels.held
     → seats_in (set jobs place k) ≡ seats_in jobs
 seats-set [] place j k there terminal number held = absurd (none-some j there)
@@ -63,7 +64,7 @@ seats-set (m ∷ jobs) zero j k there terminal number held =
 seats-set (m ∷ jobs) (suc place) j k there terminal number held =
     ap (seated_before m.terminal m.number m.desk.levels.held) (seats-set jobs place j k there terminal number held)
 
--- WHO SITS AT A TERMINAL: the seat that is kept is that of the first job there
+-- THE JOB AT A TERMINAL: the stored seat is that of the first job there
 seat_by : (b : Bool) (s : Seat) (rest : Option Seat) → cond b (Some s) rest ≡ cond b (cond b (Some s) None) rest
 seat_by true s rest = refl
 seat_by false s rest = refl
@@ -88,7 +89,7 @@ busy-is t (j ∷ jobs) =
     ∙ some_both (is_terminal t j.terminal) (seat_at t (seated_before j.terminal j.number j.desk.levels.held [])) (seat_at t (seats_in jobs)) j (job_at t jobs)
     (seated_here t j.terminal j.number j.desk.levels.held) (busy-is t jobs)
 
--- a job that sits at a terminal with its document held open, and where it stands
+-- a job at a terminal with its document held open, and its place
 pub record SitsOpen (t number : ℕ) (jobs : List JobState) : Type 0 where
   pub job : JobState
   pub place : ℕ
@@ -131,7 +132,7 @@ module _ (t number : ℕ) (j : JobState) (jobs : List JobState) where
   open_by None held o h is rest = open_later (rest is) (ap (λ (p : Option ℕ). is_terminal t p && j.desk.levels.held) o)
   open_by (Some x) held o h is rest = open_here x held o h (x == t) refl is rest
 
--- the number that is kept is that of the job there
+-- the stored number is that of the job at the terminal
 pub open-some : (t number : ℕ) (jobs : List JobState) → job_in_seat (seat_at t (seats_in jobs)) ≡ Some number → SitsOpen t number jobs
 open-some t number [] is = no_number number is
 open-some t number (j ∷ jobs) is = open_by t number j jobs j.terminal j.desk.levels.held refl refl is (open-some t number jobs)
@@ -157,7 +158,7 @@ module _ (t : ℕ) (j : JobState) (jobs : List JobState) where
   nobody_by None held o h are is rest = ap (λ (b : Bool). cond b (Some j) (open_at t jobs)) (ap (λ (p : Option ℕ). is_terminal t p && j.desk.levels.held) o) ∙ rest are is
   nobody_by (Some x) held o h are is rest = nobody_here x held o h (x == t) refl are.2 is (rest are.3)
 
--- where none is kept, none is there
+-- if no number is stored, no job is at the terminal
 pub open-none : (t : ℕ) (jobs : List JobState) → AreSeats (seats_in jobs) → job_in_seat (seat_at t (seats_in jobs)) ≡ None → open_at t jobs ≡ None
 open-none t [] are is = refl
 open-none t (j ∷ jobs) are is = nobody_by t j jobs j.terminal j.desk.levels.held refl refl are is (open-none t jobs)
@@ -221,11 +222,11 @@ seats-left t (m ∷ jobs) (suc place) j are there seat =
     ap (seated_before m.terminal m.number m.desk.levels.held) (seats-left t jobs place j (tail_are t (seats_in jobs) m.terminal m.number m.desk.levels.held are) there seat)
     ∙ left_other t (seats_in jobs) m.terminal m.number m.desk.levels.held some are
 
--- WHAT IS KEPT SAYS WHAT THE JOBS SAY
+-- THE STORED SEATS are those of the jobs
 pub busy-told : (t : ℕ) (jobs : List JobState) (seats : List Seat) (b : Bool) → seats ≡ seats_in jobs → b ≡ is_some (seat_at t seats) → is_some (job_at t jobs) ≡ b
 busy-told t jobs seats b same is = sym (busy-is t jobs) ∙ ap (λ (s : List Seat). is_some (seat_at t s)) (sym same) ∙ sym is
 
--- the job of the number that is kept is the one that sits there with its document held open
+-- the job of the stored number is the one at the terminal with its document held open
 pub open-at : (t number : ℕ) (jobs : List JobState) (next place : ℕ) (j : JobState) → AreJobs jobs next → job_in_seat (seat_at t (seats_in jobs)) ≡ Some number → slice_get jobs place ≡ Some j → j.number ≡ number
     → (open_at t jobs ≡ Some j) × (j.terminal ≡ Some t)
 open-at t number jobs next place j are is there named =
@@ -251,7 +252,7 @@ module _ (t : ℕ) (jobs : List JobState) (seats : List Seat) (same : seats ≡ 
       let only = IsOnly-at 1 jobs next sits.place sits.job are.rise sits.there in
       none-some sits.job (sym none ∙ ap (λ (n : ℕ). job_in n jobs) (sym sits.named) ∙ only.found)
 
--- A JOB IN ITS PLACE that is like it, as far as the crew's rules go
+-- A JOB REPLACED by one that is like it, as far as the crew's rules go
 pub record IsLike (j k : JobState) : Type 0 where
   pub number : k.number ≡ j.number
   pub allowance : k.allowance ≡ j.allowance
@@ -282,7 +283,7 @@ set-itself [] place j there = absurd (none-some j there)
 set-itself (m ∷ jobs) zero j there = ap (λ (x : JobState). x ∷ jobs) (sym (same_Some m j there))
 set-itself (m ∷ jobs) (suc place) j there = ap (λ (more : List JobState). m ∷ more) (set-itself jobs place j there)
 
--- what holds of an answer that is Ok
+-- a consequence for results that are Ok
 pub ok-then : {A E : Type 0} (r : Result A E) {X Y : Type 0} → (X → Y) → OnOk r X → OnOk r Y
 ok-then (Ok a) f x = f x
 ok-then (Err e) f x = x

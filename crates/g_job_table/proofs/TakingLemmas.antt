@@ -1,4 +1,5 @@
--- In which order a job is refused.
+-- The order of the reasons for which a job is refused.
+-- serves: login_refusal (refusal), logout, refusal (refusal), room_refusal (refusal), take_in (refusal), turn (gone, ok), type_line
 use Rattle.std.proofs.Common.{◌≡◌, ◌<◌, ◌≤◌, ◌∙◌, Bool, None, Option, Some, List, ap, arith, cond, false, length, nat_lt, not, subst, sym, true, unwrap_or, codes, ℕ}
 use Rattle.std.proofs.lemmas.Bool.{le-ltb, lt-leb, lt-ltb}
 use Rattle.std.specs.Prelude.{is_some}
@@ -20,11 +21,11 @@ pub crew_is : (c : CrewState) (jobs : List JobState) (accounts : List Account) (
     → let new : CrewState = record { jobs = jobs; accounts = accounts; next_job = next } in new ≡ c
 crew_is c jobs accounts next same_jobs same_accounts same_next = λ i. record { jobs = same_jobs i; accounts = same_accounts i; next_job = same_next i }
 
--- the first of the reasons that holds
+-- the first of the reasons that applies
 abbrev first_of : Bool → Bool → Bool → List ℕ → List ℕ → List ℕ → Option (List ℕ)
 first_of full short poor a b c = cond full (Some a) (cond short (Some b) (cond poor (Some c) None))
 
--- IS THERE ROOM for a job
+-- THERE IS ROOM for a job, or not
 module _ (w : World) (c : CrewState) (user : List ℕ) (time money : ℕ) (crew : IsCrewOf w c) where
   abbrev account : Opened
   account = unwrap_or (account_of w.accounts user) (no_account user)
@@ -65,7 +66,7 @@ module _ (w : World) (c : CrewState) (user : List ℕ) (time money : ℕ) (crew 
         passed ∙ ap (λ (s : Bool). refused false s asked_poor) (le-ltb (time_left account w.jobs) time (omega (arith, enough, left_in.0)))
         ∙ ap (λ (p : Bool). refused false false p) (le-ltb (money_left account w.jobs) money (omega (arith, rich, left_in.1)))
 
--- A JOB: its user is known or isn't
+-- A JOB: its user is known, or not
 module _ (w : World) (c : CrewState) (known : Bool) (user : List ℕ) (time money : ℕ) (crew : IsCrewOf w c) (knows : knows_user w.store user ≡ known) where
   abbrev room_for : Option (List ℕ)
   room_for = first_text (room_checks w time money (unwrap_or (account_of w.accounts user) (no_account user)))
@@ -76,7 +77,7 @@ module _ (w : World) (c : CrewState) (known : Bool) (user : List ℕ) (time mone
   pub refused-known : known ≡ true → job_refusal w user time money ≡ room_for
   refused-known is = ap (λ (u : Bool). cond (not u) (Some (fault_line StoreNoUser)) room_for) (knows ∙ is)
 
--- A TERMINAL'S JOB: and the terminal is busy or isn't
+-- A TERMINAL'S JOB: the terminal is busy, or not
 module _ (w : World) (c : CrewState) (known : Bool) (t : ℕ) (user : List ℕ) (time : ℕ) (crew : IsCrewOf w c) (knows : knows_user w.store user ≡ known) where
   abbrev room_there : Option (List ℕ)
   room_there = first_text (room_checks w time 1000 (unwrap_or (account_of w.accounts user) (no_account user)))

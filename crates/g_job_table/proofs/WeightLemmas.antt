@@ -1,11 +1,12 @@
--- What jobs weigh, place by place.
+-- The weights of jobs, place by place.
+-- serves: first_of, weigh_again, weigh_each
 use Rattle.std.proofs.Common.{◌≡◌, ◌==◌, ◌⊎◌, ⊎_elim, ◌+◌, ◌<◌, ◌≤◌, ◌∙◌, ◌++◌, ◌∷◌, [], Bool, List, None, Option, Some, ap, arith, length, get_or, refl, set, slice_get, subst, suc, sym, true, false, eqb, eqb-true, inl, inr, zero, ℕ}
 use Rattle.std.specs.Fn.{FnReturnsAt, Shared}
 use denote.Ref.{Bor}
 use Rattle.std.proofs.lemmas.Bool.{cases_lt, eqb-false}
 use Rattle.std.proofs.lemmas.List.{length_push}
 use Rattle.std.proofs.lemmas.Option.{none-some, same_Some, slice_get_read, slice_get_within}
-use Rattle.g_sched.specs.declared.rule.Standing.{Standing}
+use Rattle.g_rules.specs.declared.rule.Standing.{Standing}
 use Rattle.g_job.specs.Beginning.{standing_of}
 use Rattle.g_job.specs.State.{JobState}
 use Rattle.g_job_table.specs.Numbers.{Rise, job_in}
@@ -39,7 +40,7 @@ set_long [] i x = refl
 set_long (y ∷ xs) zero x = refl
 set_long (y ∷ xs) (suc i) x = ap (λ (n : ℕ). suc n) (set_long xs i x)
 
--- a number stands at one place
+-- a number occurs at only one place
 one_place : (low : ℕ) (jobs : List JobState) (next p q : ℕ) (j k : JobState) → Rise low jobs next → slice_get jobs p ≡ Some j → slice_get jobs q ≡ Some k → j.number ≡ k.number → p ≡ q
 one_place low [] next p q j k rise at there same = absurd (none-some j at)
 one_place low (m ∷ jobs) next zero zero j k rise at there same = refl
@@ -60,7 +61,7 @@ same_or m n = by (eqb m n) refl
     by true is = inl (eqb-true m n is)
     by false is = inr (eqb-false m n is)
 
--- nobody has a number that no job was found by
+-- if a number wasn't found, no job has it
 nobody : (jobs : List JobState) (p : ℕ) (j : JobState) (number : ℕ) → job_in number jobs ≡ None → slice_get jobs p ≡ Some j → j.number ≡ number → ⊥
 nobody [] p j number none at e = none-some j at
 nobody (m ∷ jobs) zero j number none at e =
@@ -72,7 +73,7 @@ module _ {U : Type 0} (rules : Shared U (Bor Standing × Unit {0}) ℕ) (rule : 
   abbrev pub IsWeight : JobState → List ℕ → ℕ → Type 0
   IsWeight job weights place = (weight : ℕ) × (slice_get weights place ≡ Some weight) × FnReturnsAt rules rule (standing_of job) weight
 
-  -- those of so many jobs
+  -- the weights of the first jobs
   abbrev pub AreFront : List JobState → ℕ → List ℕ → Type 0
   AreFront jobs i weights = (length weights ≡ i) × ((place : ℕ) (job : JobState) → place < i → slice_get jobs place ≡ Some job → IsWeight job weights place)
 
@@ -109,7 +110,7 @@ module _ {U : Type 0} (rules : Shared U (Bor Standing × Unit {0}) ℕ) (rule : 
   weight-at jobs weights place job weight (long, each) there at =
       let (w, is, returns) = each place job there in subst (λ (n : ℕ). FnReturnsAt rules rule (standing_of job) n) (same_Some w weight (sym is ∙ at)) returns
 
-  -- one is asked anew
+  -- one job is weighed again
   pub weights-again : (jobs : List JobState) (next : ℕ) (weights : List ℕ) (number place weight : ℕ) (job : JobState) → Rise 1 jobs next → length jobs ≡ length weights
       → slice_get jobs place ≡ Some job → job.number ≡ number → FnReturnsAt rules rule (standing_of job) weight → AreOthers rules rule number jobs weights
       → AreWeights rules rule jobs (set weights place weight)
@@ -129,7 +130,7 @@ module _ {U : Type 0} (rules : Shared U (Bor Standing × Unit {0}) ℕ) (rule : 
         (same_or p place),
   )
 
-  -- there is none of the number
+  -- no job has the number
   pub weights-same : (jobs : List JobState) (weights : List ℕ) (number : ℕ) → length jobs ≡ length weights → job_in number jobs ≡ None → AreOthers rules rule number jobs weights
       → AreWeights rules rule jobs weights
   weights-same jobs weights number long none others = (sym long, λ p j at. others p j at (λ e. nobody jobs p j number none at e))

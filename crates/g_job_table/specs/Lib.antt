@@ -1,4 +1,4 @@
--- What the contracts cite: the crew, its accounts beside those of a world, a job's turn, and the choice of the next one.
+-- The definitions that contracts cite: the crew, its accounts and those of a world, a job's turn, and the choice of the next one.
 pub mod Accounts
 pub mod Choice
 pub mod Crew

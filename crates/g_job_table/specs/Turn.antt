@@ -2,8 +2,8 @@
 use Rattle.std.specs.Prelude.{◌≡◌, ℕ, List, Option, Some, None, length}
 use Rattle.std.specs.Fn.{Shared}
 use denote.Ref.{Bor}
-use Rattle.g_budget.specs.declared.tariff.Usage.{Usage}
-use Rattle.g_budget.specs.declared.tariff.Charge.{Charge}
+use Rattle.g_rules.specs.declared.tariff.Usage.{Usage}
+use Rattle.g_rules.specs.declared.tariff.Charge.{Charge}
 use Rattle.g_turn.specs.Bounds.{IsWithin}
 use Rattle.g_turn.specs.Causes.{CauseOf, last_answer}
 use Rattle.g_turn.specs.State.{Work}
@@ -18,7 +18,7 @@ use Rattle.g_plain.specs.Programs.{Answer}
 use Rattle.g_plain.specs.Runs.{RanBy}
 use Rattle.g_plain.specs.declared.calls.StoreCall.{StoreCall}
 
--- from where on the file of a job is put behind its turn, if it is at a terminal
+-- The place in its job's file from which a turn is printed, if the job is at a terminal.
 abbrev pub shown_from : JobState → Option ℕ
 shown_from job = from job.terminal
   where
@@ -27,7 +27,7 @@ shown_from job = from job.terminal
     from (Some t) = Some (length job.monitor)
 
 module _ {S F : Type 0} (answers : S → List ℕ → StoreCall → Answer → S → Type 0) (tariffs : Shared F (Bor Usage × Unit {0}) Charge) (tariff : F) where
-  -- A JOB TOOK A TURN over a store: its calls and their answers, why its work is over, what it used, and how it ended
+  -- A JOB TOOK A TURN on a store: its calls and their answers, why its work is over, what it used, and how it ended.
   pub record TakesTurn (job : JobState) (old : S) (turn : Turn) (after : JobState) (new : S) : Type 0 where
     pub told : List Answer
     pub work : Work

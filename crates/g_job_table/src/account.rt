@@ -9,8 +9,8 @@ use g_entry::UserRec;
 use g_job::Job;
 use g_name::User;
 
-/// What a user's ended jobs have left of the user's TIME, in units, and of the user's MONEY, since the system came up. What
-/// unfinished jobs hold of it is not taken off.
+/// What a user's ended jobs have left of the user's TIME, in units, and of the user's MONEY, since the system came up. The allowances of unfinished
+/// jobs aren't subtracted.
 #[derive(Drop)]
 pub struct Account {
     pub user: User,
@@ -31,7 +31,7 @@ pub(crate) fn place_for(accounts: &[Account], user: &User) -> Option<usize>
     None
 }
 
-/// Whether the user has an account. It is looked for at this place first, where it mostly stands.
+/// Whether the user has an account. Checks this place first, where it usually is.
 fn has_account(accounts: &[Account], place: usize, user: &User) -> bool
     ensures { result ≡ is_some (kept_for accounts.now user.now) }
 {
@@ -41,8 +41,7 @@ fn has_account(accounts: &[Account], place: usize, user: &User) -> bool
     place_for(accounts, user).is_some()
 }
 
-/// Opens an account for each of these users who has none, with the budgets of this moment. Where memory is wanting some of
-/// them may be open.
+/// Opens an account for each of these users who has none, with the present budgets. If memory runs out, some of them may be open.
 pub(crate) fn open_each(accounts: &mut Vec<Account>, users: &[UserRec]) -> Result<(), NoMemory>
     ensures ok { OnOk result (Opens accounts.old.items users.now accounts.new.items) }
     ensures front { (more : List Account) × (accounts.new.items ≡ accounts.old.items ++ more) }
@@ -89,7 +88,7 @@ fn account_for(accounts: &[Account], user: &User) -> Account
     }
 }
 
-/// What is left where this job holds its allowances, if it is the user's.
+/// What is left while this job holds its allowances, if it is the user's.
 fn less_held(left: Account, job: &Job, user: &User) -> Account
     ensures { result ≡ less_held user.now job.now left }
 {
@@ -104,7 +103,7 @@ fn less_held(left: Account, job: &Job, user: &User) -> Account
     }
 }
 
-/// What a user has left, where these jobs are unfinished and hold their allowances. A user without an account has nothing.
+/// What a user has left while these jobs are unfinished and hold their allowances. A user without an account has nothing.
 pub(crate) fn left_for(accounts: &[Account], jobs: &[Job], user: &User) -> Account
     ensures { IsLeft accounts.now jobs.now user.now result }
 {

@@ -1,22 +1,22 @@
-//! Which job goes next.
+//! The choice of the next job.
 ghost use Rattle.std.specs.Prelude.{◌≡◌, ◌⊎◌, ◌≤◌, ℕ, IfSome, Some, length, not};
 ghost use Rattle.g_job_table.specs.Choice.{IsFirst, TellsMounted, able_in};
 ghost use Rattle.g_job_table.specs.Numbers.{Rise};
 ghost use Rattle.g_job_table.specs.Weights.{AreOthers, AreWeights};
-ghost use Rattle.g_sched.specs.Choice.{IsNoLater};
-ghost use Rattle.g_sched.specs.Rule.{IsWeighRule};
+ghost use Rattle.g_rules.specs.Choice.{IsNoLater};
+ghost use Rattle.g_rules.specs.Rule.{IsWeighRule};
 ghost use Rattle.g_store_model.specs.State.{State};
 ghost use Rattle.g_run_model.specs.World.{can_step, has_none, has_reel};
 
 use crate::place::place_of;
 use crate::weights::Weights;
 use g_job::Job;
-use g_sched::{Candidate, Standing, WeighRule};
+use g_rules::{Candidate, Standing, WeighRule};
 
-/// The most jobs that there are at a time.
+/// The maximum number of jobs at a time.
 pub(crate) const MOST_JOBS: usize = 64;
 
-/// Whether the job can step: at a terminal it waits for no line; and it waits for no reel, or for one that is mounted.
+/// Whether the job can step: at a terminal it doesn't wait for a line; and it waits for no reel, or for one that is mounted.
 pub(crate) fn can_step<M: Fn(u32) -> bool>(job: &Job, mounted: &M) -> bool
     requires { M.IsAlwaysCallable mounted.now }
     ensures { (s : State) → TellsMounted M.Fn mounted.now s → result ≡ can_step s job.now }
@@ -48,7 +48,7 @@ pub(crate) fn one_can_step<M: Fn(u32) -> bool>(jobs: &[Job], mounted: &M) -> boo
     false
 }
 
-/// What this job would be chosen by: its weight and its number, as the next of those that can step.
+/// The candidate for this job: its weight and its number, as the next of those that can step.
 fn candidate(job: &Job, place: usize, weight: u64) -> Candidate
     ensures { result ≡ record { place = place; weight = weight; number = job.now.number } }
 {
@@ -59,7 +59,7 @@ fn candidate(job: &Job, place: usize, weight: u64) -> Candidate
     }
 }
 
-/// Which of two goes first, where the one before has no greater number: by weight alone. A turn asks it for each job.
+/// The lighter of two candidates, the first of which has no greater number: only weights are compared. A turn calls it for each job.
 fn lighter(best: Option<Candidate>, candidate: Candidate) -> Candidate
     requires { IfSome best (λ b. b.number ≤ candidate.number) }
     ensures one { (result ≡ candidate) ⊎ (best ≡ Some result) }
@@ -95,8 +95,8 @@ pub(crate) fn first_of<U: Fn(&Standing) -> u64, M: Fn(u32) -> bool>(
     first
 }
 
-/// Weighs each of the jobs by the rule. The weights lie where they are: a turn doesn't pay for the room of others.
-// It is done where ticks begin and where a job has gone: a function of its own leaves one job's weight to each turn.
+/// Weighs each of the jobs by the rule. The weights are written in place.
+// Called at the beginning of ticks and after a job has ended: as a function of its own it leaves only one job's weighing to each turn.
 #[inline(never)]
 pub(crate) fn weigh_each<U: Fn(&Standing) -> u64>(
     jobs: &[Job],
@@ -113,7 +113,7 @@ pub(crate) fn weigh_each<U: Fn(&Standing) -> u64>(
     }
 }
 
-/// Weighs the job of this number again, if there is one, where the others weigh what they did.
+/// Weighs the job of this number again, if there is one, provided that the weights of the others are still right.
 pub(crate) fn weigh_again<U: Fn(&Standing) -> u64>(
     jobs: &[Job],
     weigh: &WeighRule<U>,

@@ -1,7 +1,7 @@
 //! The crew.
 ghost use Rattle.std.specs.Prelude.{◌≡◌, ◌↔◌, ◌+◌, ◌<◌, ◌≤◌, ◌≢◌, ◌++◌, ℕ, [], ◌∷◌, Bool, true, false, not, List, Ok, Err, None, Some, IfOk, IfSome, OnErr, OnOk, length, slice_index_or};
 ghost use Rattle.std.specs.List.{remove};
-ghost use Rattle.g_budget.specs.Tariff.{IsTariff};
+ghost use Rattle.g_rules.specs.Tariff.{IsTariff};
 ghost use Rattle.g_job_table.specs.Accounts.{AreKept, HaveAccounts, HaveRows, KeepAccounts};
 ghost use Rattle.g_job_table.specs.Choice.{Chooses, TellsMounted, able_in};
 ghost use Rattle.g_job_table.specs.Numbers.{AreJobs, AreOpen, job_in};
@@ -13,7 +13,7 @@ ghost use Rattle.g_job.specs.Spending.{ToldAsBefore};
 ghost use Rattle.g_job.specs.State.{JobState};
 ghost use Rattle.g_job.specs.Turns.{turn_work};
 ghost use Rattle.g_plain.specs.Programs.{RanInPart};
-ghost use Rattle.g_sched.specs.Rule.{IsWeighRule};
+ghost use Rattle.g_rules.specs.Rule.{IsWeighRule};
 ghost use Rattle.g_store_model.specs.State.{State};
 ghost use Rattle.g_run_model.specs.Accounts.{Opened, rows_of, settled, with_new};
 ghost use Rattle.g_run_model.specs.World.{has_none, with_job, without_job};
@@ -26,17 +26,16 @@ use crate::taken::Taken;
 use crate::taking::{NotTaken, refusal};
 use crate::weights::Weights;
 use g_base::NoMemory;
-use g_budget::{Charge, Tariff, Usage};
 use g_entry::UserRec;
 use g_job::{Job, NewJob, Turn};
 use g_plain::Filestore;
-use g_sched::{Standing, WeighRule};
+use g_rules::{Charge, Standing, Tariff, Usage, WeighRule};
 use std::alloc::Global;
 use std::marker::Model;
 
-/// The jobs that have come in and aren't over, at most 64, in order of number; the accounts of users; and the number of the
-/// next job. Contracts see a `CrewState` (`docs/DEFINITIONS.md`, "What is kept beside the system"). Who sits at which terminal
-/// is kept beside the jobs, by the first LOGIN on: it says what the jobs say.
+/// The jobs that were taken in and aren't over, at most 64, in order of number; the accounts of users; and the number of the next job. Contracts see
+/// a `CrewState` (`docs/DEFINITIONS.md`, "g_job_table"). From the first LOGIN on, the seats of the terminals are stored with the
+/// jobs; they are determined by the jobs.
 #[derive(Drop)]
 pub struct Crew {
     pub(crate) jobs: Vec<Job>,
@@ -64,7 +63,7 @@ impl Model for Crew {
 }
 
 impl Crew {
-    /// Nobody, and no account: job 1 is the next one.
+    /// A crew without jobs and accounts; the next job is job 1.
     pub fn new(alloc: Global) -> Crew
         ensures { result ≡ record { jobs = []; accounts = []; next_job = 1 } }
     {
@@ -76,8 +75,8 @@ impl Crew {
         }
     }
 
-    /// Opens an account for each of these users who has none, with the budgets of this moment: as the system comes up for
-    /// all, and behind each turn for those whom it has made. Without memory all stays as it was.
+    /// Opens an account for each of these users who has none, with the present budgets: for all users when the system comes up, and after each turn
+    /// for those that it created. Without memory nothing changes.
     pub fn open_accounts(&mut self, users: &[UserRec]) -> Result<(), NoMemory>
         ensures opened { OnOk result ((s : State) (accounts : List Opened) → HaveRows users.now (rows_of s)
             → AreKept accounts self.old.accounts → AreKept (with_new s accounts) self.new.accounts) }
@@ -95,8 +94,8 @@ impl Crew {
         }
     }
 
-    /// Takes a job in behind the others, and answers its number. `known` says whether the store knows the user. A refusal
-    /// leaves all as it was; they are looked at in this order:
+    /// Takes a job in, and returns its number. `known` says whether the store knows the user. A refusal changes nothing; the reasons are checked in
+    /// this order:
     /// - `NoUser`: the store doesn't know the user. `JobsFull`: 64 jobs are unfinished. `NoTime`, `NoMoney`: the allowance
     ///   is more than the user's account has left, less the allowances of the user's unfinished jobs.
     /// - `NoMemory`: it would have been taken in.
@@ -118,7 +117,7 @@ impl Crew {
         }
     }
 
-    /// Lets the job begin behind the others. Without memory all stays as it was.
+    /// Begins the job and appends it to the others. Without memory nothing changes.
     fn begin(&mut self, alloc: Global, job: NewJob) -> Result<u64, NotTaken>
         requires few { length self.old.jobs < 64 }
         requires time { (1 ≤ job.time) × (job.time ≤ 1000000) }
@@ -138,7 +137,7 @@ impl Crew {
         }
     }
 
-    /// Puts a job of the next number behind the others. Without memory all stays as it was.
+    /// Appends a job of the next number. Without memory nothing changes.
     fn push(&mut self, job: Job) -> Result<u64, NotTaken>
         requires few { length self.old.jobs < 64 }
         requires next { job.number ≡ self.old.next_job }
@@ -162,7 +161,7 @@ impl Crew {
         }
     }
 
-    /// Whether a job can step: one that waits for no reel, or for one that is `mounted`, and, at a terminal, for no line.
+    /// Whether a job can step: it waits for no reel, or for one that is `mounted`, and, at a terminal, for no line.
     pub fn can_step<M: Fn(u32) -> bool>(&self, mounted: &M) -> bool
         requires { M.IsAlwaysCallable mounted.now }
         ensures { (s : State) → TellsMounted M.Fn mounted.now s → result ≡ not (has_none (able_in s self.now.jobs)) }
@@ -170,8 +169,8 @@ impl Crew {
         one_can_step(self.jobs(), mounted)
     }
 
-    /// The number of the job that goes next: of those that can step, the one of least weight by the rule, then of least
-    /// number. None where none can. It takes no memory.
+    /// The number of the next job: of those that can step, the one of least weight by the rule, then of least number. None if none can step.
+    /// Allocates nothing.
     pub fn choose<U: Fn(&Standing) -> u64, M: Fn(u32) -> bool>(
         &self,
         weigh: &WeighRule<U>,
@@ -189,7 +188,7 @@ impl Crew {
         }
     }
 
-    /// What each job weighs by the rule.
+    /// The weight of each job by the rule.
     pub fn weigh<U: Fn(&Standing) -> u64>(&self, weigh: &WeighRule<U>, weights: &mut Weights)
         requires rule { IsWeighRule U.Fn weigh.now }
         ensures { AreWeights U.Fn weigh.now self.now.jobs weights.new }
@@ -197,8 +196,8 @@ impl Crew {
         weigh_each(self.jobs(), weigh, weights);
     }
 
-    /// The same behind a turn of the job of this number: where no job has gone by then, the others weigh what they did, and that
-    /// one alone is weighed again.
+    /// The same after a turn of the job of this number: if no job has ended, the weights of the others are unchanged, and only that one is weighed
+    /// again.
     pub fn weigh_behind<U: Fn(&Standing) -> u64>(
         &self,
         weigh: &WeighRule<U>,
@@ -217,8 +216,8 @@ impl Crew {
         }
     }
 
-    /// A turn of the job of this number, over any store, as `Job::turn` takes it, and, of a job at a terminal, how many bytes
-    /// its file had before. Without memory nothing is known of the job any more, and it is gone.
+    /// A turn of the job of this number, on any store, as by `Job::turn`, and, for a job at a terminal, the length of its file before. Without memory
+    /// the job is unspecified, and is removed.
     pub fn turn<S: Filestore, F: Fn(&Usage) -> Charge>(
         &mut self,
         alloc: Global,
@@ -236,7 +235,7 @@ impl Crew {
             × (self.new ≡ record self.old { jobs = with_job after self.old.jobs })
             × (taken.shown ≡ shown_from job)) }
 
-        // Without memory a front of its calls was answered.
+        // Without memory a prefix of its calls was answered.
         ensures err { OnErr result ((job : JobState) × (job_in number self.old.jobs ≡ Some job)
             × RanInPart S.answers job.user store.old (turn_work job) store.new) }
         ensures gone { OnErr result (self.new ≡ record self.old { jobs = without_job number self.old.jobs }) }
@@ -260,8 +259,8 @@ impl Crew {
         }
     }
 
-    /// Takes the job of this number out, as it is over, and charges its account with what it has used. None, and nothing
-    /// changes, where there is no such job.
+    /// Removes the job of this number because it is over, and charges its account with what it has used. None, and no change, if there is no such
+    /// job.
     pub fn end(&mut self, number: u64) -> Option<Job>
         ensures job { result ≡ job_in number self.old.jobs }
         ensures jobs { self.new.jobs ≡ without_job number self.old.jobs }
@@ -279,7 +278,7 @@ impl Crew {
         Some(take_job(&mut self.jobs, place))
     }
 
-    /// The system is down: jobs and accounts are gone. Numbers of jobs go on.
+    /// The system went down: jobs and accounts are removed. The numbering of jobs continues.
     pub fn go_down(&mut self)
         ensures { self.new ≡ record self.old { jobs = []; accounts = [] } }
     {
@@ -297,7 +296,7 @@ impl Crew {
     }
 }
 
-/// How many bytes the file of a job at a terminal has.
+/// The length in bytes of the file of a job at a terminal.
 fn file_before(job: &Job) -> Option<usize>
     ensures { result ≡ shown_from job.now }
 {
@@ -307,7 +306,7 @@ fn file_before(job: &Job) -> Option<usize>
     }
 }
 
-/// Takes the job at this place out, and hands it over. A job is large: of the last one, as it mostly is, no other is moved.
+/// Removes the job at this place, and returns it. A job is large; removing the last one, as is usual, moves no other.
 fn take_job(jobs: &mut Vec<Job>, place: usize) -> Job
     requires { place < length jobs.old.items }
     ensures value { result ≡ slice_index_or jobs.old.items place result }
@@ -320,8 +319,7 @@ fn take_job(jobs: &mut Vec<Job>, place: usize) -> Job
     }
 }
 
-/// Takes the job at this place out. A turn seldom comes to it, and a function of its own keeps the room of a whole job out of
-/// each turn.
+/// Removes the job at this place. A turn rarely calls it; as a function of its own it adds no stack space for a whole job to each turn.
 #[inline(never)]
 fn remove_job(jobs: &mut Vec<Job>, place: usize)
     requires { place < length jobs.old.items }

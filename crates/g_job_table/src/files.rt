@@ -12,7 +12,7 @@ use g_mop::push_mark;
 use g_name::Text;
 use std::alloc::Global;
 
-/// Puts the line of what a job waits for behind the text: of its reel, or, where it waits for none, of a line.
+/// Appends the line of what a job waits for: of its reel, or, if it waits for none, of a line.
 fn push_reel(text: &mut Text, wants: Option<u32>) -> Result<(), NoMemory>
     ensures { OnOk result (text.new ≡ text.old ++ waiting_line wants) }
 {
@@ -22,8 +22,8 @@ fn push_reel(text: &mut Text, wants: Option<u32>) -> Result<(), NoMemory>
     }
 }
 
-/// Puts a job's file and a last line, given with its byte 10, behind the text; of a job at a terminal, whose file has been put,
-/// that line alone, with the terminal's mark.
+/// Appends a job's file and a last line, given with its byte 10; for a job at a terminal, whose file has been printed, only that line, with the
+/// terminal's mark.
 fn push_file(text: &mut Text, job: &Job, last: &[u8]) -> Result<(), NoMemory>
     ensures { OnOk result (text.new ≡ text.old ++ put_as job.now.terminal (job.now.monitor ++ last.now) last.now) }
 {
@@ -46,7 +46,7 @@ fn waiting(alloc: Global, wants: Option<u32>) -> Result<Text, NoMemory>
     Ok(line)
 }
 
-/// Puts a job's file and the line of what it waits for behind the text.
+/// Appends a job's file and the line of what it waits for.
 fn push_waiting(alloc: Global, text: &mut Text, job: &Job) -> Result<(), NoMemory>
     ensures { OnOk result (text.new ≡ text.old
         ++ put_as job.now.terminal (job.now.monitor ++ ended (waiting_line job.now.wants)) (ended (waiting_line job.now.wants))) }
@@ -55,7 +55,7 @@ fn push_waiting(alloc: Global, text: &mut Text, job: &Job) -> Result<(), NoMemor
     push_file(text, job, line.as_slice())
 }
 
-/// Puts a job's file and the line `BREAK` behind the text.
+/// Appends a job's file and the line `BREAK`.
 fn push_broken(text: &mut Text, job: &Job) -> Result<(), NoMemory>
     ensures { OnOk result (text.new ≡ text.old
         ++ put_as job.now.terminal (job.now.monitor ++ ended (codes "BREAK")) (ended (codes "BREAK"))) }
@@ -63,7 +63,7 @@ fn push_broken(text: &mut Text, job: &Job) -> Result<(), NoMemory>
     push_file(text, job, b"BREAK\n")
 }
 
-/// What stands in a file behind its first bytes.
+/// The part of a file after its first bytes.
 fn behind(file: &[u8], before: usize) -> &[u8]
     ensures { result.now ≡ drop before file.now }
 {
@@ -74,7 +74,7 @@ fn behind(file: &[u8], before: usize) -> &[u8]
     }
 }
 
-/// Puts what was added to a job's file behind its first bytes, where the job is at a terminal, with the terminal's mark.
+/// Appends the part of a job's file after its first bytes, with the terminal's mark, if the job is at a terminal.
 pub(crate) fn push_added(text: &mut Text, job: &Job, before: usize) -> Result<(), NoMemory>
     ensures { OnOk result (text.new ≡ text.old ++ pushed_of job.now before) }
 {
@@ -94,7 +94,7 @@ fn push_each_broken(text: &mut Text, jobs: &[Job]) -> Result<(), NoMemory>
     Ok(())
 }
 
-/// Each of these jobs' file with the line of what it waits for.
+/// Appends the file of each of these jobs with the line of what it waits for.
 fn push_each_waiting(alloc: Global, text: &mut Text, jobs: &[Job]) -> Result<(), NoMemory>
     ensures { OnOk result (text.new ≡ text.old ++ waiting_files jobs.now) }
 {
@@ -105,17 +105,17 @@ fn push_each_waiting(alloc: Global, text: &mut Text, jobs: &[Job]) -> Result<(),
 }
 
 impl Crew {
-    /// Puts the monitoring files of all jobs behind the text, in order of number, each with the last line `BREAK`: what SHUT
-    /// and a stop put behind their own line. Of a job at a terminal, whose file has been put, that line alone. Where memory is wanting, a front of it may stand there.
+    /// Appends the monitoring files of all jobs, in order of number, each with the last line `BREAK`, as SHUT and a stop print them after their own
+    /// line. For a job at a terminal, whose file has been printed, only that line. If memory runs out, a prefix of it may have been appended.
     pub fn push_broken_files(&self, text: &mut Text) -> Result<(), NoMemory>
         ensures { OnOk result (text.new ≡ text.old ++ broken_files self.now.jobs) }
     {
         push_each_broken(text, self.jobs())
     }
 
-    /// Puts the monitoring files of all jobs behind the text, in order of number, each with the last line `WAITING TAPE` and
-    /// the serial of the reel that it waits for, or `WAITING LINE`: what stands at the end of a run. Of a job at a terminal,
-    /// whose file has been put, that line alone. Where memory is wanting, a front of it may stand there.
+    /// Appends the monitoring files of all jobs, in order of number, as they are printed at the end of a run. The last line of each is
+    /// `WAITING TAPE` and the serial of the reel that the job waits for, or `WAITING LINE`. For a job at a terminal, whose file has been
+    /// printed, only that line. If memory runs out, a prefix of it may have been appended.
     pub fn push_waiting_files(&self, alloc: Global, text: &mut Text) -> Result<(), NoMemory>
         ensures { OnOk result (text.new ≡ text.old ++ waiting_files self.now.jobs) }
     {

@@ -1,5 +1,5 @@
-//! What the run of the program keeps beside the system: the jobs that have come in and aren't over, the accounts of users,
-//! and the number of the next job; and the texts that the operator reads.
+//! The jobs and accounts of a run: the jobs that were taken in and aren't over, the accounts of users, and the number of the next job; and the texts
+//! that the operator reads.
 #![tactic(auto)]
 
 mod account;

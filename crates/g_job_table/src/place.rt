@@ -5,8 +5,8 @@ ghost use Rattle.g_job_table.specs.Keeping.{IsPlaceOf};
 
 use g_job::Job;
 
-/// The place of the job of this number. It is looked for first at the first place, since often there is one job alone, and then
-/// where it stands if no job between the first and it is over.
+/// The place of the job of this number. Checks the first place first, since there is often only one job, and then the place that it has if no job
+/// between the first and it is over.
 pub(crate) fn place_of(jobs: &[Job], number: u64) -> Option<usize>
     ensures { MatchOption result (job_in number jobs.now ≡ None) (IsPlaceOf jobs.now number) }
 {
@@ -19,7 +19,7 @@ pub(crate) fn place_of(jobs: &[Job], number: u64) -> Option<usize>
     searched(jobs, number)
 }
 
-/// This place, if the job of this number stands there.
+/// This place, if the job of this number is there.
 fn if_at(jobs: &[Job], number: u64, place: usize) -> Option<usize>
     ensures { IfSome result (IsPlaceOf jobs.now number) }
 {
@@ -30,7 +30,7 @@ fn if_at(jobs: &[Job], number: u64, place: usize) -> Option<usize>
     }
 }
 
-/// How many numbers there are from that of the first job to this one: no job of it stands further behind.
+/// The difference of this number and that of the first job: the job isn't at a later place than that.
 fn furthest(jobs: &[Job], number: u64) -> usize {
     match jobs.first() {
         Some(first) => {
@@ -41,8 +41,8 @@ fn furthest(jobs: &[Job], number: u64) -> usize {
     }
 }
 
-/// The place of the job of this number, which is looked for everywhere.
-// A turn seldom comes to it: a function of its own leaves the first two places to each.
+/// The place of the job of this number; searches all places.
+// A turn rarely calls it: as a function of its own it leaves only the first two places to each turn.
 #[inline(never)]
 fn searched(jobs: &[Job], number: u64) -> Option<usize>
     ensures { MatchOption result (job_in number jobs.now ≡ None) (IsPlaceOf jobs.now number) }

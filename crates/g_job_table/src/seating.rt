@@ -1,4 +1,4 @@
-//! What a terminal's LOGIN asks for, and why nobody sits down there, or nothing is typed.
+//! A terminal's LOGIN, and the refusals of a login and of a typed line.
 ghost use Rattle.std.specs.Prelude.{◌≡◌, ◌≤◌, ◌++◌, IfOk, OnOk};
 ghost use Rattle.g_mop.specs.Seats.{busy_text, none_text};
 ghost use Rattle.g_mop.specs.TerminalLines.{terminal_name};
@@ -13,7 +13,7 @@ use g_name::{Local, Text, User};
 use std::alloc::Global;
 use thiserror::Error;
 
-/// A terminal's job as its LOGIN asks for it: the terminal, 1 to 8, and 1 to 1,000,000 units of TIME. Its MONEY is 1,000.
+/// The request of a LOGIN: the terminal, 1 to 8, and 1 to 1,000,000 units of TIME. Its MONEY is 1,000.
 #[derive(Drop)]
 pub struct NewLogin {
     pub terminal: u8,
@@ -21,35 +21,35 @@ pub struct NewLogin {
     pub time: u64,
 }
 
-/// Why a terminal's job isn't taken in. Nothing is changed then.
+/// Why a terminal's job isn't taken in. Nothing changes then.
 #[derive(Clone, Copy, Debug, PartialEq, Eq, Error)]
 pub enum NotSeated {
     /// An unfinished job is at the terminal.
     #[error("an unfinished job is at terminal {0}")]
     TerminalBusy(u8),
-    /// It isn't taken in as any other job.
+    /// It is refused as any other job may be.
     #[error("{0}")]
     NotTaken(NotTaken),
 }
 
-/// Why a line isn't typed. Nothing is changed then.
+/// Why a line isn't typed. Nothing changes then.
 #[derive(Clone, Copy, Debug, PartialEq, Eq, Error)]
 pub enum NotTyped {
     /// The terminal has no unfinished job, or was logged out.
     #[error("the terminal has no unfinished job, or was logged out")]
     NoTerminal,
-    /// The memory was refused; the line would have been typed.
+    /// Memory ran out; the line would have been typed.
     #[error("out of memory")]
     NoMemory,
 }
 
-/// The terminal has no unfinished job, or was logged out already. Nothing is changed then.
+/// The terminal has no unfinished job, or was logged out already. Nothing changes then.
 #[derive(Clone, Copy, Debug, PartialEq, Eq, Error)]
 #[error("the terminal has no unfinished job, or was logged out")]
 pub struct NoTerminal;
 
 impl NewLogin {
-    /// The job of this number, which begins: its document is empty, and held open.
+    /// The job of this number at its beginning: its document is empty, and held open.
     pub(crate) fn begin(self, alloc: Global, number: u64) -> Result<Job, NoMemory>
         requires terminal { (1 ≤ self.terminal) × (self.terminal ≤ 8) }
         requires time { (1 ≤ self.time) × (self.time ≤ 1000000) }
@@ -81,15 +81,15 @@ pub fn terminal_name(terminal: u8) -> Local
     }
 }
 
-/// Puts number and text of the refusal of a LOGIN of a busy terminal behind the text, without a byte 10 (`docs/MANUAL.md`,
-/// "Texts of jobs and refusals"). Where memory is wanting, a front of it may stand there.
+/// Appends number and text of the refusal of a LOGIN at a busy terminal, without a byte 10 (`docs/MANUAL.md`, "Texts of jobs and refusals"). If
+/// memory runs out, a prefix of it may have been appended.
 pub fn push_busy(text: &mut Text, terminal: u8) -> Result<(), NoMemory>
     ensures { OnOk result (text.new ≡ text.old ++ busy_text terminal) }
 {
     push_number(text, b"43 TERMINAL BUSY ", u64::from(terminal))
 }
 
-/// The same of a TYPE or LOGOUT where the terminal has no unfinished job, or was logged out.
+/// The same for a TYPE or LOGOUT at a terminal that has no unfinished job, or was logged out.
 pub fn push_no_terminal(text: &mut Text, terminal: u8) -> Result<(), NoMemory>
     ensures { OnOk result (text.new ≡ text.old ++ none_text terminal) }
 {

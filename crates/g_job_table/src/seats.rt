@@ -1,4 +1,4 @@
-//! Which job sits at which terminal. The seats lie in a box: a crew is moved at every line, and with it a pointer.
+//! The jobs at terminals. The seats are boxed: a crew is moved at every line, and a box is only a pointer.
 ghost use Rattle.std.specs.Prelude.{◌≡◌, ◌∷◌, ◌++◌, ◌≤◌, [], map, true, IfOk, IfSome, None, OnErr, OnOk, is_some};
 ghost use Rattle.g_mop.specs.Seats.{AreSeats, LogsIn, LogsOut, job_in_seat, left_at, seat_at, seat_taken, without_seat};
 ghost use Rattle.g_job_table.specs.Seating.{seats_of};
@@ -8,7 +8,7 @@ use g_mop::{MopFault, Terminals};
 use std::alloc::Global;
 use std::marker::Model;
 
-/// The seats in a box of their own. Contracts see the seats.
+/// The seats in a box. Contracts see the seats.
 #[derive(Drop)]
 pub(crate) struct BoxedSeats {
     seats: Box<Terminals>,
@@ -24,7 +24,7 @@ impl Model for BoxedSeats {
 }
 
 impl BoxedSeats {
-    /// Nobody is at a terminal.
+    /// No terminal is in use.
     fn new(alloc: Global) -> Result<BoxedSeats, NoMemory>
         ensures { IfOk result (λ seats. seats ≡ []) }
     {
@@ -90,7 +90,7 @@ pub(crate) fn open_number(terminals: &Option<BoxedSeats>, terminal: u8) -> Optio
     }
 }
 
-/// The seats are there, if memory can be had. They are made at the first LOGIN, so that a run without terminals pays nothing.
+/// Creates the seats, if they don't exist and memory suffices. They are created at the first LOGIN, so that a run without terminals pays nothing.
 pub(crate) fn make_seats(alloc: Global, terminals: &mut Option<BoxedSeats>) -> Result<(), NoMemory>
     ensures same { seats_of terminals.new ≡ seats_of terminals.old }
     ensures there { OnOk result (is_some terminals.new ≡ true) }
@@ -103,7 +103,7 @@ pub(crate) fn make_seats(alloc: Global, terminals: &mut Option<BoxedSeats>) -> R
     Ok(())
 }
 
-/// The job sits down at the terminal.
+/// The job takes the terminal's seat.
 pub(crate) fn sit(terminals: &mut Option<BoxedSeats>, terminal: u8, job: u64)
     requires there { is_some terminals.old ≡ true }
     requires free { seat_at terminal (seats_of terminals.old) ≡ None }
@@ -119,7 +119,7 @@ pub(crate) fn sit(terminals: &mut Option<BoxedSeats>, terminal: u8, job: u64)
     }
 }
 
-/// The terminal is logged out; the number of its job, if it had one that wasn't.
+/// Logs the terminal out; returns the number of its job, if it had one that wasn't logged out.
 pub(crate) fn log_out(terminals: &mut Option<BoxedSeats>, terminal: u8) -> Option<u64>
     ensures number { result ≡ job_in_seat (seat_at terminal (seats_of terminals.old)) }
     ensures some { IfSome result (λ n. seats_of terminals.new ≡ map (left_at terminal) (seats_of terminals.old)) }

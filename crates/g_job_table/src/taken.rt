@@ -1,7 +1,7 @@
-//! What a turn came to, and from where on its job's file was written.
+//! The result of a turn, and the place in its job's file from which it was written.
 use g_job::Turn;
 
-/// A turn that was taken: how it ended and, of a job at a terminal, how many bytes its file had before.
+/// A turn that was taken: how it ended and, for a job at a terminal, the length of its file before.
 #[derive(Clone, Copy, PartialEq, Eq)]
 pub struct Taken {
     pub turn: Turn,

@@ -1,4 +1,4 @@
-//! What a job's line asks for, and why it isn't taken in.
+//! The refusals of a job.
 ghost use Rattle.std.specs.Prelude.{◌≡◌, ◌<◌, ◌++◌, ℕ, OnOk, length};
 ghost use Rattle.g_job_table.specs.Taking.{IsPrinted, RefusesAsIn, RoomAsIn, printed, refusal_line};
 
@@ -11,7 +11,7 @@ use g_name::{Text, User};
 use std::alloc::Global;
 use thiserror::Error;
 
-/// Why a job isn't taken in. Nothing is changed then.
+/// Why a job isn't taken in. Nothing changes then.
 #[derive(Clone, Copy, Debug, PartialEq, Eq, Error)]
 pub enum NotTaken {
     /// There is no such user.
@@ -20,13 +20,13 @@ pub enum NotTaken {
     /// 64 jobs are unfinished.
     #[error("64 jobs are unfinished")]
     JobsFull,
-    /// More TIME is asked for than the user has left. Both are units of TIME.
+    /// More TIME is requested than the user has left. Both are units of TIME.
     #[error("{ask} units of TIME are needed and {left} are left")]
     NoTime { ask: u64, left: u64 },
-    /// More MONEY is asked for than the user has left.
+    /// More MONEY is requested than the user has left.
     #[error("{ask} units of MONEY are needed and {left} are left")]
     NoMoney { ask: u64, left: u64 },
-    /// The memory was refused; the job would have been taken in.
+    /// Memory ran out; the job would have been taken in.
     #[error("out of memory")]
     NoMemory,
 }
@@ -48,7 +48,7 @@ pub(crate) fn refusal(
     room_refusal(accounts, jobs, &job.user, job.time, job.money)
 }
 
-/// The first reason, in this order, for which there is no room for a job of this user, TIME and MONEY.
+/// The first reason, in this order, for which there is no room for a job with this user, TIME and MONEY.
 pub(crate) fn room_refusal(
     accounts: &[Account],
     jobs: &[Job],
@@ -79,8 +79,8 @@ pub(crate) fn room_refusal(
     Ok(())
 }
 
-/// Puts number and text of a refusal behind the text, without a byte 10 (`docs/MANUAL.md`, "Texts of jobs and refusals").
-/// Where memory is wanting, a front of it may stand there.
+/// Appends number and text of a refusal, without a byte 10 (`docs/MANUAL.md`, "Texts of jobs and refusals"). If memory runs out, a prefix of it may
+/// have been appended.
 pub fn push_refusal(text: &mut Text, why: NotTaken) -> Result<(), NoMemory>
     requires { IsPrinted why }
     ensures { OnOk result (text.new ≡ text.old ++ refusal_line why) }

@@ -19,10 +19,10 @@ use g_name::Text;
 use std::alloc::Global;
 
 impl Crew {
-    /// Takes a terminal's job in behind the others, and answers its number. `known` says whether the store knows the user. A
-    /// refusal leaves all as it was; they are looked at in this order:
+    /// Takes a terminal's job in, and returns its number. `known` says whether the store knows the user. A refusal changes nothing; the reasons are
+    /// checked in this order:
     /// - `NoUser`: the store doesn't know the user. `TerminalBusy`: an unfinished job is at the terminal. `JobsFull`, `NoTime`,
-    ///   `NoMoney`: as of any other job, of MONEY 1,000.
+    ///   `NoMoney`: as for any other job, with a MONEY of 1,000.
     /// - `NoMemory`: it would have been taken in.
     pub fn login(&mut self, alloc: Global, known: bool, login: NewLogin) -> Result<u64, NotSeated>
         requires terminal { (1 ≤ login.terminal) × (login.terminal ≤ 8) }
@@ -64,7 +64,7 @@ impl Crew {
         }
     }
 
-    /// Lets the job begin behind the others. Without memory all stays as it was.
+    /// Begins the job and appends it to the others. Without memory nothing changes.
     fn sit_down(&mut self, alloc: Global, login: NewLogin) -> Result<u64, NoMemory>
         requires few { length self.old.jobs < 64 }
         requires free { seat_at login.terminal (seats_in self.old.jobs) ≡ None }
@@ -84,7 +84,7 @@ impl Crew {
         self.push_at(alloc, terminal, job)
     }
 
-    /// Puts a terminal's job of the next number behind the others. Without memory all stays as it was.
+    /// Appends a terminal's job of the next number. Without memory nothing changes.
     fn push_at(&mut self, alloc: Global, terminal: u8, job: Job) -> Result<u64, NoMemory>
         requires few { length self.old.jobs < 64 }
         requires next { job.number ≡ self.old.next_job }
@@ -112,7 +112,7 @@ impl Crew {
         }
     }
 
-    /// Puts a line behind the document of the job that is at the terminal. A fault leaves all as it was:
+    /// Appends a line to the document of the job at the terminal. A fault changes nothing:
     /// - `NoTerminal`: the terminal has no unfinished job, or was logged out.
     /// - `NoMemory`: the line would have been typed.
     pub fn type_line(&mut self, terminal: u8, line: Text) -> Result<(), NotTyped>
@@ -131,8 +131,8 @@ impl Crew {
         }
     }
 
-    /// The terminal is logged out: no line comes any more, and its job ends when none is left. It takes no memory.
-    /// `NoTerminal`, and nothing is changed: the terminal has no unfinished job, or was logged out already.
+    /// Logs the terminal out: no more lines will be typed, and its job ends when none is left. Allocates nothing. `NoTerminal`, and no change, if the
+    /// terminal has no unfinished job or was logged out already.
     pub fn logout(&mut self, terminal: u8) -> Result<(), NoTerminal>
         ensures { LogsOutAt (open_at terminal self.old.jobs) self.old self.new result }
     {
@@ -146,9 +146,8 @@ impl Crew {
         Ok(())
     }
 
-    /// Puts what was added to the file of the job of this number, behind its first `before` bytes, behind the text, with its
-    /// terminal's mark before each line; of a job that is at no terminal nothing. Where memory is wanting, a front of it may
-    /// stand there.
+    /// Appends what was added to the file of the job of this number after its first `before` bytes, with its terminal's mark before each line;
+    /// nothing for a job without a terminal. If memory runs out, a prefix of it may have been appended.
     pub fn push_shown(&self, text: &mut Text, number: u64, before: usize) -> Result<(), NoMemory>
         requires there { (job : JobState) × (job_in number self.now.jobs ≡ Some job) }
         ensures { OnOk result ((job : JobState) → job_in number self.now.jobs ≡ Some job

@@ -1,4 +1,4 @@
-//! The texts that the operator reads (`docs/DEFINITIONS.md`, "A run of the whole program").
+//! The texts that the operator reads (`docs/DEFINITIONS.md`, "g_run_model").
 ghost use Rattle.std.specs.Prelude.{◌≡◌, ◌++◌, IfOk, OnOk, codes};
 ghost use Rattle.std.specs.Fmt.{decimal};
 ghost use Rattle.g_run_model.specs.Texts.{closing, dump_text, job_text, operator_line, started_text, tape_text};
@@ -9,11 +9,11 @@ use g_monitor::push_number;
 use g_name::Text;
 use std::alloc::Global;
 
-/// The room that is asked for at once for what happened: most of it is shorter.
+/// The initial capacity of an event's text: most texts are shorter.
 const ROOM: usize = 48;
 
-/// Puts a line of the operator's behind the text: the count of turns, a space, what happened, and the line's byte 10. Where
-/// memory is wanting, a front of it may stand there.
+/// Appends a line for the operator: the count of turns, a space, the event, and the line's byte 10. If memory runs out, a prefix of it may have been
+/// appended.
 pub fn push_operator_line(text: &mut Text, count: u64, what: &[u8]) -> Result<(), NoMemory>
     ensures { OnOk result (text.new ≡ text.old ++ operator_line count what.now) }
 {
@@ -23,7 +23,7 @@ pub fn push_operator_line(text: &mut Text, count: u64, what: &[u8]) -> Result<()
     text.push(b'\n')
 }
 
-/// Some words, a number, a space, and what happened to it.
+/// Words, a number, a space, and an event.
 fn numbered(alloc: Global, words: &[u8], number: u64, how: &[u8]) -> Result<Text, NoMemory>
     ensures { IfOk result (λ text. text ≡ ((words.now ++ decimal number) ++ codes " ") ++ how.now) }
 {
@@ -34,28 +34,28 @@ fn numbered(alloc: Global, words: &[u8], number: u64, how: &[u8]) -> Result<Text
     Ok(text)
 }
 
-/// What happened to a reel: `TAPE`, its serial, and how.
+/// The event of a reel: `TAPE`, its serial, and the event.
 pub fn tape_text(alloc: Global, serial: u32, how: &[u8]) -> Result<Text, NoMemory>
     ensures { IfOk result (λ text. text ≡ tape_text serial how.now) }
 {
     numbered(alloc, b"TAPE ", u64::from(serial), how)
 }
 
-/// What happened to a dump: `DUMP`, its number, and how.
+/// The event of a dump: `DUMP`, its number, and the event.
 pub fn dump_text(alloc: Global, number: u64, how: &[u8]) -> Result<Text, NoMemory>
     ensures { IfOk result (λ text. text ≡ dump_text number how.now) }
 {
     numbered(alloc, b"DUMP ", number, how)
 }
 
-/// What happened to a job: `JOB`, its number, and how.
+/// The event of a job: `JOB`, its number, and the event.
 pub fn job_text(alloc: Global, number: u64, how: &[u8]) -> Result<Text, NoMemory>
     ensures { IfOk result (λ text. text ≡ job_text number how.now) }
 {
     numbered(alloc, b"JOB ", number, how)
 }
 
-/// That the system was started, and adopted the dump of this number.
+/// The system was started, and adopted the dump of this number.
 fn adopted_text(alloc: Global, number: u64) -> Result<Text, NoMemory>
     ensures { IfOk result (λ text. text ≡ (codes "STARTED DUMP " ++ decimal number) ++ codes " ADOPTED") }
 {
@@ -65,7 +65,7 @@ fn adopted_text(alloc: Global, number: u64) -> Result<Text, NoMemory>
     Ok(text)
 }
 
-/// That the system was started, with the number of the dump that was adopted, if one was.
+/// The system was started, with the number of the dump that was adopted, if one was.
 pub fn started_text(alloc: Global, adopted: Option<u64>) -> Result<Text, NoMemory>
     ensures { IfOk result (λ text. text ≡ started_text adopted) }
 {
@@ -75,7 +75,7 @@ pub fn started_text(alloc: Global, adopted: Option<u64>) -> Result<Text, NoMemor
     }
 }
 
-/// The last line of the text of a run whose script has a bad line, the `bad`-th, with its byte 10; else nothing.
+/// The last line of the text of a run whose script has a bad line, the `bad`-th, with its byte 10; otherwise empty.
 pub fn closing_text(alloc: Global, bad: Option<u64>) -> Result<Text, NoMemory>
     ensures { IfOk result (λ text. text ≡ closing bad) }
 {

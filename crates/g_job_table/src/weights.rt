@@ -1,11 +1,11 @@
-//! What the jobs of a crew weigh, kept beside them.
+//! The weights of a crew's jobs, stored with them.
 ghost use Rattle.std.specs.Prelude.{◌≡◌, ◌∷◌, ◌++◌, ◌<◌, [], length, slice_get, slice_set, Some};
 
 use arrayvec::ArrayVec;
 use std::marker::Model;
 
-/// The weight of each of at most 64 jobs, at the place of its job. A turn changes where one job stands, so the weights of the
-/// others are asked of the rule once and then kept. Contracts see a list.
+/// The weight of each of at most 64 jobs, at the place of its job. A turn changes the standing of only one job, so the weights of the others are
+/// computed once and stored. Contracts see a list.
 #[derive(Drop)]
 pub struct Weights {
     each: ArrayVec<u64, 64>,
@@ -22,7 +22,7 @@ impl Model for Weights {
 }
 
 impl Weights {
-    /// Those of no job.
+    /// No weights.
     pub fn new() -> Weights
         ensures { result ≡ [] }
     {
@@ -31,21 +31,21 @@ impl Weights {
         }
     }
 
-    /// How many there are.
+    /// The number of weights.
     pub(crate) fn count(&self) -> usize
         ensures { result ≡ length self.now }
     {
         self.each.len()
     }
 
-    /// None is left.
+    /// Removes all weights.
     pub(crate) fn clear(&mut self)
         ensures { self.new ≡ [] }
     {
         self.each.truncate(0);
     }
 
-    /// Puts the next job's behind the others.
+    /// Appends the weight of the next job.
     pub(crate) fn push(&mut self, weight: u64)
         requires { length self.old < 64 }
         ensures { self.new ≡ self.old ++ weight ∷ [] }
@@ -53,7 +53,7 @@ impl Weights {
         self.each.push(weight);
     }
 
-    /// That of the job at this place.
+    /// The weight of the job at this place.
     pub(crate) fn get(&self, place: usize) -> u64
         requires { place < length self.now }
         ensures { slice_get self.now place ≡ Some result }
@@ -61,7 +61,7 @@ impl Weights {
         self.each[place]
     }
 
-    /// Changes that of the job at this place.
+    /// Changes the weight of the job at this place.
     pub(crate) fn set(&mut self, place: usize, weight: u64)
         requires { place < length self.old }
         ensures { self.new ≡ slice_set self.old place weight }

@@ -1,4 +1,5 @@
--- What is known of a reel stays known, and what stands behind it is found.
+-- What is known of a reel remains known, and the dumps after it are found.
+-- serves: catalogue (lists), end, end_of (end, fits), fill, fill_anew, find_copy (fits), forget, known, least_behind, mount (known), notes_of, and 7 more
 use Rattle.std.proofs.Common.{◌≡◌, ◌⊎◌, ℕ, zero, suc, ◌+◌, ◌-◌, ◌^◌, ◌<◌, ◌≤◌, ◌==◌, Bool, true, false, List, [], ◌∷◌, ◌++◌, length, Option, Some, None, Result, Ok, Err, refl, sym, ◌∙◌, ap, arith, slice_get, subst, inl, inr, map, All, take, get_or, append_assoc, append-nil, eq-eqb}
 use Rattle.std.specs.Prelude.{OnErr, OnOk, option_map, if◌then◌else◌}
 use Rattle.std.specs.Option.{ForSome}
@@ -35,7 +36,7 @@ use Rattle.g_shelf.proofs.RowLemmas.{end_then, in_row, row_end, row_then}
 use Rattle.g_shelf.proofs.WalkLemmas.{same_note}
 use Rattle.g_known.specs.ReelNotes.{AreFirst, AreFound, AreKnown, AreListed, Fills, GoesOn, HasForgotten, HasNone, HasReadOn, HasWritten, IsKnown, IsListed, IsNoted, IsPlaceIn, OthersStay, end_in, noted, number_in}
 
--- WHERE NOTES END
+-- The end of the notes' dumps.
 pub end_noted : (at : ℕ) (ds : List Dump) → end_in at (map note_of ds) ≡ end_behind at ds
 end_noted at [] = refl
 end_noted at (d ∷ ds) = end_noted (ends d) ds
@@ -64,7 +65,7 @@ number_last from (m ∷ k ∷ ks) n is =
     let next : length (m ∷ k ∷ ks) - 1 ≡ suc (length (k ∷ ks) - 1) = omega arith in
     number_last (m.number + 1) (k ∷ ks) n (is ∙ ap (λ (i : ℕ). slice_get (m ∷ k ∷ ks) i) next)
 
--- the number behind dumps is in its limit
+-- The least number after the dumps is within its limit.
 pub number_low : (serial at from : ℕ) (ds : List Dump) → from ≤ 2 ^ 62 → AreInRow serial at from ds → number_behind from ds ≤ 2 ^ 62
 number_low serial at from [] low row = low
 number_low serial at from (d ∷ ds) low row =
@@ -82,7 +83,7 @@ nothing_first o serial notes none = record {
   low = omega arith;
 }
 
--- WHAT IS KNOWN STAYS, where the reel has the same blocks up to the end of the dumps
+-- What is known remains known if the reel has the same blocks up to the end of the dumps.
 record IsLike (e : ℕ) (o p : Option Reel) : Type 0 where
   blocks : ForSome (blocks_in p) (λ new. (old : List (List ℕ)) × (blocks_in o ≡ Some old) × (take e new ≡ take e old))
   fits : ForSome p (λ q. (r : Reel) × (o ≡ Some r) × (e ≤ r.len → e ≤ q.len))
@@ -228,7 +229,7 @@ known_unmounted s old new result lists left reels unmounts forgotten all =
     by_reel (λ (t : ℕ). IsKnown new t (noted t left)) s (nothing_known new s (noted s left) forgotten.none)
     (λ t other. still_noted new t (noted t lists) (noted t left) (forgotten.others t other) (others_unmounted s old new result t (noted t lists) reels unmounts other (all t)))
 
--- A WRITE behind the end of what is known
+-- A write after the end of the known dumps.
 told_before : (g : List (List ℕ) → List (List ℕ)) (o : Option (List (List ℕ))) (new : List (List ℕ)) → option_map g o ≡ Some new → (old : List (List ℕ)) × (o ≡ Some old) × (g old ≡ new)
 told_before g None new is = absurd (let no : ⊥ = cc in no)
 told_before g (Some old) new is = (old, refl, same_Some (g old) new is)
@@ -332,7 +333,7 @@ place_first s (l ∷ ls) (suc i) within here before =
       others = λ new named t other. ap (λ (ns : List DumpNote). if t == l.serial then l.notes.items else ns) (rest.others new named t other);
     }
 
--- a list behind the others
+-- A list appended to the others.
 pub noted_behind : (s : ℕ) (lists : List NotedReel) (new : NotedReel) → HasNone s lists → new.serial ≡ s → noted s (lists ++ new ∷ []) ≡ new.notes.items
 noted_behind s [] new other named = cond-true (s == new.serial) new.notes.items [] (eq-eqb s new.serial (sym named))
 noted_behind s (l ∷ ls) new other named =
@@ -343,7 +344,7 @@ pub others_before : (s : ℕ) (lists : List NotedReel) (new : NotedReel) → new
 others_before s [] new named t other = cond-false (t == new.serial) new.notes.items [] (ne_eqb t new.serial (λ e. other (e ∙ named)))
 others_before s (l ∷ ls) new named t other = ap (λ (ns : List DumpNote). if t == l.serial then l.notes.items else ns) (others_before s ls new named t other)
 
--- WHAT A QUESTION LEAVES REMEMBERED, where the reel had a list,
+-- What a query leaves remembered, if the reel had a list;
 pub forgotten_at : (s i : ℕ) (lists : List NotedReel) (new : NotedReel) → IsPlaceIn s lists i → new.serial ≡ s → new.notes.items ≡ [] → HasForgotten s lists (set lists i new)
 forgotten_at s i lists new place named none = record { none = place.change new named ∙ none; others = place.others new named }
 
@@ -357,7 +358,7 @@ read_on_at s i lists was new place is named goes = record {
   others = place.others new named;
 }
 
--- and where it hadn't
+-- and if it had none.
 pub read_on_behind : (s : ℕ) (lists : List NotedReel) (new : NotedReel) → HasNone s lists → new.serial ≡ s → HasReadOn s lists (lists ++ new ∷ [])
 read_on_behind s lists new other named = record {
   more = (new.notes.items, noted_behind s lists new other named ∙ ap (λ (ns : List DumpNote). ns ++ new.notes.items) (sym (noted_nowhere s lists other)));
@@ -367,7 +368,7 @@ read_on_behind s lists new other named = record {
 pub nothing_more : (s : ℕ) (lists : List NotedReel) → HasReadOn s lists lists
 nothing_more s lists = record { more = ([], sym (append-nil (noted s lists))); others = λ t other. refl }
 
--- all stay known, where reads alone happened and of this reel more is
+-- All lists remain valid if only reads happened and more dumps of this reel are known.
 pub known_read_on : (s : ℕ) (lists new_lists : List NotedReel) (notes : List DumpNote) (old new : Rack) → HasReadOn s lists new_lists → noted s new_lists ≡ notes → OnlyReads old new
     → IsKnown new s notes → AreKnown old lists → AreKnown new new_lists
 known_read_on s lists new_lists notes old new so are only known all =
@@ -427,7 +428,7 @@ fills_unkept s lists new_lists (Err fault) result old new all reads ok err is =
       more = nothing_more s lists;
     })
 
--- READING ON from the end of what is known
+-- Reading on from the end of the known dumps.
 pub record ReadOn (serial at least : ℕ) (start notes : List DumpNote) (old new : Rack) : Type 0 where
   pub first : AreFirst (reel serial old.reels) serial notes
   pub end_is : at ≡ end_in 0 notes
@@ -509,7 +510,7 @@ one_read_on serial at least start notes then_notes dir old mid new x so reads ne
       kept = reads.kept (λ wrong. let no : ⊥ = cc in no) ∙ so.kept;
     }
 
--- where nothing stands behind them they are all
+-- If no dump follows them, they are all the dumps.
 all_next : (serial : ℕ) (blocks : List (List ℕ)) (at from : ℕ) (ds : List Dump) → AreInRow serial at from ds → All (StandsOn blocks) ds
     → ((d : Dump) → IsNext serial blocks (end_behind at ds) (number_behind from ds) d → ⊥) → AreNext serial blocks at from ds
 all_next serial blocks at from [] row all none = none

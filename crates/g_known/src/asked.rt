@@ -10,8 +10,8 @@ use g_shelf::Listed;
 use g_tape::Tapes;
 use std::alloc::Global;
 
-/// The completed dumps of all reels, one list for each reel, in rising serial. Their content isn't read. `ReadFault`,
-/// `NoMemory`; the reels are as they were.
+/// The completed dumps of all reels, one list for each reel, by increasing serial. Their content isn't read.
+/// `ReadFault`, `NoMemory`; the content of the reels is unchanged.
 pub fn catalogue<T: Tapes>(
     alloc: Global,
     tapes: &mut KnownReels<T>,

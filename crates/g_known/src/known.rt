@@ -1,4 +1,4 @@
-//! The rack with what is known of its reels.
+//! The rack together with what is known of its reels.
 ghost use Rattle.std.specs.Prelude.{◌≡◌, ◌↔◌, ◌+◌, ◌<◌, ◌≤◌, IfOk, IsTrue, List, OnErr};
 ghost use Rattle.std.specs.Option.{ForSome};
 ghost use Rattle.g_tape.specs.Rack.{reel};
@@ -18,12 +18,12 @@ use g_tape::{TapeFault, Tapes};
 use std::alloc::Global;
 use std::marker::Model;
 
-/// A rack that remembers the completed dumps of its reels. Contracts see the rack; what is remembered, and what forgets it, is in
-/// the contracts of `Remembered`, whose calls are made here.
+/// A rack that remembers the completed dumps of its reels. Contracts see only the rack; what is remembered, and when it is
+/// forgotten, is in the contracts of `Remembered`, whose calls are made here.
 ///
-/// What is remembered of a reel stands on it from its first block on, and the reel has been mounted since it was read. An unmount
-/// forgets the reel, and so does a write into the dumps that are known. A question reads on behind them; that it reads nothing
-/// else isn't promised. Where there is no memory for what was read, the answer is `NoMemory`.
+/// The remembered dumps are the first ones of their reel, which hasn't been unmounted since they were read. An unmount forgets
+/// the reel, and so does a write into a remembered dump. A query reads on after the remembered dumps; that it reads nothing else
+/// isn't promised. If there is no memory to remember what was read, the query returns `NoMemory`.
 #[derive(Drop)]
 pub struct KnownReels<T: Tapes> {
     reels: Remembered<T>,
@@ -42,7 +42,7 @@ impl<T: Tapes> Model for KnownReels<T> {
 }
 
 impl<T: Tapes> KnownReels<T> {
-    /// The rack, of whose dumps nothing is known yet. It takes no memory.
+    /// The rack, of whose dumps nothing is known yet. It allocates nothing.
     #[tactic(auto, using(crate::proofs::KnownLemmas::none_known))]
     pub fn new(alloc: Global, tapes: T) -> KnownReels<T>
         ensures { result ≡ tapes }
@@ -55,15 +55,15 @@ impl<T: Tapes> KnownReels<T> {
         }
     }
 
-    /// The rack, as it then is.
+    /// The rack in its current state.
     pub fn into_tapes(self) -> T
         ensures { result ≡ self }
     {
         self.reels.tapes
     }
 
-    /// Whether all of so many blocks, from the copy's first one on, are content of completed dumps of its reel. `NoTape`,
-    /// `NotMounted`, `ReadFault`, `NoMemory`; the reel is as it was.
+    /// Whether all `blocks` blocks from the copy's first one on are content of completed dumps of its reel. `NoTape`,
+    /// `NotMounted`, `ReadFault`, `NoMemory`; the reel's content is unchanged.
     pub fn find_copy(
         &mut self,
         alloc: Global,
@@ -83,8 +83,8 @@ impl<T: Tapes> KnownReels<T> {
         Ok(is_held(self.reels.notes(copy.serial), copy, blocks))
     }
 
-    /// The block behind the completed dumps of the reel, which is at most the reel's length, in blocks. `NoTape`,
-    /// `NotMounted`, `ReadFault`, `NoMemory`; the reel is as it was.
+    /// The block after the completed dumps of the reel, at most the reel's length in blocks. `NoTape`, `NotMounted`,
+    /// `ReadFault`, `NoMemory`; the reel's content is unchanged.
     pub fn end_of(&mut self, alloc: Global, serial: u32) -> Result<u32, ShelfFault>
         ensures reads { ReadsReel serial result (T.rack self.old) (T.rack self.new) }
         ensures end { IfOk result (λ end. (dumps : List Dump)
@@ -98,8 +98,8 @@ impl<T: Tapes> KnownReels<T> {
         Ok(end(self.reels.notes(serial)) as u32)
     }
 
-    /// The notes of the reel's completed dumps, in their order. `NoTape`, `NotMounted`, `ReadFault`, `NoMemory`; the reel is
-    /// as it was.
+    /// The notes of the reel's completed dumps, in their order. `NoTape`, `NotMounted`, `ReadFault`, `NoMemory`; the reel's
+    /// content is unchanged.
     pub fn notes(&mut self, alloc: Global, serial: u32) -> Result<Notes, ShelfFault>
         ensures reads { ReadsReel serial result (T.rack self.old) (T.rack self.new) }
         ensures noted { IfOk result (IsNoted serial (T.rack self.old)) }
@@ -111,7 +111,7 @@ impl<T: Tapes> KnownReels<T> {
     }
 }
 
-/// The same notes once more, or `NoMemory`.
+/// A copy of the notes. `NoMemory`.
 fn copied(alloc: Global, notes: &[DumpNote]) -> Result<Notes, ShelfFault>
     ensures same { IfOk result (λ copy. copy ≡ notes.now) }
     ensures only { OnErr result (result ≡ Err ShelfFault.NoMemory) }

@@ -1,4 +1,5 @@
-//! A rack that knows the completed dumps of its reels from their first reading on, until they are unmounted.
+//! A rack that remembers the completed dumps of its reels from the first time they are read until the reel is
+//! unmounted.
 #![tactic(auto)]
 
 mod asked;

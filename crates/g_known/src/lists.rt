@@ -1,4 +1,4 @@
-//! The lists of what is remembered, one for each reel that was asked for.
+//! The lists of remembered dumps, one for each reel that was queried.
 ghost use Rattle.std.specs.Prelude.{◌≡◌, ◌+◌, MatchOption};
 ghost use Rattle.g_known.specs.ReelNotes.{HasForgotten, HasNone, HasWritten, IsPlaceIn, end_in, noted};
 
@@ -11,7 +11,7 @@ pub(crate) struct NotedReel {
     pub(crate) notes: Vec<DumpNote>,
 }
 
-/// The block behind the dumps of these notes.
+/// The block after the dumps of these notes.
 pub(crate) fn end(notes: &[DumpNote]) -> u64
     ensures { result ≡ end_in 0 notes.now }
 {
@@ -21,14 +21,14 @@ pub(crate) fn end(notes: &[DumpNote]) -> u64
     }
 }
 
-/// The block behind the dump. The sum is of 64 bits, since a note may name any block.
+/// The block after the dump. The sum has 64 bits, since a note may name any block.
 fn behind(note: &DumpNote) -> u64
     ensures { result ≡ note.now.place + (note.now.count + 2) }
 {
     u64::from(note.place) + (u64::from(note.count) + 2)
 }
 
-/// The place of the reel's list.
+/// The position of the reel's list.
 pub(crate) fn place_of(lists: &[NotedReel], serial: u32) -> Option<usize>
     ensures { MatchOption result (HasNone serial lists.now) (IsPlaceIn serial lists.now) }
 {
@@ -40,7 +40,7 @@ pub(crate) fn place_of(lists: &[NotedReel], serial: u32) -> Option<usize>
     None
 }
 
-/// What is remembered of the reel: nothing, where it has no list.
+/// What is remembered of the reel: nothing, if it has no list.
 pub(crate) fn notes_of(lists: &[NotedReel], serial: u32) -> &[DumpNote]
     ensures { result.now ≡ noted serial lists.now }
 {
@@ -60,7 +60,7 @@ pub(crate) fn forget(lists: &mut Vec<NotedReel>, serial: u32)
     }
 }
 
-/// Forgets the reel, if dumps that are remembered of it reach block `k` or stand behind it.
+/// Forgets the reel, if one of its remembered dumps ends after block `k`.
 pub(crate) fn forget_from(lists: &mut Vec<NotedReel>, serial: u32, k: u32)
     ensures { HasWritten serial k lists.old.items lists.new.items }
 {

@@ -1,4 +1,4 @@
-//! What stands on a reel behind the dumps that are known.
+//! Reads the dumps of a reel that follow the known ones.
 ghost use Rattle.std.specs.Prelude.{◌≡◌, ◌≤◌, ◌^◌, OnOk};
 ghost use Rattle.g_incr.specs.Reading.{ReadsReel};
 ghost use Rattle.g_known.specs.ReelNotes.{GoesOn, IsKnown, IsNoted, number_in};
@@ -10,9 +10,9 @@ use g_tape::Tapes;
 use std::alloc::Global;
 
 impl NotedReel {
-    /// Puts the notes of the dumps that stand behind those of the list behind them, up to the last completed one. The records of
-    /// one at a time are in memory, and none of their content is read. Behind a failure the list has the notes of those that were
-    /// read before it. `NoTape`, `NotMounted`, `ReadFault`, `NoMemory`; the reel is as it was.
+    /// Appends the notes of the dumps that follow those of the list, up to the last completed one. Only the records of one dump
+    /// at a time are in memory, and no content is read. After a failure the list has the notes of the dumps that were read before
+    /// it. `NoTape`, `NotMounted`, `ReadFault`, `NoMemory`; the reel's content is unchanged.
     pub(crate) fn read_on<T: Tapes>(
         &mut self,
         alloc: Global,
@@ -29,7 +29,7 @@ impl NotedReel {
         let mut at = end(self.notes.as_slice()) as u32;
         let mut least = least_behind(self.notes.as_slice());
         loop {
-            // In a loop the proof reads the arms of a `match`, and not what `?` returns.
+            // A `match`, since the proof names its arms (`in-Ok`, `in-Err`).
             match next_dump(alloc, tapes, serial, at, least) {
                 Ok(Some(dir)) => {
                     at = dir.note.place + dir.note.count + 2;
@@ -46,7 +46,7 @@ impl NotedReel {
     }
 }
 
-/// The least number that a dump behind those of these notes may have.
+/// The least number that a dump after those of these notes may have.
 fn least_behind(notes: &[DumpNote]) -> u64
     requires { number_in 0 notes.now ≤ 2 ^ 62 }
     ensures { result ≡ number_in 0 notes.now }

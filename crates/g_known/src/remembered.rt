@@ -9,8 +9,8 @@ use g_incr::{DumpNote, ShelfFault};
 use g_tape::{TapeFault, Tapes};
 use std::alloc::Global;
 
-/// A rack, and notes of the first dumps of its reels. Contracts see both here, so that they tell what stays remembered; of a
-/// `KnownReels` they see the rack alone.
+/// A rack, and notes of the first dumps of its reels. Contracts see both here, so that they can state what remains
+/// remembered; of a `KnownReels` they see only the rack.
 #[derive(Drop)]
 pub(crate) struct Remembered<T: Tapes> {
     pub(crate) tapes: T,
@@ -25,8 +25,9 @@ impl<T: Tapes> Remembered<T> {
         notes_of(self.known.as_slice(), serial)
     }
 
-    /// Reads on behind what is remembered of the reel, so that all its completed dumps are. What was read before a failure is
-    /// remembered too, if there is memory for it. `NoTape`, `NotMounted`, `ReadFault`, `NoMemory`; the reel is as it was.
+    /// Reads on after what is remembered of the reel, until all its completed dumps are. What was read before a failure is
+    /// remembered too, if there is memory for it. `NoTape`, `NotMounted`, `ReadFault`, `NoMemory`; the reel's content is
+    /// unchanged.
     pub(crate) fn fill(&mut self, alloc: Global, serial: u32) -> Result<(), ShelfFault>
         requires known { AreKnown (T.rack self.old.tapes) self.old.known.items }
         ensures { Fills serial result (T.rack self.old.tapes) self.old.known.items (T.rack self.new.tapes) self.new.known.items }
@@ -37,7 +38,7 @@ impl<T: Tapes> Remembered<T> {
         }
     }
 
-    /// The same of a reel that has no list.
+    /// The same for a reel that has no list.
     fn fill_anew(&mut self, alloc: Global, serial: u32) -> Result<(), ShelfFault>
         requires known { AreKnown (T.rack self.old.tapes) self.old.known.items }
         requires none { HasNone serial self.old.known.items }
@@ -65,7 +66,7 @@ impl<T: Tapes> Remembered<T> {
         self.tapes.mount(serial)
     }
 
-    /// The reel may be another one when it is mounted again.
+    /// Forgets the reel, which may be a different one when it is mounted again.
     pub(crate) fn unmount(&mut self, serial: u32) -> Result<(), TapeFault>
         requires known { AreKnown (T.rack self.old.tapes) self.old.known.items }
         ensures unmounts { Mounting refuses_unmount false serial (T.rack self.old.tapes) result (T.rack self.new.tapes) }
@@ -85,7 +86,7 @@ impl<T: Tapes> Remembered<T> {
         self.tapes.read(serial, k, into)
     }
 
-    /// Asks the device each time: a reel whose dumps are remembered need not be durable.
+    /// Always calls the device: a reel whose dumps are remembered need not be durable.
     pub(crate) fn secure(&mut self, serial: u32) -> Result<(), TapeFault>
         requires known { AreKnown (T.rack self.old.tapes) self.old.known.items }
         ensures securing { Securing serial (T.rack self.old.tapes) result (T.rack self.new.tapes) }
@@ -95,7 +96,7 @@ impl<T: Tapes> Remembered<T> {
         self.tapes.secure(serial)
     }
 
-    /// A write into the dumps that are remembered forgets the reel; behind them nothing is remembered that it could change.
+    /// A write into a remembered dump forgets the reel; after the remembered dumps there is nothing to forget.
     pub(crate) fn write(&mut self, serial: u32, k: u32, from: &Block) -> Result<(), TapeFault>
         requires known { AreKnown (T.rack self.old.tapes) self.old.known.items }
         ensures writes { Writing serial k from.now (T.rack self.old.tapes) result (T.rack self.new.tapes) }
@@ -107,7 +108,7 @@ impl<T: Tapes> Remembered<T> {
     }
 }
 
-/// What a reading says whose list found no room.
+/// The result of a reading whose list could not be stored.
 fn unkept(read: Result<(), ShelfFault>) -> Result<(), ShelfFault>
     ensures ok { OnOk read (result ≡ Err ShelfFault.NoMemory) }
     ensures err { OnErr read (result ≡ read) }

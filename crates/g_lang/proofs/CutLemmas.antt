@@ -1,4 +1,5 @@
--- Lines that are cut behind their label, and read at once where their command is a verb or a GOTO.
+-- Lines split after their label, and parsed directly if their command is a verb or a GOTO.
+-- serves: parse, parse_command
 use Rattle.std.proofs.Common.{Err, IfOk, IfSome, List, None, Ok, Option, Result, Some, [], ap, append-nil, arith, codes, is_ok, length, refl, subst, suc, sym, true, zero, ℕ, ⊎_elim, ◌-◌, ◌==◌, ◌∙◌, ◌∷◌, ◌≡◌, ◌≢◌, ◌≤◌}
 use Rattle.std.proofs.lemmas.Bool.{cases_Bool, cond_both, false≢true}
 use Rattle.std.specs.Prelude.{if◌then◌else◌}
@@ -19,7 +20,7 @@ use Rattle.g_lang.specs.declared.fault.LangFault.TheVariants.{BadLine, NoMemory}
 use Rattle.g_lang.specs.declared.line.Line.{Line}
 use Rattle.g_name.specs.Order.{same_text}
 
--- the spaces at both ends go in either order
+-- the spaces at both ends can be removed in either order
 front_step : (c : ℕ) (cs w : List ℕ) → w ≡ without_back cs → without_front w ≡ without_back (without_front cs)
     → without_front (before_rest c w) ≡ without_back (without_front (c ∷ cs))
 front_step c cs [] is again =
@@ -35,7 +36,7 @@ front_back : (t : List ℕ) → without_front (without_back t) ≡ without_back 
 front_back [] = refl
 front_back (c ∷ cs) = front_step c cs (without_back cs) refl (front_back cs)
 
--- behind the first word of a text without the spaces behind
+-- the rest after the first word of a text without its trailing spaces
 behind_step : (c : ℕ) (cs w : List ℕ) → w ≡ without_back cs → behind_word w ≡ without_back (behind_word cs)
     → behind_word (before_rest c w) ≡ without_back (behind_word (c ∷ cs))
 behind_step c cs [] is again =
@@ -51,7 +52,7 @@ behind_back : (t : List ℕ) → behind_word (without_back t) ≡ without_back (
 behind_back [] = refl
 behind_back (c ∷ cs) = behind_step c cs (without_back cs) refl (behind_back cs)
 
--- what a line says that was cut
+-- what a split line says
 abbrev said_of : Option (List ℕ) → Option Said → LineSaid
 said_of label command = record { label = label; command = command }
 
@@ -85,7 +86,7 @@ has_word word label is =
     cond_both (is_label word) (Some word) None (λ (o : Option (List ℕ)). same_text word label ≡ is_that_label label o) (λ holds. refl)
     (λ fails. ⊎_elim (λ same. absurd (false≢true (sym fails ∙ ap is_label (same_text-eq word label same) ∙ is))) (λ other. other) (cases_Bool (same_text word label)))
 
--- where its parameters go wrong it goes wrong
+-- a line with a verb goes wrong where its parameters do
 verb_wrong : (text : List ℕ) (label : Option (List ℕ)) (command : List ℕ) → IsCut (without_front text) label command → is_verb (word_of command) ≡ true
     → wrong_from Front 0 text ≡ wrong_from (Params 0) (length text - length (behind_word command)) (behind_word command)
 verb_wrong text None command cut verb =

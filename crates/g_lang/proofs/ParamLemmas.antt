@@ -1,4 +1,5 @@
--- Parameters that are counted, and the one at a place.
+-- Counting parameters, and the parameter at a place.
+-- serves: count_params, param_at, params
 use Rattle.std.proofs.Common.{Bool, Bor, Err, IfOk, List, MatchOption, None, Ok, Option, Result, Some, [], ap, arith, drop, drop-drop, eq-eqb, eqb-true, false, length, length-drop, refl, subst, suc, sym, true, zero, ℕ, ◌+◌, ◌-◌, ◌<◌, ◌∙◌, ◌∷◌, ◌≡◌, ◌≤◌}
 use Rattle.std.proofs.lemmas.Bool.{false≢true}
 use Rattle.std.specs.Prelude.{◌==◌}
@@ -11,7 +12,7 @@ use Rattle.g_lang.specs.LineReader.{behind_comma, params_read, parts_of}
 use Rattle.g_lang.specs.Texts.{bytes_left, params_left, params_of}
 use Rattle.g_lang.specs.Words.{trimmed}
 
--- a text of a Model's, and what is read out of it
+-- a text of a Model, and what is read from it
 pub list_is : {E : Type 0} (r : Result (List (List ℕ)) E) (text given : List ℕ) (o : List (List ℕ)) → IfOk r (λ params. params ≡ params_read given) → given ≡ text
     → params_read text ≡ o → IfOk r (λ params. params ≡ o)
 list_is (Ok params) text given o is same view = is ∙ ap params_read same ∙ view
@@ -25,7 +26,7 @@ text_there text given place param made o at is same view =
 pub text_lacks : (text given : List ℕ) (place : ℕ) (o : Option (List ℕ)) → slice_get (params_read given) place ≡ None → given ≡ text → slice_get (params_read text) place ≡ o → None ≡ o
 text_lacks text given place o none same view = sym none ∙ ap (λ (ts : List ℕ). slice_get (params_read ts) place) same ∙ view
 
--- what is left at first
+-- what is left at the beginning
 empty_text : (text : List ℕ) → (length text == 0) ≡ true → text ≡ []
 empty_text [] is = refl
 empty_text (c ∷ cs) is = let none : length (c ∷ cs) ≡ 0 = eqb-true (length (c ∷ cs)) 0 is in absurd (omega (arith, none))
@@ -36,7 +37,7 @@ left_none_first text b same is = sym (ap params_read (empty_text text (sym same 
 pub left_all_first : (text : Bor (List ℕ)) (b : Bool) → b ≡ (length text.now == 0) → b ≡ false → params_left (Some text) ≡ params_read text.now
 left_all_first text b same is = params-first text (λ none. false≢true (sym is ∙ same ∙ eq-eqb (length text.now) 0 (ap length none)))
 
--- the first parameter, and what is left behind it
+-- the first parameter, and the rest after it
 pub left_params : (rest part : List ℕ) (more : Option (Bor (List ℕ))) → MatchOption more (parts_of 0 rest ≡ part ∷ []) (λ r. parts_of 0 rest ≡ part ∷ parts_of 0 r.now)
     → params_left more ≡ drop 1 (params_of rest)
 left_params rest part more is = sym (ap (drop 1) (left-more rest part more is))
@@ -50,7 +51,7 @@ pub left_bytes : (rest : List ℕ) (more : Option (Bor (List ℕ))) → MatchOpt
     → bytes_left more ≤ length rest
 left_bytes rest more is = omega (arith, left-less rest more is)
 
--- what the loop that counts keeps
+-- the invariant of the counting loop
 pub record Counted (text : List ℕ) (count : ℕ) (left : Option (Bor (List ℕ))) : Type 0 where
   pub counted : count + length (params_left left) ≡ length (params_read text)
   pub size : count + bytes_left left ≤ suc (length text)

@@ -1,4 +1,5 @@
--- What the code reads out of a text of the grammar.
+-- What the code reads from a text of the grammar.
+-- serves: +read_command, is_input_line, only_param, parse_by_steps, read_option, two_params, CutLemmas, ParamLemmas, crates above
 use Rattle.std.proofs.Common.{Bor, Err, IfOk, List, MatchOption, None, Ok, Option, Result, Some, [], ap, arith, codes, cond, false, is_some, le_refl, length, length-append, map, refl, subst, suc, sym, true, zero, ℕ, ◌+◌, ◌<◌, ◌∙◌, ◌∷◌, ◌≡◌, ◌≤◌}
 use Rattle.std.proofs.lemmas.Bool.{cond_both, false≢true}
 use Rattle.std.proofs.lemmas.List.{length-map}
@@ -87,7 +88,7 @@ option_input : (t : List ℕ) → is_input_of (option_read t) ≡ same_text (wor
 option_input [] = refl
 option_input (c ∷ cs) = command_input (suc (length cs)) (c ∷ cs)
 
--- a text in which something is wrong is none
+-- a text in which something is wrong isn't an INPUT
 pub wrong-input : (text : List ℕ) (o : Option ℕ) → o ≡ wrong_from Front 0 text → is_some o ≡ true → false ≡ is_input_said (reading text)
 wrong-input text None is some = absurd (false≢true some)
 wrong-input text (Some place) is some = sym (ap is_input_said (reading_is text (Some place) (sym is)))

@@ -1,4 +1,5 @@
--- A text whose brackets match is parts with commas between them, and spaces behind.
+-- A text whose brackets match is parts with commas between them, and trailing spaces.
+-- serves: ParamLemmas, ParseLemmas, RestLemmas
 use Rattle.std.proofs.Common.{Bool, List, None, Option, Some, [], ap, arith, eqb-true, false, length, pred, refl, subst, suc, sym, true, ℕ, ◌&&◌, ◌++◌, ◌+◌, ◌==◌, ◌∙◌, ◌∷◌, ◌≡◌, ◌≤◌}
 use Rattle.std.proofs.lemmas.Bool.{and_from, and_parts, cond_both, false≢true, not_from_false}
 use Rattle.std.specs.Prelude.{if◌then◌else◌}
@@ -10,7 +11,7 @@ use Rattle.g_lang.specs.LineReader.{Params, State, depth_behind, in_params, part
 use Rattle.g_lang.specs.Words.{before_rest, ends_well, is_part, is_printed, is_trimmed, joined, spaces, without_back}
 use Rattle.g_lines.specs.Lines.{onto_first}
 
--- what stands before the spaces at the end
+-- the part before the trailing spaces
 split_more : (c : ℕ) (cs w : List ℕ) (n : ℕ) → cs ≡ w ++ spaces n → (m : ℕ) × (c ∷ cs ≡ before_rest c w ++ spaces m)
 split_more c cs [] n same =
     cond_both (c == 32) [] (c ∷ []) (λ (front : List ℕ). (m : ℕ) × (c ∷ cs ≡ front ++ spaces m))
@@ -49,7 +50,7 @@ both_well (c ∷ cs) starts ends = and_from _ _ (not_from_false _ starts) ends
 pub back-trimmed : (t : List ℕ) → StartsWell t → is_trimmed (without_back t) ≡ true
 back-trimmed t starts = both_well (without_back t) (back_starts t starts) (back_ends t)
 
--- within parameters the reader stays there
+-- within parameters the reader stays in them
 abbrev StaysIn : Option State → Type 0
 StaysIn None = Unit {0}
 StaysIn (Some t) = (d : ℕ) × (t ≡ Params d)
@@ -67,7 +68,7 @@ by_state : (o : Option State) (xs ys : List ℕ) → StaysIn o → ((d : ℕ) �
 by_state None xs ys stays same = refl
 by_state (Some t) xs ys stays same = ap (λ (s : State). takes s xs) stays.1 ∙ same stays.0 ∙ ap (λ (s : State). takes s ys) (sym stays.1)
 
--- spaces behind change nothing
+-- trailing spaces change nothing
 pub without-spaces : (d : ℕ) (u : List ℕ) (n : ℕ) → takes (Params d) (u ++ spaces n) ≡ takes (Params d) u
 without-spaces d [] n = params_spaces d n
 without-spaces d (c ∷ u) n = by_state (in_params d c) (u ++ spaces n) u (stays_in d c) (λ e. without-spaces e u n)
@@ -102,7 +103,7 @@ byte_taken d c cs =
     })
     (λ not_printed taken. absurd (false≢true taken))))
 
--- parts, of which the first begins at this depth
+-- parts, the first of which begins at this depth
 abbrev ArePartsFrom : ℕ → List (List ℕ) → Type 0
 ArePartsFrom d [] = ⊥
 ArePartsFrom d (p ∷ ps) = (is_part d p ≡ true) × (are_parts ps ≡ true)

@@ -1,4 +1,5 @@
--- What the code's loops over texts keep.
+-- Invariants of the code's loops over texts.
+-- serves: behind, split_at_comma (before, behind, parts), without_back, without_last
 use Rattle.std.proofs.Common.{Bool, Bor, List, MatchOption, None, Option, Some, [], ap, append-nil, append_assoc, arith, drop, drop-cons, drop_of_length-le, eq-eqb, false, get_or, le_refl, length, length-drop, ne_eqb, pred, refl, subst, suc, sym, take, true, ℕ, ⊎_elim, ◌&&◌, ◌++◌, ◌+◌, ◌-◌, ◌<◌, ◌==◌, ◌∙◌, ◌∷◌, ◌≡◌, ◌≢◌, ◌≤◌}
 use Rattle.std.proofs.Math.Seq.{take-length}
 use Rattle.std.proofs.lemmas.Bool.{and_from, and_left, and_right, cases_eq, cond_both, not_from_false}
@@ -14,7 +15,7 @@ none_behind : (front text : List ℕ) (o : Option (List ℕ)) → behind front t
 none_behind front text None is other = refl
 none_behind front text (Some rest) is other = absurd (other rest (behind-is front text rest is))
 
--- what `strip_prefix` answers
+-- what `strip_prefix` returns
 pub behind-from : (front text : List ℕ) (r : Option (Bor (List ℕ))) → MatchOption r ((rest : List ℕ) → text ≢ front ++ rest) (λ x. text ≡ front ++ x.now)
     → MatchOption r (behind front text ≡ None) (λ rest. behind front text ≡ Some rest.now)
 behind-from front text None is = none_behind front text (behind front text) refl is
@@ -34,7 +35,7 @@ cut t i inside = let e : i + 1 ≡ suc i = omega arith in rw e (drop-cons t i 0 
 longer : (t : List ℕ) (i : ℕ) (rest : List ℕ) → i < length t → take i t ++ (get_or t i 0 ∷ rest) ≡ take (i + 1) t ++ rest
 longer t i rest inside = sym (append_assoc (take i t) (get_or t i 0 ∷ []) rest) ∙ ap (λ (ts : List ℕ). ts ++ rest) (sym (take_more t i 0 inside))
 
--- spaces behind
+-- trailing spaces
 back-push : (t : List ℕ) → without_back (t ++ 32 ∷ []) ≡ without_back t
 back-push [] = refl
 back-push (c ∷ cs) = ap (before_rest c) (back-push cs)
@@ -111,7 +112,7 @@ depth-most c d =
     cond_both (c == 40) (d + 1) (if c == 41 then pred d else d) (λ (n : ℕ). n ≤ d + 1) (λ _. omega arith)
     (λ _. cond_both (c == 41) (pred d) d (λ (n : ℕ). n ≤ d + 1) (λ _. omega arith) (λ _. omega arith))
 
--- what the loop that looks for a comma keeps
+-- the invariant of the loop that searches a comma
 pub record UpTo (t : List ℕ) (i d : ℕ) : Type 0 where
   pub before : before_comma 0 t ≡ take i t ++ before_comma d (drop i t)
   pub past : behind_comma 0 t ≡ behind_comma d (drop i t)
@@ -130,7 +131,7 @@ up_to-more t i d e here inside other same =
       deep = let h = here.deep in omega (arith, h, most);
     })
 
--- where there is no comma
+-- the text has no comma
 pub record IsWhole (t : List ℕ) : Type 0 where
   pub before : before_comma 0 t ≡ t
   pub past : behind_comma 0 t ≡ []

@@ -1,4 +1,5 @@
--- The place where a line goes wrong: from what the reader takes, and from what completes it.
+-- The place where a line goes wrong, from what the reader accepts and what completes it.
+-- serves: PartLemmas, ReadingLemmas, RestLemmas, TakeLemmas, VerbLemmas
 use Rattle.std.proofs.Common.{Bool, List, None, Option, Some, [], ap, arith, eq-eqb, false, get_or, inl, inr, is_some, length, ne_eqb, refl, subst, suc, sym, take, true, zero, ℕ, ◌++◌, ◌+◌, ◌==◌, ◌∙◌, ◌∷◌, ◌≡◌, ◌≤◌, ◌⊎◌}
 use Rattle.std.proofs.lemmas.Bool.{false≢true}
 use Rattle.std.specs.Prelude.{if◌then◌else◌, codes}
@@ -34,7 +35,7 @@ completing Back = []
 completing VerbGap = []
 completing (Params depth) = closing depth
 
--- the reader takes all of the text from this state, and a line may end behind it
+-- the reader accepts the whole text from this state, and a line may end after it
 abbrev pub takes : State → List ℕ → Bool
 takes s [] = may_end s
 takes s (c ∷ cs) = elim (step c s) [ None ↦ false | Some t ↦ takes t cs ]
@@ -55,7 +56,7 @@ later s t c cs n goes stops = record {
   end = elim stops.end [ inl e ↦ inl (ap suc e) | inr e ↦ inr e ];
 }
 
--- a choice that gave a place
+-- a choice that returned a place
 end_some : (b : Bool) (at place : ℕ) → (if b then None else Some at) ≡ Some place → at ≡ place
 end_some true at place w = absurd cc
 end_some false at place w = cc
@@ -73,7 +74,7 @@ by_step s at c cs place again (Some t) e w =
     let same : place ≡ at + suc more.0 = omega (arith, more.1) in
     (suc more.0, same, later s t c cs more.0 e more.2)
 
--- what `wrong_from` answers
+-- what `wrong_from` returns
 pub stops_at : (s : State) (at : ℕ) (text : List ℕ) (place : ℕ) → wrong_from s at text ≡ Some place → (n : ℕ) × (place ≡ at + n) × StopsAt s text n
 stops_at s at [] place w =
     let here : at ≡ place = end_some (may_end s) at place w in
@@ -90,7 +91,7 @@ by_first : (here : State) (xs ys : List ℕ) → ((t : State) → run step (Some
 by_first here xs ys again None led = let gone = none_runs xs in absurd cc
 by_first here xs ys again (Some t) led = again t led
 
--- what is taken behind bytes that led to a state
+-- what the reader accepts after bytes that led to a state
 pub takes-append : (s here : State) (xs ys : List ℕ) → run step (Some s) xs ≡ Some here → takes s (xs ++ ys) ≡ takes here ys
 takes-append s here [] ys led = ap (λ (o : Option State). elim o [ None ↦ false | Some t ↦ takes t ys ]) led
 takes-append s here (x ∷ xs) ys led = by_first here xs ys (λ t more. takes-append t here xs ys more) (step x s) led
@@ -114,7 +115,7 @@ fixed_completes (c ∷ rest) next =
     subst (λ (b : Bool). let none : Option State = None in (elim (if b then Some (fixed rest next) else none) [ None ↦ false | Some t ↦ takes t (rest ++ completing_next next) ]) ≡ true)
     (sym same) (fixed_completes rest next)
 
--- what runs on over a text that the reader takes
+-- a run over a text that the reader accepts
 takes_on : (text : List ℕ) → ((t : State) → takes t text ≡ true → is_some (run step (Some t) text) ≡ true)
     → (o : Option State) → (elim o [ None ↦ false | Some t ↦ takes t text ]) ≡ true → is_some (run step o text) ≡ true
 takes_on text again None taken = absurd (false≢true taken)
@@ -124,7 +125,7 @@ takes_runs : (s : State) (text : List ℕ) → takes s text ≡ true → is_some
 takes_runs s [] taken = refl
 takes_runs s (c ∷ cs) taken = takes_on cs (λ t more. takes_runs t cs more) (step c s) taken
 
--- THE PLACE: of a grammar whose texts are those that the reader takes, and whose states can all be completed
+-- THE PLACE: for a grammar whose texts are those that the reader accepts, and whose states can all be completed
 module _ (IsIn : List ℕ → Type 0) (reads : (text : List ℕ) → IsIn text → takes Front text ≡ true)
     (only : (text : List ℕ) → takes Front text ≡ true → IsIn text) (completes : (s : State) → takes s (completing s) ≡ true) where
   begins_by : (text : List ℕ) (n : ℕ) (stops : StopsAt Front text n) → Begins IsIn (take n text)

@@ -1,4 +1,5 @@
--- What is read of a written line is what it says.
+-- A written line is read as what it says.
+-- serves: +read_command, lines_are_read_by_the_grammar, parse_by_steps, CutLemmas, ReadingLemmas, TakeLemmas, VerbLemmas
 use Rattle.std.proofs.Common.{IfSome, List, None, Option, Some, [], ap, append-nil, append_assoc, arith, codes, cond, false, is_some, leb-true, length, length-append, map, nat_le, not, option_map, refl, subst, suc, sym, true, zero, ℕ, ◌&&◌, ◌++◌, ◌+◌, ◌==◌, ◌||◌, ◌∙◌, ◌∷◌, ◌≡◌, ◌≤◌}
 use Rattle.std.proofs.lemmas.Bool.{and_from, and_parts, and_right, cond-false, cond-true, cond_both, false≢true, lt-leb, not-true, or_parts}
 use Rattle.std.proofs.lemmas.List.Elements.{recursion_from_All}
@@ -81,7 +82,7 @@ verb-read name gap parts is =
     behind-front name (params_text gap parts) none at ∙ front-params gap parts is.1 in
     rw (word-front name (params_text gap parts) none at, rest, params-read gap parts is.1) refl
 
--- how many conditions and labels stand in front
+-- the number of conditions and labels at the front
 abbrev pub need : Written → ℕ
 need (WrittenGoto label) = 1
 need (WrittenIf cond inner) = suc (need inner)
@@ -174,7 +175,7 @@ label-starts (c ∷ cs) is =
     let first = (and_parts (is_digit c) (nat_le (length cs) 11) (and_parts (is_digit c && nat_le (length cs) 11) (list_all is_name_char cs) is).0).0 in
     name_char-no_space c (digit-name_char c first)
 
--- what is read once the spaces at the ends are gone
+-- what is read once the spaces at the ends are removed
 abbrev labelled : List ℕ → LineSaid
 labelled t = record { label = Some (word_of t); command = option_read (behind_word t) }
 
@@ -193,7 +194,7 @@ by_command t o none more = cond-false (is_label (word_of t)) (labelled t) (bare 
 abbrev the_line : ℕ → Option (List ℕ) → ℕ → Option Written → ℕ → WrittenLine
 the_line front label gap command back = record { front = front; label = label; gap = gap; command = command; back = back }
 
--- what is cut out of a line
+-- what a line is split into
 abbrev CutAs : Option (List ℕ) → Option Written → List ℕ → Type 0
 CutAs None None t = t ≡ []
 CutAs None (Some w) t = t ≡ command_text w
@@ -240,7 +241,7 @@ read_cut None (Some w) t label_is command_is cut =
 read_cut (Some label) None t label_is command_is cut = by_label t label None label_is cut.0 (ap option_read cut.1)
 read_cut (Some label) (Some w) t label_is command_is cut = by_label t label (Some (said_by w)) label_is cut.0 (ap option_read cut.1 ∙ option-read w command_is)
 
--- WHAT IS READ of a written line is what it says
+-- A WRITTEN LINE is read as what it says
 pub line-read : (l : WrittenLine) → IsLine l → line_read (line_text l) ≡ said_in l
 line-read l is =
     read_cut l.label l.command (trimmed (line_text l)) is.label is.command (cut_as l.front l.label l.gap l.command l.back is.label is.command is.apart)
@@ -258,7 +259,7 @@ commands_cut (Some label) None t label_is command_is cut =
 commands_cut (Some label) (Some w) t label_is command_is cut =
     (λ is some. (w, command_is, cut.1), λ isnt some. absurd (false≢true (sym isnt ∙ ap is_label cut.0 ∙ label_is)))
 
--- what isn't a label in a line is a command
+-- the rest of a line that isn't a label is a command
 pub line-commands : (text : List ℕ) → IsLineText text → HasCommands (trimmed text)
 line-commands text line =
     let l = line.0 in
@@ -307,7 +308,7 @@ verb-text t command no_if no_whenever no_goto =
     inside (WrittenVerb name gap parts) is a b c =
         ap is_word (word-front name (params_text gap parts) (word-no_space name (verb-word name is.0)) (params-at gap parts is.1)) ∙ verb-word name is.0
 
--- the first word is that of the text without the spaces behind
+-- the first word is that of the text without its trailing spaces
 word_before : (c : ℕ) (cs w : List ℕ) → word_of w ≡ word_of cs → word_of (before_rest c w) ≡ word_of (c ∷ cs)
 word_before c cs [] same =
     cond_both (c == 32) [] (c ∷ []) (λ (t : List ℕ). word_of t ≡ word_of (c ∷ cs)) (λ space. rw space refl)
@@ -331,7 +332,7 @@ label-line l is =
     ap label_by (sym (word_back (without_front (line_text l)))) ∙ sym (read_label (trimmed (line_text l)))
     ∙ ap (λ (s : LineSaid). s.label) (line-read l is)
 
--- what waits is the text of a command
+-- a stored command is the text of a command
 pub keeps-said : (w : Written) → IsWritten w → KeepsCommand (said_by w)
 keeps-said (WrittenGoto label) is = tt
 keeps-said (WrittenIf cond w) is = keeps-said w is.1

@@ -1,4 +1,5 @@
 -- A word of a command that ends with a space.
+-- serves: in_word
 use Rattle.std.proofs.Common.{Bool, List, [], eq-eqb, false, length, refl, sym, ℕ, ◌==◌, ◌∷◌, ◌≡◌}
 use Rattle.std.proofs.lemmas.Bool.{false≢true}
 use Rattle.g_lang.specs.LineReader.{in_word, state_behind_word}

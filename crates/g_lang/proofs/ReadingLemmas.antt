@@ -1,4 +1,5 @@
--- The reading of a text is what the grammar says of it, and nothing else is.
+-- The reading of a text is what the grammar says, and no other reading is.
+-- serves: lines_are_read_by_the_grammar, parse_by_steps, CutLemmas, ParseLemmas, VerbLemmas
 use Rattle.std.proofs.Common.{Bool, Err, IfSome, List, None, Ok, Option, Some, [], ap, append-nil, codes, false, option_map, refl, subst, sym, true, ℕ, ⊎_elim, ◌&&◌, ◌+◌, ◌||◌, ◌∙◌, ◌∷◌, ◌≡◌}
 use Rattle.std.proofs.lemmas.Bool.{and_parts, cases_order, cond_both, false≢true, not-false, or_cases}
 use Rattle.std.specs.Prelude.{if◌then◌else◌}
@@ -58,7 +59,7 @@ completes (Params depth) = closes depth
 line_taken : (text : List ℕ) → IsLineText text → takes Front text ≡ true
 line_taken text is = ap (takes Front) is.2 ∙ line-taken is.0 is.1
 
--- where nothing goes wrong all is taken
+-- if nothing goes wrong, the whole text is accepted
 none_end : (b : Bool) (at : ℕ) → ◌≡◌ {A = Option ℕ} (if b then None else Some at) None → b ≡ true
 none_end true at is = refl
 none_end false at is = absurd cc
@@ -84,7 +85,7 @@ pub taken_none : (s : State) (at : ℕ) (text : List ℕ) → takes s text ≡ t
 taken_none s at [] taken = taken_end (may_end s) at taken
 taken_none s at (c ∷ cs) taken = taken_step (step c s) at cs (λ t more. taken_none t (at + 1) cs more) taken
 
--- what the reading is, where nothing goes wrong and where something does
+-- what the reading is, if nothing goes wrong and if something does
 abbrev pub read_as : List ℕ → Option ℕ → Reading
 read_as text None = Ok (line_read text)
 read_as text (Some place) = Err place
@@ -116,7 +117,7 @@ place_one text m n a b =
     (λ other. ⊎_elim (λ less. absurd (a.longest n less b.within b.begins)) (λ more. absurd (b.longest m more a.within a.begins)) other)
     (cases_order m n)
 
--- ONE ANSWER alone is the reading
+-- THERE IS ONLY ONE READING
 pub reading-one : (text : List ℕ) (r s : Reading) → IsReading text r → IsReading text s → r ≡ s
 reading-one text (Ok a) (Ok b) is also = ap (λ (said : LineSaid). Ok said) (ok_one text a is ∙ sym (ok_one text b also))
 reading-one text (Ok a) (Err n) is also = absurd (also.0 (is.0, is.1, is.2))
@@ -132,7 +133,7 @@ reading-command w is =
     let l : WrittenLine = record { front = 0; label = None; gap = 0; command = Some w; back = 0 } in
     ap reading (sym (append-nil (command_text w))) ∙ reading-written l (record { label = tt; command = is; apart = λ both. absurd (false≢true both) })
 
--- what waits for a condition
+-- the command stored for a condition
 keeps_option : (o : Option Written) → IfSome o IsWritten → IfSome (option_map said_by o) KeepsCommand
 keeps_option None is = tt
 keeps_option (Some w) is = keeps-said w is

@@ -1,4 +1,6 @@
--- What the reader takes from a state is the rest of a line: for each state what may come, and for each byte how it comes before that.
+-- The texts that the reader accepts from a state are the rests of a line: for each state the possible rest, and for each byte how it extends that
+-- rest.
+-- serves: CutLemmas, ParseLemmas, ReadingLemmas
 use Rattle.std.proofs.Common.{All, Bool, IfSome, List, None, Option, Some, [], ap, append-nil, append_assoc, arith, codes, eqb-true, false, is_some, le-leb, length, ltb-true, nat_lt, not, pred, refl, subst, suc, sym, true, ℕ, ⊎_elim, ◌&&◌, ◌++◌, ◌+◌, ◌-◌, ◌<◌, ◌==◌, ◌||◌, ◌∙◌, ◌∷◌, ◌≡◌, ◌≤◌}
 use Rattle.std.proofs.lemmas.Bool.{and_from, and_parts, cases_Bool, cond_both, false≢true, not-true, not_from_false, or_cases, or_from, or_parts}
 use Rattle.std.proofs.lemmas.List.Elements.{All-from_recursion}
@@ -21,7 +23,7 @@ use Rattle.g_name.specs.Grammar.{is_digit, is_letter, is_name_char, is_word}
 use Rattle.g_name.specs.Order.{same_text}
 use Rattle.g_name.specs.Words.{may_be_word}
 
--- a command and the spaces behind it; behind a condition it is no INPUT
+-- a command and its trailing spaces; after a condition it is no INPUT
 pub record CommandRest (inner : Bool) (text : List ℕ) : Type 0 where
   pub written : Written
   pub is : IsWritten written
@@ -29,7 +31,7 @@ pub record CommandRest (inner : Bool) (text : List ℕ) : Type 0 where
   pub back : ℕ
   pub same : text ≡ command_text written ++ spaces back
 
--- a comma and the command behind a condition
+-- a comma and the command after a condition
 pub record CommaRest (text : List ℕ) : Type 0 where
   pub more : List ℕ
   pub rest : CommandRest true more
@@ -43,7 +45,7 @@ pub record TextRest (text : List ℕ) : Type 0 where
   pub rest : CommaRest more
   pub same : text ≡ plain ++ (41 ∷ more)
 
--- what comes behind a parameter's letter
+-- what follows a parameter's letter
 abbrev BehindLetter : Bool → List ℕ → Type 0
 BehindLetter true text = (more : List ℕ) × TextRest more × (text ≡ codes ")=(" ++ more)
 BehindLetter false text = (more : List ℕ) × CommaRest more × (text ≡ codes ")" ++ more)
@@ -81,7 +83,7 @@ pub record FixedRest (fixed : List ℕ) (next : Next) (text : List ℕ) : Type 0
   pub rest : NextRest next more
   pub same : text ≡ fixed ++ more
 
--- the rest of a line behind a label, and behind a space there
+-- the rest of a line after a label, and after the label's space
 pub record LabelRest (n : ℕ) (text : List ℕ) : Type 0 where
   pub chars : List ℕ
   pub all : list_all is_name_char chars ≡ true
@@ -136,14 +138,14 @@ abbrev Goes : State → ℕ → List ℕ → Option State → Type 0
 Goes s c cs None = Unit {0}
 Goes s c cs (Some t) = Rest t cs → Rest s (c ∷ cs)
 
--- a byte that is known, before a text
+-- a known byte before a text
 at_byte : (c k : ℕ) (cs ts : List ℕ) → (c == k) ≡ true → cs ≡ ts → c ∷ cs ≡ k ∷ ts
 at_byte c k cs ts is same = ap (λ (b : ℕ). b ∷ cs) (eqb-true c k is) ∙ ap (λ (us : List ℕ). k ∷ us) same
 
 before : (c : ℕ) (cs ts : List ℕ) → cs ≡ ts → c ∷ cs ≡ c ∷ ts
 before c cs ts same = ap (λ (us : List ℕ). c ∷ us) same
 
--- from where a line begins
+-- a line by the place where it begins
 abbrev the_line : ℕ → Option (List ℕ) → ℕ → Option Written → ℕ → WrittenLine
 the_line front label gap command back = record { front = front; label = label; gap = gap; command = command; back = back }
 
@@ -350,7 +352,7 @@ as_cond : (negated : Bool) (text : List ℕ) → TestRest text → Rest (ATestFr
 as_cond true text r = r
 as_cond false text r = record { cond = record { negated = false; test = r.test }; is = r.is; more = r.more; rest = r.rest; same = r.same }
 
--- a text in brackets, with what comes behind
+-- a text in brackets, with what follows
 bracketed : (front : List ℕ) (r : List ℕ) (t : TextRest r) → front ++ r ≡ (front ++ (t.plain ++ codes ")")) ++ t.more
 bracketed front r t =
     ap (λ (ts : List ℕ). front ++ ts) (t.same ∙ sym (append_assoc t.plain (41 ∷ []) t.more)) ∙ sym (append_assoc front (t.plain ++ codes ")") t.more)

@@ -1,4 +1,5 @@
--- Conditions are the same exactly where they are equal.
+-- Two conditions are the same if and only if they are equal.
+-- serves: same_conditions_are_equal
 use Rattle.std.proofs.Common.{◌≡◌, ◌↔◌, Bool, true, false, not, List, ℕ, refl, sym, ap, ◌∙◌, eq-eqb, eqb-true}
 use Rattle.std.proofs.lemmas.Bool.{and_parts, and_from, false≢true}
 use Rattle.std.specs.Prelude.{if◌then◌else◌}

@@ -1,4 +1,5 @@
 -- Spaces at the ends of texts, and the words before them.
+-- serves: CutLemmas, PartLemmas, PieceLemmas, ReadLemmas, RestLemmas, TakeLemmas, ValueLemmas, VerbLemmas
 use Rattle.std.proofs.Common.{Bool, List, [], ap, append-nil, arith, false, length, nat_le, ne_eqb, not, refl, suc, sym, true, zero, ℕ, ◌&&◌, ◌++◌, ◌+◌, ◌==◌, ◌∙◌, ◌∷◌, ◌≡◌}
 use Rattle.std.proofs.lemmas.Bool.{and_from, and_parts, false≢true, not-true, not_from_false, or_left, or_right}
 use Rattle.std.specs.List.{list_all}
@@ -16,7 +17,7 @@ letter-name_char c is = or_left _ _ (or_left _ _ is)
 pub digit-name_char : (c : ℕ) → is_digit c ≡ true → is_name_char c ≡ true
 digit-name_char c is = or_left _ _ (or_right _ _ is)
 
--- no space stands in a text
+-- the text has no space
 abbrev pub no_space : List ℕ → Bool
 no_space [] = true
 no_space (c ∷ cs) = not (c == 32) && no_space cs
@@ -32,7 +33,7 @@ names-no_space (c ∷ cs) all =
     let both = and_parts (is_name_char c) (list_all is_name_char cs) all in
     and_from _ _ (not_from_false _ (name_char-no_space c both.0)) (names-no_space cs both.1)
 
--- nor has a word that begins with a character of some kind
+-- nor does a word that begins with a character of some kind
 first-no_space : (is_first : ℕ → Bool) → ((c : ℕ) → is_first c ≡ true → is_name_char c ≡ true) → (c : ℕ) (cs : List ℕ) → (is_first c && nat_le (length cs) 11 && list_all is_name_char cs) ≡ true → no_space (c ∷ cs) ≡ true
 first-no_space is_first named c cs is =
     let parts = and_parts (is_first c && nat_le (length cs) 11) (list_all is_name_char cs) is in
@@ -47,7 +48,7 @@ pub label-no_space : (xs : List ℕ) → is_label xs ≡ true → no_space xs �
 label-no_space [] is = refl
 label-no_space (c ∷ cs) is = first-no_space is_digit digit-name_char c cs is
 
--- the word before what is empty or begins with a space, and what stands behind it
+-- the word before an empty text or a space, and what follows it
 front-parts : (xs rest : List ℕ) → no_space xs ≡ true → at_space rest ≡ true → (word_of (xs ++ rest) ≡ xs) × (behind_word (xs ++ rest) ≡ without_front rest)
 front-parts [] [] none at = (refl, refl)
 front-parts [] (c ∷ rest) none at = (rw at refl, rw at refl)
@@ -63,7 +64,7 @@ word-front xs rest none at = (front-parts xs rest none at).0
 pub behind-front : (xs rest : List ℕ) → no_space xs ≡ true → at_space rest ≡ true → behind_word (xs ++ rest) ≡ without_front rest
 behind-front xs rest none at = (front-parts xs rest none at).1
 
--- spaces in front
+-- leading spaces
 pub front-spaces : (n : ℕ) (t : List ℕ) → without_front (spaces n ++ t) ≡ without_front t
 front-spaces zero t = refl
 front-spaces (suc n) t = front-spaces n t
@@ -106,7 +107,7 @@ pub no_space-ends : (c : ℕ) (cs : List ℕ) → no_space (c ∷ cs) ≡ true �
 no_space-ends c [] none = (and_parts (not (c == 32)) true none).0
 no_space-ends c (d ∷ ds) none = no_space-ends d ds (and_parts (not (c == 32)) (no_space (d ∷ ds)) none).1
 
--- spaces behind
+-- trailing spaces
 pub back-spaces : (n : ℕ) → without_back (spaces n) ≡ []
 back-spaces zero = refl
 back-spaces (suc n) = rw (back-spaces n) refl

@@ -1,4 +1,5 @@
--- The reader takes the text of each written line.
+-- The reader accepts the text of each written line.
+-- serves: PartLemmas, ReadingLemmas, RestLemmas, VerbLemmas
 use Rattle.std.proofs.Common.{Bool, IfSome, List, None, Option, Some, [], ap, append-nil, append_assoc, arith, codes, cond, eqb-true, false, is_some, leb-true, length, length-append, lt-ltb, nat_le, nat_lt, not, pred, refl, suc, sym, true, unwrap_or, zero, ℕ, ◌&&◌, ◌++◌, ◌+◌, ◌==◌, ◌∙◌, ◌∷◌, ◌≡◌, ◌≤◌}
 use Rattle.std.proofs.lemmas.Bool.{and_left, and_parts, and_right, cond_both, false≢true, not-true, not_from_false, or_from}
 use Rattle.std.proofs.lemmas.List.Elements.{recursion_from_All}
@@ -17,7 +18,7 @@ use Rattle.g_lang.specs.declared.line.Test.TheVariants.{Absent, CommandError, De
 use Rattle.g_name.specs.Grammar.{is_digit, is_letter, is_name_char, is_word}
 use Rattle.g_name.specs.Order.{same_text}
 
--- what is said of bytes that a reader goes on over
+-- bytes after which the reader continues
 pub goes-on : (c : ℕ) (s t : State) (cs : List ℕ) → step c s ≡ Some t → takes s (c ∷ cs) ≡ takes t cs
 goes-on c s t cs goes = ap (λ (o : Option State). elim o [ None ↦ false | Some t ↦ takes t cs ]) goes
 
@@ -72,7 +73,7 @@ word_parts c cs is =
     let first = and_parts (is_letter c) (nat_le (length cs) 11) parts.0 in
     (first.0, leb-true (length cs) 11 first.1, parts.1)
 
--- a label from where a line begins
+-- a label at the beginning of a line
 begins_label : (c : ℕ) (cs t : List ℕ) → is_label (c ∷ cs) ≡ true → takes Front ((c ∷ cs) ++ t) ≡ takes (InLabel (1 + length cs)) t
 begins_label c cs t is =
     let parts = label_parts c cs is in
@@ -127,7 +128,7 @@ equals_taken letter text t is plain =
     let goes : step letter (Letter true) ≡ Some (fixed (codes ")=(") AText) = rw is refl in
     goes-on letter (Letter true) (fixed (codes ")=(") AText) (codes ")=(" ++ (text ++ 41 ∷ t)) goes ∙ text_taken text t plain
 
--- the text of a test, and what comes behind it, with the brackets drawn to the left
+-- the text of a test and what follows it, with the brackets associated to the left
 test_taken : (negated : Bool) (test : Test) (t : List ℕ) → IsTest test → takes (ATestFrom negated) (test_text test ++ t) ≡ takes BeforeComma t
 test_taken negated CommandError t is = refl
 test_taken negated Failed t is = refl
@@ -178,7 +179,7 @@ params_begin (c ∷ cs) starts =
     let goes : step c VerbGap ≡ in_params 0 c = rw starts refl in
     ap (λ (o : Option State). elim o [ None ↦ false | Some t ↦ takes t cs ]) goes
 
--- a verb, which isn't INPUT where it stands behind a condition
+-- a verb that isn't INPUT if it follows a condition
 pub verb_state : (name : List ℕ) (inner : Bool) → is_verb name ≡ true → (same_text name (codes "INPUT") && inner) ≡ false → state_behind_word name inner ≡ Some VerbGap
 verb_state name inner is other =
     let o = verb-other name is in
@@ -218,7 +219,7 @@ verb_taken (first ∷ word) inner gap parts back is are other =
     ∙ whole_word (first ∷ word) inner (params_text gap parts ++ spaces back) (verb-word (first ∷ word) is)
     ∙ verb_rest first word inner gap parts back is are other
 
--- a command, and the spaces behind it
+-- a command and its trailing spaces
 pub command_taken : (w : Written) (inner : Bool) (back : ℕ) → IsWritten w → (is_input w && inner) ≡ false → takes (Word [] inner) (command_text w ++ spaces back) ≡ true
 command_taken (WrittenGoto label) inner back is other = label_goto label back is
 command_taken (WrittenIf cond w) inner back is other =
@@ -276,6 +277,6 @@ line_taken_by front (Some label) (suc gap) (Some w) back label_is command_is apa
     (λ n. gap_spaces gap (command_text w ++ spaces back)
     ∙ letter_gap (command_text w ++ spaces back) letter ∙ command_taken w false back command_is (and_right (is_input w) false refl))
 
--- THE READER TAKES the text of each line
+-- THE READER ACCEPTS the text of each line
 pub line-taken : (l : WrittenLine) → IsLine l → takes Front (line_text l) ≡ true
 line-taken l is = line_taken_by l.front l.label l.gap l.command l.back is.label is.command is.apart

@@ -1,4 +1,5 @@
--- What is cut out of a written line is what it says.
+-- The parts of a written line are what the line says.
+-- serves: CutLemmas, ParseLemmas, PartLemmas, PieceLemmas, ReadLemmas, ReadingLemmas, RestLemmas, SameLemmas, TakeLemmas, VerbLemmas, crates above
 use Rattle.std.proofs.Common.{Bool, List, None, Option, Some, [], ap, append_assoc, arith, codes, eq-eqb, eqb-true, false, le-leb, leb-true, nat_le, ne_eqb, not, pred, refl, suc, sym, true, ℕ, ◌&&◌, ◌++◌, ◌+◌, ◌==◌, ◌∙◌, ◌∷◌, ◌≡◌, ◌≤◌}
 use Rattle.std.proofs.lemmas.Bool.{and_from, and_left, and_parts, and_right, cond_both, false≢true, not-true}
 use Rattle.std.proofs.lemmas.Slice.Eq.{bytes_eq-Decides}
@@ -11,7 +12,7 @@ use Rattle.g_lang.specs.declared.line.Test.{Test}
 use Rattle.g_lang.specs.declared.line.Test.TheVariants.{Absent, CommandError, Deleted, Equals, Failed, Halted, Present}
 use Rattle.g_name.specs.Order.{same_text}
 
--- a front that stands there
+-- a given front
 pub behind-append : (f t : List ℕ) → behind f (f ++ t) ≡ Some t
 behind-append [] t = refl
 behind-append (c ∷ f) t = rw (eq-eqb c c refl, behind-append f t) refl
@@ -115,7 +116,7 @@ letter-part d letter rest is =
     let l = letter_is letter is in
     rw (l.0, l.1, l.2, l.3) refl
 
--- a condition's brackets match, and no comma stands outside of them
+-- a condition's brackets match, and it has no comma outside of them
 pub test-part : (test : Test) → IsTest test → is_part 0 (test_text test) ≡ true
 test-part CommandError is = refl
 test-part Failed is = refl

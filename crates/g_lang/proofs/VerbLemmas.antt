@@ -1,4 +1,5 @@
--- Where a line goes wrong that begins with a verb: where its parameters do.
+-- A line that begins with a verb goes wrong where its parameters do.
+-- serves: reader, CutLemmas
 use Rattle.std.proofs.Common.{List, None, Option, Some, [], ap, append-nil, append_assoc, arith, codes, eqb-true, false, length, length-append, lt-ltb, nat_lt, refl, subst, suc, sym, true, zero, ℕ, ◌&&◌, ◌++◌, ◌+◌, ◌-◌, ◌==◌, ◌∙◌, ◌∷◌, ◌≡◌, ◌≤◌}
 use Rattle.std.proofs.lemmas.Bool.{and_parts, and_right, cond_both, false≢true}
 use Rattle.std.specs.List.{list_all}
@@ -14,15 +15,15 @@ use Rattle.g_lang.specs.Words.{is_label, spaces, without_front, word_of}
 use Rattle.g_name.specs.Grammar.{is_name_char, is_word}
 use Rattle.g_name.specs.Order.{same_text}
 
--- the reader goes on over a byte
+-- the reader continues after a byte
 on : (s t : State) (at c : ℕ) (cs : List ℕ) → step c s ≡ Some t → wrong_from s at (c ∷ cs) ≡ wrong_from t (at + 1) cs
 on s t at c cs goes = ap (λ (o : Option State). elim o [ None ↦ Some at | Some t ↦ wrong_from t (at + 1) cs ]) goes
 
--- counted from another place that is the same
+-- counted from an equal place
 from : (s : State) (t : List ℕ) (a b : ℕ) → a ≡ b → wrong_from s a t ≡ wrong_from s b t
 from s t a b same = ap (λ (k : ℕ). wrong_from s k t) same
 
--- the spaces in front
+-- the leading spaces
 front_on : (n at : ℕ) (t : List ℕ) → wrong_from Front at (spaces n ++ t) ≡ wrong_from Front (at + n) t
 front_on zero at t = from Front t at (at + 0) (omega arith)
 front_on (suc n) at t = front_on n (at + 1) t ∙ from Front t (at + 1 + n) (at + suc n) (omega arith)
@@ -51,7 +52,7 @@ whole_on (c ∷ cs) t at is =
     on Front (Word (c ∷ []) false) at c (cs ++ t) goes ∙ word_on c [] cs t (at + 1) parts.2 (omega (arith, fits))
     ∙ from (Word (c ∷ cs) false) t (at + 1 + length cs) (at + suc (length cs)) (omega arith)
 
--- behind a verb's space spaces are as in its parameters
+-- spaces after a verb's space are read as in its parameters
 printed_space : (c : ℕ) → c ≡ 32 → in_params 0 c ≡ Some (Params 0)
 printed_space c is = subst (λ (d : ℕ). in_params 0 d ≡ Some (Params 0)) (sym is) refl
 
@@ -68,7 +69,7 @@ params_on : (n at : ℕ) (t : List ℕ) → wrong_from (Params 0) at (spaces n +
 params_on zero at t = from (Params 0) t at (at + 0) (omega arith)
 params_on (suc n) at t = params_on n (at + 1) t ∙ from (Params 0) t (at + 1 + n) (at + suc n) (omega arith)
 
--- how a text is cut at its spaces
+-- how a text is split at its spaces
 record CutsFront (t : List ℕ) : Type 0 where
   count : ℕ
   whole : t ≡ spaces count ++ without_front t
@@ -100,7 +101,7 @@ spaces_long : (n : ℕ) → length (spaces n) ≡ n
 spaces_long zero = refl
 spaces_long (suc n) = ap suc (spaces_long n)
 
--- behind the verb
+-- after the verb
 behind_on : (name rest : List ℕ) (at : ℕ) → is_verb name ≡ true → at_space rest ≡ true
     → wrong_from (Word name false) at rest ≡ wrong_from (Params 0) (at + (length rest - length (without_front rest))) (without_front rest)
 behind_on [] rest at is space = absurd (false≢true is)
@@ -121,7 +122,7 @@ behind_on (first ∷ word) (c ∷ cs) at is space =
     ∙ ap (wrong_from (Params 0) at) cut.whole ∙ params_on cut.count at (without_front (c ∷ cs))
     ∙ from (Params 0) (without_front (c ∷ cs)) (at + cut.count) (at + (length (c ∷ cs) - length (without_front (c ∷ cs)))) (omega (arith, long, parts, spaces_long cut.count))
 
--- how long the parts of a line are: the spaces before its first word, the word and what stands behind it, with the spaces that it begins with
+-- the lengths of a line's parts: the spaces before its first word, the word, and the rest with its leading spaces
 word_lengths : (text : List ℕ) → (let line = without_front text in let cut = word_cut line in
     (length text ≡ (front_cut text).count + length (word_of line) + length cut.rest) × (length cut.rest ≡ (front_cut cut.rest).count + length (without_front cut.rest)))
 word_lengths text =
@@ -139,12 +140,12 @@ word_lengths text =
     let i = spaces_long behind.count in
     (omega (arith, a, b, c, d, e), omega (arith, g, h, i))
 
--- where what stands behind the word begins
+-- the place where the rest after the word begins
 word_place : (text : List ℕ) → (let line = without_front text in let cut = word_cut line in
     0 + (front_cut text).count + length (word_of line) + (length cut.rest - length (without_front cut.rest)) ≡ length text - length (without_front cut.rest))
 word_place text = let (whole, rest) = word_lengths text in omega (arith, whole, rest)
 
--- a line is read from its first word on, and what is read behind the word begins where that begins
+-- a line is read from its first word on, and the rest after the word from the place where it begins
 first_word : (text : List ℕ) → (let line = without_front text in wrong_from Front 0 text ≡ wrong_from Front (0 + (front_cut text).count) (word_of line ++ (word_cut line).rest))
 first_word text =
     let front = front_cut text in
@@ -198,7 +199,7 @@ whole_label (c ∷ cs) t at is =
     ∙ ap (λ (m : ℕ). wrong_from (InLabel m) (at + 1 + length cs) t) (let e : 1 + length cs ≡ suc (length cs) = omega arith in e)
     ∙ from (InLabel (suc (length cs))) t (at + 1 + length cs) (at + suc (length cs)) (omega arith)
 
--- the spaces behind a label
+-- the spaces after a label
 gap_on : (n at : ℕ) (t : List ℕ) → wrong_from Gap at (spaces n ++ t) ≡ wrong_from Gap (at + n) t
 gap_on zero at t = from Gap t at (at + 0) (omega arith)
 gap_on (suc n) at t = gap_on n (at + 1) t ∙ from Gap t (at + 1 + n) (at + suc n) (omega arith)
@@ -217,7 +218,7 @@ behind_label n (c ∷ cs) at space =
     ∙ ap (wrong_from Gap at) cut.whole ∙ gap_on cut.count at (without_front (c ∷ cs))
     ∙ from Gap (without_front (c ∷ cs)) (at + cut.count) (at + (length (c ∷ cs) - length (without_front (c ∷ cs)))) (omega (arith, long, parts, spaces_long cut.count))
 
--- a line that begins with a label goes wrong where the command behind it does
+-- a line that begins with a label goes wrong where the command after it does
 label_line : (text : List ℕ) → is_label (word_of (without_front text)) ≡ true
     → wrong_from Front 0 text ≡ wrong_from Gap (length text - length (behind_word (without_front text))) (behind_word (without_front text))
 label_line text is =
@@ -226,7 +227,7 @@ label_line text is =
     let n = 0 + (front_cut text).count in
     first_word text ∙ whole_label label cut.rest n is ∙ behind_label (length label) cut.rest (n + length label) cut.space ∙ behind_first text Gap
 
--- a verb behind a label
+-- a verb after a label
 whole_gap : (name t : List ℕ) (at : ℕ) → is_word name ≡ true → wrong_from Gap at (name ++ t) ≡ wrong_from (Word name false) (at + length name) t
 whole_gap [] t at is = absurd (false≢true is)
 whole_gap (c ∷ cs) t at is =
@@ -290,7 +291,7 @@ goto_front command label at goes is = ap (wrong_from Front at) (behind-is (codes
 goto_gap : (command label : List ℕ) (at : ℕ) → behind (codes "GOTO ") command ≡ Some label → is_label label ≡ true → wrong_from Gap at command ≡ None
 goto_gap command label at goes is = ap (wrong_from Gap at) (behind-is (codes "GOTO ") command label goes) ∙ goto_label label (at + 1 + 1 + 1 + 1 + 1) is
 
--- A LINE THAT IS ONE
+-- A LINE that is a GOTO with its label
 pub goto_line : (text label : List ℕ) → behind (codes "GOTO ") (without_front text) ≡ Some label → is_label label ≡ true → wrong_from Front 0 text ≡ None
 goto_line text label goes is =
     let front = front_cut text in

@@ -1,5 +1,5 @@
--- How lines are read: a reader that takes one byte after another, and what a line of the grammar says.
--- Nothing here has to be believed: the law `lines_are_read_by_the_grammar` says what it answers.
+-- How lines are read: a reader that takes one byte after another, and what a line of the grammar says. None of this has to be believed: the law
+-- `lines_are_read_by_the_grammar` relates it to the grammar.
 use Rattle.std.specs.Prelude.{Bool, Err, List, None, Ok, Option, Some, [], codes, false, if◌then◌else◌, length, map, nat_lt, not, pred, suc, true, zero, ℕ, ◌&&◌, ◌++◌, ◌+◌, ◌==◌, ◌||◌, ◌∷◌}
 use Rattle.g_lang.specs.Conditions.{is_param_letter}
 use Rattle.g_lang.specs.Lines.{LineSaid, Reading, Said, SaidGoto, SaidIf, SaidVerb, SaidWhenever}
@@ -11,13 +11,14 @@ use Rattle.g_lines.specs.Lines.{onto_first}
 use Rattle.g_name.specs.Grammar.{is_digit, is_letter, is_name_char}
 use Rattle.g_name.specs.Order.{same_text}
 
--- what comes behind a fixed text of a condition: a test; the comma; a text in brackets; a letter, with a text behind it or not
+-- What follows a fixed text of a condition: a test; the comma; a text in brackets; a letter, with a text to compare or without.
 pub data Next : Type 0 where
   ATest : Next
   AComma : Next
   AText : Next
   ALetter : Bool → Next
 
+-- The states of the reader, by its place in a line.
 pub data State : Type 0 where
   Front : State
   InLabel : ℕ → State
@@ -34,18 +35,19 @@ pub data State : Type 0 where
   VerbGap : State
   Params : ℕ → State
 
+-- The state after a fixed text, by what follows it.
 abbrev pub behind_fixed : Next → State
 behind_fixed ATest = ATestFrom true
 behind_fixed AComma = BeforeComma
 behind_fixed AText = InText
 behind_fixed (ALetter equals) = Letter equals
 
--- in a fixed text, of which this is left; the state `Fixed` has its next byte first
+-- The state within a fixed text of which `rest` is left; the state `Fixed` has its next byte first.
 abbrev pub fixed : List ℕ → Next → State
 fixed [] next = behind_fixed next
 fixed (c ∷ rest) next = Fixed c rest next
 
--- the fixed text that begins with a byte; NOT stands once
+-- The state after the first byte of a condition's fixed text; NOT is allowed once.
 abbrev pub test_from : Bool → ℕ → Option State
 test_from negated c =
     if (c == 78) && not negated then Some (fixed (codes "OT ") ATest)
@@ -58,7 +60,7 @@ test_from negated c =
     else if c == 83 then Some (fixed (codes "TRING(%") (ALetter true))
     else None
 
--- the word ends with a space
+-- The state after a word that ends with a space.
 abbrev pub state_behind_word : List ℕ → Bool → Option State
 state_behind_word word inner =
     if same_text word (codes "IF") || same_text word (codes "WHENEVER") then Some (ATestFrom false)
@@ -66,6 +68,7 @@ state_behind_word word inner =
     else if same_text word (codes "INPUT") && inner then None
     else Some VerbGap
 
+-- The state after the next byte of a command's first word.
 abbrev pub in_word : List ℕ → Bool → ℕ → Option State
 in_word [] inner c = if is_letter c then Some (Word (c ∷ []) inner) else None
 in_word (first ∷ word) inner c =
@@ -73,6 +76,7 @@ in_word (first ∷ word) inner c =
     else if c == 32 then state_behind_word (first ∷ word) inner
     else None
 
+-- The state after the next byte of parameters, by the number of open brackets.
 abbrev pub in_params : ℕ → ℕ → Option State
 in_params depth c =
     if c == 40 then Some (Params (depth + 1))
@@ -80,6 +84,7 @@ in_params depth c =
     else if is_printed c then Some (Params depth)
     else None
 
+-- The state after the next byte, or none if no line continues with it.
 abbrev pub step : ℕ → State → Option State
 step c Front = if c == 32 then Some Front else if is_digit c then Some (InLabel 1) else in_word [] false c
 step c (InLabel n) = if is_name_char c && nat_lt n 12 then Some (InLabel (n + 1)) else if c == 32 then Some Gap else None
@@ -97,7 +102,7 @@ step c Back = if c == 32 then Some Back else None
 step c VerbGap = if c == 32 then Some VerbGap else in_params 0 c
 step c (Params depth) = in_params depth c
 
--- a line may end here
+-- A line may end in this state.
 abbrev pub may_end : State → Bool
 may_end Front = true
 may_end (InLabel n) = true
@@ -116,49 +121,54 @@ may_end Back = true
 may_end VerbGap = true
 may_end (Params depth) = depth == 0
 
--- the place where a text goes wrong, counted from here, if it does
+-- The place where a text read from this state goes wrong, counted from `at`; none if it doesn't.
 abbrev pub wrong_from : State → ℕ → List ℕ → Option ℕ
 wrong_from s at [] = if may_end s then None else Some at
 wrong_from s at (c ∷ cs) = elim (step c s) [ None ↦ Some at | Some t ↦ wrong_from t (at + 1) cs ]
 
--- what stands behind a front
+-- The rest of a text after a given front, if the text begins with it.
 abbrev pub behind : List ℕ → List ℕ → Option (List ℕ)
 behind [] text = Some text
 behind (f ∷ front) [] = None
 behind (f ∷ front) (c ∷ cs) = if f == c then behind front cs else None
 
+-- The number of open brackets after a byte.
 abbrev pub depth_behind : ℕ → ℕ → ℕ
 depth_behind c depth = if c == 40 then depth + 1 else if c == 41 then pred depth else depth
 
--- between the commas outside of brackets
+-- The parts of a text between the commas outside of brackets.
 abbrev pub parts_of : ℕ → List ℕ → List (List ℕ)
 parts_of depth [] = [] ∷ []
 parts_of depth (c ∷ cs) =
     if c == 44 && depth == 0 then [] ∷ parts_of 0 cs else onto_first c (parts_of (depth_behind c depth) cs)
 
--- before and behind the first comma outside of brackets
+-- The text before the first comma outside of brackets.
 abbrev pub before_comma : ℕ → List ℕ → List ℕ
 before_comma depth [] = []
 before_comma depth (c ∷ cs) = if c == 44 && depth == 0 then [] else c ∷ before_comma (depth_behind c depth) cs
 
+-- The text after the first comma outside of brackets.
 abbrev pub behind_comma : ℕ → List ℕ → List ℕ
 behind_comma depth [] = []
 behind_comma depth (c ∷ cs) = if c == 44 && depth == 0 then cs else behind_comma (depth_behind c depth) cs
 
+-- The text without its last byte.
 abbrev pub without_last : List ℕ → List ℕ
 without_last [] = []
 without_last (c ∷ []) = []
 without_last (c ∷ d ∷ cs) = c ∷ without_last (d ∷ cs)
 
+-- The first byte of a text.
 abbrev pub letter_of : List ℕ → ℕ
 letter_of [] = 65
 letter_of (c ∷ cs) = c
 
--- behind a letter and `)=(`
+-- The text after a letter and `)=(`.
 abbrev pub behind_equals : List ℕ → List ℕ
 behind_equals (letter ∷ a ∷ b ∷ c ∷ rest) = rest
 behind_equals rest = []
 
+-- The test of a parameter that a text is.
 abbrev pub letter_test_read : List ℕ → Test
 letter_test_read text = elim (behind (codes "PRESENT(%") text) [
   | Some rest ↦ Present (letter_of rest)
@@ -171,6 +181,7 @@ letter_test_read text = elim (behind (codes "PRESENT(%") text) [
   ]
 ]
 
+-- The test that a text is.
 abbrev pub test_read : List ℕ → Test
 test_read text =
     if same_text text (codes "COMMAND ERROR") then CommandError
@@ -180,24 +191,28 @@ test_read text =
       | None ↦ elim (behind (codes "DELETED(") text) [ Some rest ↦ Deleted (without_last rest) | None ↦ letter_test_read text ]
     ]
 
+-- The condition that a text is.
 abbrev pub cond_read : List ℕ → Cond
 cond_read text = elim (behind (codes "NOT ") text) [
   | Some test ↦ record { negated = true; test = test_read test }
   | None ↦ record { negated = false; test = test_read text }
 ]
 
+-- The parameters in a text, without the spaces around them; an empty text has none.
 abbrev pub params_read : List ℕ → List (List ℕ)
 params_read [] = []
 params_read (c ∷ cs) = map trimmed (parts_of 0 (c ∷ cs))
 
+-- The text after its first word and the spaces after that.
 abbrev pub behind_word : List ℕ → List ℕ
 behind_word [] = []
 behind_word (c ∷ cs) = if c == 32 then without_front (c ∷ cs) else behind_word cs
 
+-- What a command says that begins with a verb.
 abbrev pub verb_read : List ℕ → Said
 verb_read text = SaidVerb (word_of text) (params_read (behind_word text)) (behind_word text)
 
--- a command has no more conditions than bytes
+-- What the text of a command says; n bounds the number of its conditions, of which it has no more than bytes.
 abbrev pub command_read : ℕ → List ℕ → Said
 command_read zero text = verb_read text
 command_read (suc n) text = elim (behind (codes "IF ") text) [
@@ -208,19 +223,21 @@ command_read (suc n) text = elim (behind (codes "IF ") text) [
   ]
 ]
 
+-- What a command says; an empty text has no command.
 abbrev pub option_read : List ℕ → Option Said
 option_read [] = None
 option_read (c ∷ cs) = Some (command_read (suc (length cs)) (c ∷ cs))
 
--- what a line of the grammar says, once the spaces at its ends are gone
+-- What a line of the grammar says, once the spaces at its ends are removed.
 abbrev pub read_trimmed : List ℕ → LineSaid
 read_trimmed text =
     if is_label (word_of text) then record { label = Some (word_of text); command = option_read (behind_word text) }
     else record { label = None; command = option_read text }
 
+-- What a line of the grammar says.
 abbrev pub line_read : List ℕ → LineSaid
 line_read text = read_trimmed (trimmed text)
 
--- THE READING of a line
+-- THE READING of a line: what it says, or the place where it goes wrong.
 unfoldable pub reading : List ℕ → Reading
 reading text = elim (wrong_from Front 0 text) [ None ↦ Ok (line_read text) | Some place ↦ Err place ]

@@ -1,4 +1,4 @@
--- Texts that are cut out of a line.
+-- Parts of a line.
 use denote.Ref.{Bor}
 use Rattle.std.specs.Prelude.{Err, List, None, Ok, Option, Result, Some, [], false, length, map, suc, true, ℕ, ◌≡◌, ◌≢◌}
 use Rattle.g_lang.specs.LineReader.{Params, behind_word, parts_of, wrong_from}
@@ -8,35 +8,35 @@ use Rattle.g_lang.specs.declared.fault.LangFault.{LangFault}
 use Rattle.g_lang.specs.declared.fault.LangFault.TheVariants.{BadLine, NoMemory}
 use Rattle.g_name.specs.Grammar.{is_word}
 
--- the text of a verb with its parameters
+-- The text begins with the name of a verb or macro.
 abbrev pub IsVerbText : List ℕ → Type 0
 IsVerbText text = is_word (word_of text) ≡ true
 
--- what is no label in a line without spaces at its ends is a command
+-- In a line without spaces at its ends, what isn't a label is a command.
 abbrev pub HasCommands : List ℕ → Type 0
 HasCommands text = ((is_label (word_of text) ≡ true) → behind_word text ≢ [] → IsCommandText (behind_word text)) × ((is_label (word_of text) ≡ false) → text ≢ [] → IsCommandText text)
 
--- a line without spaces in front, cut behind its label, if it has one
+-- A line without leading spaces, split after its label, if it has one.
 abbrev pub IsCut : List ℕ → Option (List ℕ) → List ℕ → Type 0
 IsCut line None command = (is_label (word_of line) ≡ false) × (command ≡ line)
 IsCut line (Some label) command = (is_label (word_of line) ≡ true) × (label ≡ word_of line) × (command ≡ behind_word line)
 
--- the parameters of a verb that begin at a byte of the line: their text, or the place where it goes wrong
+-- The parameters of a verb that begin at byte `from` of the line: their text, or the place where the line goes wrong.
 abbrev pub ReadsParams : ℕ → List ℕ → Result (List ℕ) LangFault → Type 0
 ReadsParams from params (Ok text) = (wrong_from (Params 0) from params ≡ None) × (text ≡ without_back params)
 ReadsParams from params (Err (BadLine place)) = wrong_from (Params 0) from params ≡ Some place
 ReadsParams from params (Err NoMemory) = wrong_from (Params 0) from params ≡ None
 
--- the parameters of a text, also of an empty one, which is a parameter behind a comma
+-- The parameters of a text; an empty text has one, which is empty, as after a comma.
 abbrev pub params_of : List ℕ → List (List ℕ)
 params_of text = map trimmed (parts_of 0 text)
 
--- the parameters that are left of a text, if anything is left
+-- The parameters that are left of a text, if anything is left.
 abbrev pub params_left : Option (Bor (List ℕ)) → List (List ℕ)
 params_left None = []
 params_left (Some rest) = params_of rest.now
 
--- the bytes that are left, and one more, if anything is left
+-- The number of bytes that are left plus one, or 0 if nothing is left.
 abbrev pub bytes_left : Option (Bor (List ℕ)) → ℕ
 bytes_left None = 0
 bytes_left (Some rest) = suc (length rest.now)

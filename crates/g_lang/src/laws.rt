@@ -6,9 +6,9 @@ ghost use Rattle.g_lang.specs.Lines.{Written, IsWritten, command_text, said_by, 
 ghost use Rattle.g_lang.specs.Words.{label_in};
 ghost use Rattle.g_lang.specs.declared.line.Cond.{Cond};
 
-/// Each text has one reading, and `reading` is it: what some written line of this text says, or the place where
-/// no line goes on. What is written reads back; the label of a line is its first word; what waits for a condition is
-/// the text of a command.
+/// Each text has exactly one reading, which `reading` computes: what some written line of this text says, or the place where it stops being the
+/// beginning of a line. A written line reads back; the label of a line is its first word; the command stored for a condition is the text of a
+/// command.
 pub fn lines_are_read_by_the_grammar()
     ensures reads { (text : List ℕ) → IsReading text (reading text) }
     ensures one { (text : List ℕ) (r s : Reading) → IsReading text r → IsReading text s → r ≡ s }
@@ -20,7 +20,7 @@ pub fn lines_are_read_by_the_grammar()
         → reading text ≡ Ok (record { label = label; command = Some said }) → KeepsCommand said }
 {}
 
-/// Two conditions are the same exactly where they are equal: negated or not, the test, its letter and its text.
+/// Two conditions are the same if and only if they are equal: negation, test, letter and text.
 pub fn same_conditions_are_equal()
     ensures { (a b : Cond) → (same_cond a b ≡ true) ↔ (a ≡ b) }
 {}

@@ -1,4 +1,4 @@
-//! The command language: lines as they are written, and what they say.
+//! The command language: written lines, and what they say.
 #![tactic(auto)]
 
 mod bytes;

@@ -15,20 +15,20 @@ pub struct Line {
 /// A command.
 #[derive(Drop)]
 pub enum Command {
-    /// No command stands on the line.
+    /// The line has no command.
     Blank,
-    /// The inner command is done where the condition holds.
+    /// The inner command is executed if the condition holds.
     If { cond: Cond, inner: Box<Command> },
-    /// The level goes on at its first line with this label.
+    /// The level continues at its first line with this label.
     Goto(Label),
-    /// The level keeps the command's text, to be done once the condition holds.
+    /// The level stores the command's text and executes it once the condition holds.
     Whenever { cond: Cond, command: Text },
-    /// A verb or a macro; `rest` is what stands from the first parameter on, as it was written,
-    /// without the spaces at the line's end. `read_params` and `only_param` take the parameters out of it.
+    /// A verb or a macro; `rest` is the line from its first parameter on, unchanged except for the spaces at the line's end. `read_params` and
+    /// `only_param` parse the parameters in it.
     Verb { name: Local, rest: Rest },
 }
 
-/// A test, or that it fails.
+/// A test, negated or not.
 #[derive(Drop, PartialEq, Eq)]
 pub struct Cond {
     pub negated: bool,
@@ -36,7 +36,7 @@ pub struct Cond {
 }
 
 impl Cond {
-    /// Whether two conditions ask the same.
+    /// Whether two conditions are the same.
     pub fn is_same(&self, other: &Cond) -> bool
         ensures { result ≡ same_cond self.now other.now }
     {
@@ -44,12 +44,12 @@ impl Cond {
     }
 }
 
-/// What a condition asks; letters are `A` to `X`, which name the parameters of a level.
+/// The test of a condition; letters are `A` to `X`, which name the parameters of a level.
 #[derive(Drop, PartialEq, Eq)]
 pub enum Test {
     /// The last command was an error.
     CommandError,
-    /// The program came to an order that is illegal.
+    /// The program reached an illegal order.
     Failed,
     /// The program halted with this text.
     Halted(Text),

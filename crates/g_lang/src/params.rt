@@ -1,4 +1,4 @@
-//! The parameters of a verb, out of the text in which they stand.
+//! The parameters of a verb, found in its text.
 ghost use Rattle.std.specs.List.{slice_get};
 ghost use Rattle.std.specs.Prelude.{◌≡◌, ◌≤◌, ◌+◌, drop, length, None, Some, IfOk, MatchOption};
 ghost use Rattle.g_lang.specs.LineReader as how;
@@ -13,7 +13,7 @@ use g_name::Text;
 use std::alloc::Global;
 use std::marker::Model;
 
-/// The parameters of a verb, which stand in one text. Contracts see a list of texts.
+/// The parameters of a verb, stored as one text. Contracts see a list of texts.
 #[derive(Drop)]
 pub struct Params {
     text: Rest,
@@ -29,7 +29,7 @@ impl Model for Params {
 }
 
 impl Params {
-    /// The parameters that stand in a text. It takes no memory.
+    /// The parameters in a text; allocates nothing.
     pub fn new(text: Rest) -> Params
         ensures { result ≡ how.params_read text }
     {
@@ -45,7 +45,7 @@ impl Params {
     }
 }
 
-/// The parameter at a place of those that stand in a text, if one is there. Contracts see an option.
+/// The parameter at a place of a text, if the text has that many. Contracts see an option.
 #[derive(Drop)]
 pub struct Param {
     text: Rest,
@@ -63,7 +63,7 @@ impl Model for Param {
 }
 
 impl Param {
-    /// The parameter at a place, from 0, of those that stand in a text. It takes no memory.
+    /// The parameter at a place, from 0, of a text; allocates nothing.
     pub fn new(text: Rest, place: usize) -> Param
         ensures { result ≡ slice_get (how.params_read text) place }
     {
@@ -85,7 +85,7 @@ impl Param {
     }
 }
 
-/// How many parameters stand in a text; it takes no memory.
+/// The number of parameters in a text; allocates nothing.
 #[tactic(auto, using(crate::proofs::ParamLemmas::counted_first, crate::proofs::ParamLemmas::counted_none, crate::proofs::ParamLemmas::counted_all))]
 pub fn count_params(text: &[u8]) -> usize
     ensures { result ≡ length (how.params_read text.now) }
@@ -101,7 +101,7 @@ pub fn count_params(text: &[u8]) -> usize
     text.len() + 1
 }
 
-/// The parameter at a place, from 0, of those that stand in a text, without the spaces around it; it takes no memory.
+/// The parameter at a place, from 0, of a text, without the spaces around it; allocates nothing.
 #[tactic(auto, using(crate::proofs::ParamLemmas::left_none))]
 pub fn param_at(text: &[u8], place: usize) -> Option<&[u8]>
     ensures { MatchOption result (slice_get (how.params_read text.now) place ≡ None)
@@ -120,7 +120,7 @@ pub fn param_at(text: &[u8], place: usize) -> Option<&[u8]>
     }
 }
 
-/// The text, in which parameters stand unless it is empty.
+/// The text, or none if it is empty, since it has no parameters then.
 #[tactic(auto, using(crate::proofs::ParamLemmas::left_none_first, crate::proofs::ParamLemmas::left_all_first))]
 fn some_left(text: &[u8]) -> Option<&[u8]>
     ensures params { params_left result ≡ how.params_read text.now }
@@ -129,7 +129,7 @@ fn some_left(text: &[u8]) -> Option<&[u8]>
     if text.is_empty() { None } else { Some(text) }
 }
 
-/// The first of the parameters of what is left of a text.
+/// The first parameter of the rest of a text.
 #[tactic(auto, using(crate::proofs::ParamLemmas::left_first))]
 fn first_param(rest: &[u8]) -> &[u8]
     ensures { slice_get (params_of rest.now) 0 ≡ Some result.now }
@@ -138,7 +138,7 @@ fn first_param(rest: &[u8]) -> &[u8]
     trimmed(part)
 }
 
-/// What is left behind the first parameter, if another follows.
+/// The rest after the first parameter, if another follows.
 #[tactic(auto, using(crate::proofs::ParamLemmas::left_params, crate::proofs::ParamLemmas::left_bytes))]
 fn behind_param(rest: &[u8]) -> Option<&[u8]>
     ensures params { params_left result ≡ drop 1 (params_of rest.now) }

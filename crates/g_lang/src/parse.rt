@@ -1,4 +1,4 @@
-//! From the text of a line to what it says.
+//! Parsing the text of a line.
 ghost use Rattle.std.specs.Prelude.{◌≡◌, ◌≢◌, ◌^◌, ◌<◌, ◌≤◌, ◌+◌, ◌∷◌, ℕ, [], codes, length, None, Some, true, IfOk, IfSome, IsFalse, MatchOption};
 ghost use Rattle.g_lang.specs.LineReader as how;
 ghost use Rattle.g_lang.specs.Lines.{IsCommandText, KeepsCommand, is_verb};
@@ -18,7 +18,7 @@ use g_lines::Texts;
 use g_name::{Local, Text};
 use std::alloc::Global;
 
-/// The label of a line, also of one that isn't in the language: its first word, if that is a label.
+/// The label of a line: its first word, if that is a label. The line need not be in the language.
 #[tactic(auto, using(crate::proofs::CutLemmas::cut_label))]
 pub fn label_of(text: &[u8]) -> Option<Label>
     ensures { result ≡ label_in text.now }
@@ -27,13 +27,13 @@ pub fn label_of(text: &[u8]) -> Option<Label>
     label
 }
 
-/// Whether this is the label of a line, also of one that isn't in the language.
+/// Whether this is the label of a line, which need not be in the language.
 #[tactic(auto, using(crate::proofs::CutLemmas::has_word))]
 pub fn has_label(text: &[u8], label: &Label) -> bool
     ensures { result ≡ has_label label.now text.now }
 {
     let line = without_front(text);
-    // Most lines have no label: the first byte tells it.
+    // Most lines have no label, and their first byte shows it.
     match line.split_first() {
         Some((first, _)) if is_digit(*first) => {
             let (word, _) = split_word(line);
@@ -43,11 +43,11 @@ pub fn has_label(text: &[u8], label: &Label) -> bool
     }
 }
 
-/// The label of a line without spaces in front, if it has one, and the command behind.
+/// The label of a line without leading spaces, if it has one, and the command after it.
 fn split_label(line: &[u8]) -> (Option<Label>, &[u8])
     ensures { IsCut line.now result.0 result.1.now }
 {
-    // Most lines have no label: the first byte tells it.
+    // Most lines have no label, and their first byte shows it.
     match line.split_first() {
         Some((first, _)) if is_digit(*first) => {
             let (word, command) = split_word(line);
@@ -60,11 +60,10 @@ fn split_label(line: &[u8]) -> (Option<Label>, &[u8])
     }
 }
 
-/// What a line says (`docs/DEFINITIONS.md`, "Lines of the command language").
+/// What a line says (`docs/DEFINITIONS.md`, "g_lang").
 ///
-/// A text that is no line of the language is refused with the place where it goes wrong. It takes memory for the
-/// value alone, so want of memory comes only for a line of the language. It calls itself once for each condition of
-/// the line; lines of the program have at most 240 bytes.
+/// A text that is no line of the language is refused with the place where it goes wrong. Memory is allocated only for the result, so it can run out
+/// only for a line of the language. The function calls itself once for each condition of the line; lines of the program have at most 240 bytes.
 #[tactic(auto, using(crate::proofs::CutLemmas::reads_grammar, crate::proofs::CutLemmas::reads_waiting))]
 pub fn parse_line(alloc: Global, text: &[u8]) -> Result<Line, LangFault>
     ensures grammar { Reads text.now result }
@@ -75,7 +74,7 @@ pub fn parse_line(alloc: Global, text: &[u8]) -> Result<Line, LangFault>
     parse_command(alloc, text, label, command)
 }
 
-/// The same of a text that was cut behind its label.
+/// The same for the text after a line's label.
 #[tactic(auto, using(crate::proofs::CutLemmas::verb_cut, crate::proofs::CutLemmas::verb_fault, crate::proofs::CutLemmas::goto_cut, crate::proofs::CutLemmas::cut_short))]
 fn parse_command(
     alloc: Global,
@@ -86,7 +85,7 @@ fn parse_command(
     requires { IsCut (without_front text.now) label command.now }
     ensures { IsReadAs (how.reading text.now) result }
 {
-    // Most commands are a verb and its parameters, or a GOTO: each of their bytes is looked at once.
+    // Most commands are a verb with parameters, or a GOTO; each of their bytes is read once.
     let (word, params) = split_word(command);
     if let Some(name) = verb_name(word) {
         return match parse_params(alloc, params, text.len() - params.len()) {
@@ -116,7 +115,7 @@ fn verb_name(word: &[u8]) -> Option<Local>
     Local::new(word)
 }
 
-/// The text of a verb's parameters, which begin behind so many bytes of the line, without the spaces behind them.
+/// The text of a verb's parameters, which begin at byte `from` of the line, without its trailing spaces.
 fn parse_params(alloc: Global, params: &[u8], from: usize) -> Result<Rest, LangFault>
     requires { from + length params.now < 2 ^ 64 }
     ensures { ReadsParams from params.now result }
@@ -130,7 +129,7 @@ fn parse_params(alloc: Global, params: &[u8], from: usize) -> Result<Rest, LangF
     }
 }
 
-/// The label of a GOTO. Where it has spaces behind, this says nothing.
+/// The label of a GOTO without trailing spaces. `None` doesn't mean that the command is no GOTO.
 fn goto_label(command: &[u8]) -> Option<Label>
     ensures { IfSome result (λ label. (how.behind (codes "GOTO ") command.now ≡ Some label) × (is_label label ≡ true)) }
 {
@@ -140,7 +139,7 @@ fn goto_label(command: &[u8]) -> Option<Label>
     }
 }
 
-/// What any line says: where it goes wrong is looked for first, byte by byte.
+/// What any line says: first checks byte by byte whether it goes wrong.
 fn parse_by_steps(alloc: Global, text: &[u8]) -> Result<Line, LangFault>
     ensures { IsReadAs (how.reading text.now) result }
 {
@@ -153,8 +152,7 @@ fn parse_by_steps(alloc: Global, text: &[u8]) -> Result<Line, LangFault>
     }
 }
 
-/// Whether the verb of a line is INPUT, behind whose line a document stands. It takes no memory; a text that is no
-/// line of the language is none.
+/// Whether the verb of a line is INPUT, after whose line a document follows. Allocates nothing; a text that is no line of the language is no INPUT.
 pub fn is_input_line(text: &[u8]) -> bool
     ensures { result ≡ is_input_said (how.reading text.now) }
 {
@@ -218,7 +216,7 @@ fn read_command(alloc: Global, text: &[u8]) -> Result<Command, NoMemory>
     read_verb(alloc, text)
 }
 
-/// Whether a command may begin with IF, WHENEVER or GOTO. Most don't: their first byte tells it.
+/// Whether a command may begin with IF, WHENEVER or GOTO. For most the first byte shows that it doesn't.
 fn may_be_keyword(text: &[u8]) -> bool
     ensures { IsFalse result → (how.behind (codes "IF ") text.now ≡ None)
         × (how.behind (codes "WHENEVER ") text.now ≡ None) × (how.behind (codes "GOTO ") text.now ≡ None) }
@@ -240,7 +238,7 @@ fn read_verb(alloc: Global, text: &[u8]) -> Result<Command, NoMemory>
     Ok(Command::Verb { name, rest })
 }
 
-/// The parameters of a verb, without the spaces around them, out of the text in which they stand.
+/// The parameters of a verb, without the spaces around them, from their text.
 pub fn read_params(alloc: Global, text: &[u8]) -> Result<Texts, NoMemory>
     ensures { IfOk result (λ params. params ≡ how.params_read text.now) }
 {
@@ -255,7 +253,7 @@ pub fn read_params(alloc: Global, text: &[u8]) -> Result<Texts, NoMemory>
     Ok(params)
 }
 
-/// The parameter of a verb, without the spaces around it, where it is the only one; it takes no memory.
+/// The parameter of a verb, without the spaces around it, if it is the only one; allocates nothing.
 pub fn only_param(text: &[u8]) -> Option<&[u8]>
     ensures { MatchOption result (length (how.params_read text.now) ≢ 1)
         (λ param. how.params_read text.now ≡ param.now ∷ []) }
@@ -269,7 +267,7 @@ pub fn only_param(text: &[u8]) -> Option<&[u8]>
     }
 }
 
-/// Both parameters of a verb, without the spaces around them, where there are two; it takes no memory.
+/// Both parameters of a verb, without the spaces around them, if there are two; allocates nothing.
 pub fn two_params(text: &[u8]) -> Option<(&[u8], &[u8])>
     ensures { MatchOption result (length (how.params_read text.now) ≢ 2)
         (λ both. how.params_read text.now ≡ both.0.now ∷ both.1.now ∷ []) }
@@ -305,7 +303,7 @@ fn read_cond(alloc: Global, text: &[u8]) -> Result<Cond, NoMemory>
     }
 }
 
-/// What a condition asks.
+/// The test of a condition.
 fn read_test(alloc: Global, text: &[u8]) -> Result<Test, NoMemory>
     ensures { IfOk result (λ test. test ≡ how.test_read text.now) }
 {
@@ -324,7 +322,7 @@ fn read_test(alloc: Global, text: &[u8]) -> Result<Test, NoMemory>
     read_letter_test(alloc, text)
 }
 
-/// What a condition asks of a parameter.
+/// The test of a condition on a parameter.
 fn read_letter_test(alloc: Global, text: &[u8]) -> Result<Test, NoMemory>
     ensures { IfOk result (λ test. test ≡ how.letter_test_read text.now) }
 {
@@ -339,7 +337,7 @@ fn read_letter_test(alloc: Global, text: &[u8]) -> Result<Test, NoMemory>
         let text = Text::from_slice(alloc, without_last(behind_equals(rest)))?;
         return Ok(Test::Equals { letter, text });
     }
-    // No text of the language comes here.
+    // Unreachable for a text of the language.
     Ok(Test::Failed)
 }
 
@@ -349,12 +347,12 @@ fn letter_of(text: &[u8]) -> u8
 {
     match text {
         [letter, ..] => *letter,
-        // No text of the language comes here.
+        // Unreachable for a text of the language.
         [] => b'A',
     }
 }
 
-/// What stands behind a letter and `)=(`.
+/// The text after a letter and `)=(`.
 fn behind_equals(text: &[u8]) -> &[u8]
     ensures { result.now ≡ how.behind_equals text.now }
 {

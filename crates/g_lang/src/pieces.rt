@@ -1,9 +1,9 @@
-//! Texts cut at spaces, commas and fixed words; each takes no memory.
+//! Splitting texts at spaces, commas and fixed words; allocates nothing.
 ghost use Rattle.std.specs.Prelude.{◌≡◌, ◌^◌, ◌<◌, ◌≤◌, [], ◌∷◌, length, None, Some, MatchOption};
 ghost use Rattle.g_lang.specs.LineReader as how;
 ghost use Rattle.g_lang.specs.Words as words;
 
-/// The text without the spaces in front.
+/// The text without its leading spaces.
 pub(crate) fn without_front(text: &[u8]) -> &[u8]
     ensures { result.now ≡ words.without_front text.now }
 {
@@ -14,7 +14,7 @@ pub(crate) fn without_front(text: &[u8]) -> &[u8]
     rest
 }
 
-/// The text without the spaces behind.
+/// The text without its trailing spaces.
 pub(crate) fn without_back(text: &[u8]) -> &[u8]
     ensures { result.now ≡ words.without_back text.now }
 {
@@ -35,7 +35,7 @@ pub fn trimmed(text: &[u8]) -> &[u8]
     without_back(without_front(text))
 }
 
-/// The first word of a text, and what comes behind it and its spaces.
+/// The first word of a text, and the rest after it and its spaces.
 pub(crate) fn split_word(text: &[u8]) -> (&[u8], &[u8])
     ensures word { result.0.now ≡ words.word_of text.now }
     ensures behind { result.1.now ≡ how.behind_word text.now }
@@ -48,7 +48,7 @@ pub(crate) fn split_word(text: &[u8]) -> (&[u8], &[u8])
     (text, &[])
 }
 
-/// The text before its first comma outside of brackets, and the text behind, if there is one.
+/// The text before its first comma outside of brackets, and the text after it, if there is one.
 pub(crate) fn split_at_comma(text: &[u8]) -> (&[u8], Option<&[u8]>)
     ensures before { result.0.now ≡ how.before_comma 0 text.now }
     ensures behind { MatchOption result.1 (how.behind_comma 0 text.now ≡ [])
@@ -66,7 +66,7 @@ pub(crate) fn split_at_comma(text: &[u8]) -> (&[u8], Option<&[u8]>)
     (text, None)
 }
 
-/// A condition, and the command behind its comma.
+/// A condition, and the command after its comma.
 pub(crate) fn split_condition(text: &[u8]) -> (&[u8], &[u8])
     ensures before { result.0.now ≡ how.before_comma 0 text.now }
     ensures behind { result.1.now ≡ how.behind_comma 0 text.now }
@@ -78,7 +78,7 @@ pub(crate) fn split_condition(text: &[u8]) -> (&[u8], &[u8])
     }
 }
 
-/// Within how many brackets a text is behind a byte.
+/// The number of open brackets after a byte.
 fn depth_behind(byte: u8, depth: usize) -> usize
     requires { depth < 2 ^ 63 }
     ensures { result ≡ how.depth_behind byte depth }
@@ -90,7 +90,7 @@ fn depth_behind(byte: u8, depth: usize) -> usize
     }
 }
 
-/// What stands behind a front, if the text begins with it.
+/// The rest of a text after a given front, if the text begins with it.
 pub fn behind<'a>(front: &[u8], text: &'a [u8]) -> Option<&'a [u8]>
     ensures { MatchOption result (how.behind front.now text.now ≡ None)
         (λ rest. how.behind front.now text.now ≡ Some rest.now) }

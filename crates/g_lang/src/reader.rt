@@ -1,4 +1,4 @@
-//! A reader of lines that takes one byte after another: it tells where a text goes wrong, and takes no memory.
+//! A reader of lines that takes one byte after another: it finds the place where a text goes wrong, and allocates nothing.
 ghost use Rattle.std.specs.Option.{option_map};
 ghost use Rattle.std.specs.Prelude.{◌≡◌, ◌^◌, ◌<◌, ◌≤◌, ◌+◌, ◌||◌, ◌∷◌, ◌++◌, [], IfSome, IsTrue, List, Some, codes, drop, length, true, ℕ};
 ghost use Rattle.g_lang.specs.Lines as lines;
@@ -11,35 +11,35 @@ use crate::bytes::{is_digit, is_label, is_param_letter, is_printed, is_word};
 use crate::pieces::{behind, split_word, without_front};
 use g_name::{extends, is_name_char};
 
-/// What comes behind a fixed text of a condition.
+/// What follows a fixed text of a condition.
 #[derive(Clone, Copy)]
 enum Behind {
     Test,
     Comma,
     Text,
-    /// A parameter's letter; behind it stands a text to compare with, or none.
+    /// A parameter's letter, with a text to compare or without.
     Letter { equals: bool },
 }
 
-/// Where in a line the reader stands.
+/// The reader's place in a line.
 #[derive(Clone, Copy)]
 enum Place {
-    /// In the spaces in front.
+    /// In the leading spaces.
     Front,
-    /// In a label, behind so many of its characters.
+    /// In a label, after this many of its characters.
     Label(usize),
-    /// Behind a label and a space.
+    /// After a label and a space.
     Gap,
-    /// In the first word of a command, which begins at this byte of the text; whether it stands behind a condition.
+    /// In the first word of a command, which begins at this byte of the text; `inner` if a condition precedes it.
     Word {
         start: usize,
         inner: bool,
     },
-    /// Before a condition; whether NOT stands before it.
+    /// Before a condition; `negated` if NOT precedes it.
     Condition {
         negated: bool,
     },
-    /// In a fixed text of a condition, of which this is left.
+    /// In a fixed text of a condition, the rest of which is stored.
     Fixed {
         byte: u8,
         rest: &'static [u8],
@@ -51,26 +51,26 @@ enum Place {
     },
     /// In a text in brackets.
     Text,
-    /// Behind a condition.
+    /// After a condition.
     BeforeComma,
-    /// Behind GOTO and its space.
+    /// After GOTO and its space.
     BeforeLabel,
-    /// In the label of GOTO, behind so many of its characters.
+    /// In the label of GOTO, after this many of its characters.
     Goto(usize),
-    /// In the spaces behind.
+    /// In the trailing spaces.
     Back,
-    /// In the spaces behind a verb.
+    /// In the spaces after a verb.
     VerbGap,
-    /// In the parameters, within so many brackets.
+    /// In the parameters, with this many open brackets.
     Params(usize),
 }
 
-/// The place where a text goes wrong as a line, if it does: the length of its longest front that begins some line.
+/// The place where a text goes wrong as a line, if it does: the length of its longest prefix that begins some line.
 #[tactic(auto, using(crate::proofs::VerbLemmas::verb_line, crate::proofs::VerbLemmas::behind_short, crate::proofs::VerbLemmas::goto_line))]
 pub(crate) fn wrong_place(text: &[u8]) -> Option<usize>
     ensures { result ≡ how.wrong_from how.Front 0 text.now }
 {
-    // Most lines are a verb and its parameters, or a GOTO, behind a label or none.
+    // Most lines are a verb with parameters, or a GOTO, with or without a label.
     let line = without_front(text);
     let (word, rest) = split_word(line);
     if is_verb(word) {
@@ -84,7 +84,7 @@ pub(crate) fn wrong_place(text: &[u8]) -> Option<usize>
     }
 }
 
-/// The same of a text that begins with a label, behind which this stands.
+/// The same for a text that begins with a label and continues with `command`.
 #[tactic(auto, using(crate::proofs::VerbLemmas::labelled_verb, crate::proofs::VerbLemmas::params_short, crate::proofs::VerbLemmas::labelled_goto))]
 fn wrong_behind_label(text: &[u8], command: &[u8]) -> Option<usize>
     requires label { is_label (word_of (without_front text.now)) ≡ true }
@@ -101,7 +101,7 @@ fn wrong_behind_label(text: &[u8], command: &[u8]) -> Option<usize>
     }
 }
 
-/// Whether a command is a GOTO with its label. The other answer says nothing: it may have spaces behind.
+/// Whether a command is a GOTO with its label. False doesn't mean that it is none: it may have trailing spaces.
 fn is_goto(command: &[u8]) -> bool
     ensures { IsTrue result → (label : List ℕ) × (how.behind (codes "GOTO ") command.now ≡ Some label) × (is_label label ≡ true) }
 {
@@ -129,7 +129,7 @@ pub(crate) fn wrong_by_steps(text: &[u8]) -> Option<usize>
     }
 }
 
-/// The place where the parameters of a verb go wrong, counted on from where they begin.
+/// The place where the parameters of a verb go wrong, counted from their beginning at `from`.
 pub(crate) fn wrong_in_params(params: &[u8], from: usize) -> Option<usize>
     requires { from + length params.now < 2 ^ 64 }
     ensures { result ≡ how.wrong_from (how.Params 0) from params.now }
@@ -155,12 +155,12 @@ fn is_verb(word: &[u8]) -> bool
     is_word(word) && !is_keyword(word)
 }
 
-/// Whether a word is IF, WHENEVER or GOTO, behind which no parameters stand.
+/// Whether a word is IF, WHENEVER or GOTO, which take no parameters.
 pub(crate) fn is_keyword(word: &[u8]) -> bool
     ensures { result
         ≡ (same_text word.now (codes "IF") || same_text word.now (codes "WHENEVER") || same_text word.now (codes "GOTO")) }
 {
-    // Most words are none: the first byte tells it.
+    // Most words aren't, and their first byte shows it.
     match word {
         [b'I', ..] => word == b"IF".as_slice(),
         [b'W', ..] => word == b"WHENEVER".as_slice(),
@@ -170,7 +170,7 @@ pub(crate) fn is_keyword(word: &[u8]) -> bool
 }
 
 impl Place {
-    /// The place behind the next byte, if some line goes on with it.
+    /// The place after the next byte, if some line continues with it.
     fn step(self, before: &[u8], byte: u8) -> Option<Place>
         requires depth { depth_of (state_of before.now self) < 2 ^ 63 }
         requires word { word_start self ≤ length before.now }
@@ -198,7 +198,7 @@ impl Place {
         }
     }
 
-    /// Whether a line may end here, behind this text.
+    /// Whether a line may end here, after this text.
     fn may_end(self, text: &[u8]) -> bool
         requires { word_start self ≤ length text.now }
         ensures { result ≡ how.may_end (state_of text.now self) }
@@ -252,7 +252,7 @@ fn in_gap(before: &[u8], byte: u8) -> Option<Place>
     in_word(before.len(), false, before, byte)
 }
 
-/// In the word that begins at this byte of what stands before.
+/// In the word that begins at this byte of the text so far.
 fn in_word(start: usize, inner: bool, before: &[u8], byte: u8) -> Option<Place>
     requires { start ≤ length before.now }
     ensures { Steps (how.in_word (drop start before.now) inner byte) (before.now ++ byte ∷ []) result }
@@ -283,7 +283,7 @@ fn behind_word(word: &[u8], inner: bool) -> Option<Place>
     Some(Place::VerbGap)
 }
 
-/// Whether the word is a verb that may stand alone.
+/// Whether the word is a verb that may be used without parameters.
 fn is_whole_verb(word: &[u8], inner: bool) -> bool
     ensures { result ≡ how.may_end (how.Word word.now inner) }
 {
@@ -308,7 +308,7 @@ fn in_condition(negated: bool, byte: u8) -> Option<Place>
     }
 }
 
-/// In a fixed text, or behind it where it is empty.
+/// In a fixed text, or after it if it is empty.
 fn fixed(text: &'static [u8], behind: Behind) -> Place
     ensures state { (before : List ℕ) → state_of before result ≡ how.fixed text.now (next_of behind) }
     ensures word { word_start result ≡ 0 }
@@ -431,7 +431,7 @@ fn in_params(depth: usize, byte: u8) -> Option<Place>
     }
 }
 
-/// Within how many brackets the next byte of parameters leaves the reader, if they go on with it.
+/// The number of open brackets after the next byte of parameters, if they can continue with it.
 fn depth_at(depth: usize, byte: u8) -> Option<usize>
     requires { depth < 2 ^ 63 }
     ensures depth { how.in_params depth byte ≡ option_map how.Params result }

@@ -1,4 +1,4 @@
-//! The text in which the parameters of a verb stand.
+//! The text of a verb's parameters.
 ghost use Rattle.std.specs.Prelude.{◌≡◌, IfOk, IfSome};
 
 use arrayvec::ArrayVec;
@@ -7,14 +7,13 @@ use g_name::Text;
 use std::alloc::Global;
 use std::marker::Model;
 
-/// The text in which the parameters of a verb stand, from the first one on, as it was written. Up to 24 bytes take no
-/// memory. Contracts see its bytes.
+/// The text of a verb's parameters, from the first one on, unchanged. Up to 24 bytes need no allocation. Contracts see its bytes.
 #[derive(Drop)]
 pub struct Rest {
     kept: Kept,
 }
 
-/// The bytes, where they are few, or a text of their own.
+/// The bytes, if they are few, or a text of their own.
 #[derive(Drop)]
 enum Kept {
     Few(ArrayVec<u8, 24>),
@@ -59,7 +58,7 @@ impl Rest {
     }
 }
 
-/// The bytes in a list that takes no memory, if they are few.
+/// The bytes in a list without allocation, if they are few.
 fn few_of(bytes: &[u8]) -> Option<ArrayVec<u8, 24>>
     ensures { IfSome result (λ few. few.items ≡ bytes.now) }
 {

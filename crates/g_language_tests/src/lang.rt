@@ -39,7 +39,7 @@ fn is_copy(alloc: Global, command: &Command) -> Result<bool, Fail> {
     }
 }
 
-/// Whether a command does that COPY under that condition.
+/// Whether a command is that COPY under that condition.
 fn is_done(alloc: Global, command: &Command) -> Result<bool, Fail> {
     match command {
         Command::If { cond, inner } => Ok(is_asked(cond) && is_copy(alloc, inner)?),

@@ -1,4 +1,4 @@
-//! What levels give of their lines.
+//! The lines that levels return.
 ghost use Rattle.std.specs.Prelude.{◌≡◌, ◌<◌, length, IfOk};
 
 use g_lang::{Command, Label, Line, parse_line};
@@ -8,7 +8,7 @@ use g_name::Text;
 use std::alloc::Global;
 use std::test::Fail;
 
-/// A line with the parameters put in: the first two parameters, the line, and what becomes of it.
+/// A line after substitution: the first two parameters, the line, and the result.
 static LINES: [(&[u8], &[u8], &[u8], &[u8]); 12] = [
     (b"X", b"", b"DISPLAY %A%%%B-%", b"DISPLAY X%-%"),
     (
@@ -73,7 +73,7 @@ fn next_is(alloc: Global, levels: &mut Levels, line: &[u8]) -> Result<bool, Fail
     }
 }
 
-/// Whether the next line is refused for its length, with this front.
+/// Whether the next line is refused for its length, with this prefix.
 fn next_is_cut(alloc: Global, levels: &mut Levels, front: &[u8]) -> bool {
     match levels.next_line(Text::new(alloc)) {
         Err(MacroFault::TooLong(told)) => told.as_slice() == front,
@@ -107,7 +107,7 @@ fn with_parameter(alloc: Global, param: &[u8]) -> Result<Levels, Fail> {
     Ok(levels)
 }
 
-/// A line of 240 bytes is taken, of a longer one the first 240 are told, and the next line comes behind it.
+/// A line of 240 bytes is taken; of a longer one the first 240 are returned, and the next line follows it.
 #[test]
 fn long_lines(rt: HostRuntime) -> Result<(), Fail> {
     let long = [b'Z'; 240];
@@ -132,7 +132,7 @@ fn go_behind(alloc: Global, levels: &mut Levels, line: &[u8], label: &[u8]) -> R
     Ok(())
 }
 
-/// GOTO goes to the first line with the label, also backwards.
+/// GOTO jumps to the first line with the label, also backwards.
 #[test]
 fn labels(rt: HostRuntime) -> Result<(), Fail> {
     let mut levels = begun(rt.alloc(), b"1 GOTO 2X\n2X DISPLAY A\n2X DISPLAY B")?;
@@ -143,7 +143,7 @@ fn labels(rt: HostRuntime) -> Result<(), Fail> {
     Ok(())
 }
 
-/// The document of an INPUT goes up to `////`, which is passed by too.
+/// The document of an INPUT ends at `////`, which is also passed.
 #[test]
 fn documents(rt: HostRuntime) -> Result<(), Fail> {
     let mut levels = begun(rt.alloc(), b"A\n%A\n////\nEND")?;
@@ -152,7 +152,7 @@ fn documents(rt: HostRuntime) -> Result<(), Fail> {
     Ok(())
 }
 
-/// Lets the command of a WHENEVER wait in the current level.
+/// Stores the command of a WHENEVER in the current level.
 fn let_wait(alloc: Global, levels: &mut Levels, line: &[u8]) -> Result<(), Fail>
     requires { 0 < length levels.old.levels }
 {
@@ -164,7 +164,7 @@ fn let_wait(alloc: Global, levels: &mut Levels, line: &[u8]) -> Result<(), Fail>
     Ok(())
 }
 
-/// A macro `M` of one line, which calls it again, up to the eighth level; whether each line was that.
+/// A macro `M` of one line, which calls it again, up to the eighth level; returns whether each line was that.
 fn deepen(alloc: Global, levels: &mut Levels) -> Result<bool, Fail> {
     for _ in 0..7 {
         if !next_is(alloc, levels, b"M")? {
@@ -181,7 +181,7 @@ fn is_deepest(alloc: Global, levels: &mut Levels) -> Result<bool, Fail> {
     Ok(matches!(deep, Err(MacroFault::TooDeep)))
 }
 
-/// Whether this command waits for an error.
+/// Whether this command fires at an error.
 fn fires(alloc: Global, levels: &mut Levels, command: &[u8]) -> Result<bool, Fail> {
     let outcome = Outcome {
         error: true,
@@ -193,8 +193,7 @@ fn fires(alloc: Global, levels: &mut Levels, command: &[u8]) -> Result<bool, Fai
     }
 }
 
-/// A macro that calls itself comes to the eighth level; then the command that waits for an error is done in the
-/// document's level.
+/// A macro that calls itself reaches the eighth level; then the command that waits for an error is executed in the document's level.
 #[test]
 fn the_deepest_macro(rt: HostRuntime) -> Result<(), Fail> {
     let mut levels = begun(rt.alloc(), b"M\nDISPLAY NOT HERE\n9ER DISPLAY CAUGHT")?;
@@ -206,7 +205,7 @@ fn the_deepest_macro(rt: HostRuntime) -> Result<(), Fail> {
     Ok(())
 }
 
-/// Lets the command of a WHENEVER wait in the level of the next line, which is this one.
+/// Stores the command of a WHENEVER in the level of the next line, which is this one.
 fn let_wait_behind(
     alloc: Global,
     levels: &mut Levels,
@@ -227,7 +226,7 @@ fn let_wait_behind(
     Ok(())
 }
 
-/// Whether the document of an INPUT that is met first is this.
+/// Whether the document of the first INPUT is this.
 fn begins_with(alloc: Global, levels: &mut Levels, text: &[u8]) -> Result<bool, Fail>
     requires { 0 < length levels.old.levels }
 {
@@ -235,7 +234,7 @@ fn begins_with(alloc: Global, levels: &mut Levels, text: &[u8]) -> Result<bool, 
     Ok(document.as_slice() == text)
 }
 
-/// A document with a macro that is called, a command that waits and is done, with ample memory.
+/// A document with a macro that is called, and a command that waits and is executed, with ample memory.
 #[test]
 fn ample(rt: HostRuntime) -> Result<(), Fail> {
     let mut levels = begun(rt.alloc(), b"A\n////\nM X")?;

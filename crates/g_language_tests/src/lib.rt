@@ -1,4 +1,4 @@
-//! Tests of lines, of levels, of verbs, of scripts and of what is printed, from the language's rules by hand.
+//! Tests of lines, levels, verbs, scripts and printed texts, derived manually from the language's rules.
 #![tactic(auto)]
 
 #[cfg(test)]

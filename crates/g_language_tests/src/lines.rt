@@ -1,4 +1,4 @@
-//! Lines, good and bad, with what they say and with their places taken from the grammar by hand.
+//! Lines, good and bad; what they say and their bad places were derived manually from the grammar.
 use g_lang::{
     Command, Label, LangFault, Line, Test, count_params, is_input_line, label_of, only_param,
     param_at, parse_line, read_params, two_params,
@@ -70,8 +70,7 @@ static VERBS: [Verb; 21] = [
     (b"1 INPUT", Some(b"1"), b"INPUT", &[], b""),
 ];
 
-/// A line with a condition: its text, whether NOT stands there, the first letter of the test, a parameter's letter,
-/// and a text.
+/// A line with a condition: its text, whether it has NOT, the first letter of the test, a parameter's letter, and a text.
 type Condition = (&'static [u8], bool, u8, u8, &'static [u8]);
 
 static CONDITIONS: [Condition; 9] = [
@@ -251,7 +250,7 @@ fn told(test: &Test) -> (u8, u8, &[u8]) {
     }
 }
 
-/// Whether a command stands behind this condition.
+/// Whether a command follows this condition.
 fn is_behind(command: &Command, is_negated: bool, kind: u8, letter: u8, plain: &[u8]) -> bool {
     let Command::If { cond, .. } = command else {
         return false;
@@ -275,7 +274,7 @@ fn conditions(rt: HostRuntime) -> Result<(), Fail> {
     Ok(())
 }
 
-/// A command that waits is kept as it stands, up to the spaces behind it.
+/// A command that waits is stored unchanged, without its trailing spaces.
 #[test]
 fn waiting_commands(rt: HostRuntime) -> Result<(), Fail> {
     let Line { label: _, command } = parse_line(

@@ -43,7 +43,7 @@ fn push_head(text: &mut Text) -> Result<(), Fail> {
     Ok(())
 }
 
-/// A line that was taken, and what became of a program.
+/// A line that was taken, and the lines of a program.
 fn push_lines(text: &mut Text) -> Result<(), Fail> {
     push_marked(text, Mark::Taken, b"X")?;
     text.push(b'\n')?;

@@ -1,4 +1,4 @@
-//! What is printed of every call, and the lines of a monitoring file.
+//! The texts of every call, and the lines of a monitoring file.
 ghost use Rattle.std.specs.Prelude.{IfSome};
 ghost use Rattle.g_plain.specs.Replies.{IsReplyTo};
 ghost use Rattle.g_plain.specs.declared.calls.StoreReply.TheVariants.{Done};
@@ -34,7 +34,7 @@ fn user() -> Option<User> {
     User::new(b"A")
 }
 
-/// A call on users or traps, which is done, by its number in the table.
+/// A granted call on users or traps, by its number in the table.
 fn on_user(number: u8) -> Option<StoreCall>
     ensures { IfSome result (λ call. IsReplyTo call Done) }
 {
@@ -164,7 +164,7 @@ fn modes(rt: HostRuntime) -> Result<(), Fail> {
     Ok(())
 }
 
-/// Listings of a file: its bytes, and what is shown of them.
+/// Listings of a file: its bytes, and the text shown for them.
 static LISTED: [(&[u8], &[u8]); 6] = [
     (b"", b""),
     (b"\n", b"| \n"),
@@ -233,7 +233,7 @@ fn illegal_order(rt: HostRuntime) -> Result<(), Fail> {
     Ok(())
 }
 
-/// What stands in front of a text.
+/// The text before the rest of a marked line.
 static MARKS: [(Mark, &[u8]); 6] = [
     (Mark::Taken, b"- T"),
     (Mark::Fired, b"+ T"),

@@ -1,4 +1,4 @@
-//! Scripts: their bad lines, worked out by hand from the rules of a script.
+//! Scripts: their bad lines, derived manually from the rules of a script.
 mod ample;
 mod documents;
 mod heads;

@@ -1,10 +1,10 @@
-//! Sources that no script has: bytes outside those of a line, a last line without its end, and lines by the thousand.
+//! Sources that don't fit into a script: bytes outside those of a line, a last line without its end, and lines by the thousand.
 use g_name::Text;
 use g_plan::{PlanFault, assemble};
 use std::alloc::Global;
 use std::test::Fail;
 
-/// A text: pieces, each so many times.
+/// A text: pieces, each with its number of repetitions.
 type Pieces = &'static [(&'static [u8], usize)];
 
 /// Sources with their first bad lines.
@@ -59,7 +59,7 @@ fn text_of(alloc: Global, pieces: &[(&[u8], usize)]) -> Result<Text, Fail> {
     Ok(text)
 }
 
-/// Puts a piece so many times behind the text.
+/// Appends a piece this many times.
 fn put_times(text: &mut Text, piece: &[u8], times: usize) -> Result<(), Fail> {
     for _ in 0..times {
         text.extend(piece)?;

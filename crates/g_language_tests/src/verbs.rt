@@ -1,4 +1,4 @@
-//! Verbs: each with its forms and with each way of being bad, from the language's rules by hand.
+//! Verbs: each with its forms and with each way of being bad, derived manually from the language's rules.
 mod ample;
 mod bad;
 mod bad_files;

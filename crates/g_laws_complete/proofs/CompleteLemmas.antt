@@ -1,4 +1,5 @@
 -- A call that may be done is done.
+-- serves: calls_are_complete
 use Rattle.std.proofs.Common.{◌≡◌, ℕ, List, Some, refl, sym, ◌∙◌, subst, inl, inr}
 use Rattle.std.specs.Prelude.{◌⊎◌, Result, Ok, Err}
 use Rattle.std.proofs.lemmas.Option.{same_Some}

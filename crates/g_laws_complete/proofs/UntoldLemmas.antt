@@ -1,4 +1,5 @@
--- The state of a store whose devices don't tell all that they hold.
+-- The state of a store whose devices don't expose all their contents.
+-- serves: untold_have_states (real, some)
 use Rattle.std.proofs.Common.{◌≡◌, ◌≢◌, ℕ, ◌+◌, ◌*◌, ◌<◌, ◌≤◌, Bool, true, false, List, [], ◌∷◌, ◌++◌, length, get_or, map, Option, Some, None, is_some, refl, sym, ◌∙◌, ap, arith, subst}
 use Rattle.std.specs.Prelude.{◌==◌, All, AllPairs, Contains, IfSome, replicate, slice_index_or, if◌then◌else◌}
 use Rattle.std.specs.Option.{ForSome}
@@ -25,7 +26,7 @@ use Rattle.g_store_meaning.specs.StoreInvariant.{StoreFacts}
 use Rattle.g_store_meaning.proofs.ViewLemmas.{Stands, back}
 use Rattle.g_laws_complete.specs.UntoldStores.{HasBlocks, RealHaveStates, UntoldHaveStates}
 
--- A FILE'S BYTES, where they are told, and zeros where they aren't
+-- a file's bytes if they are exposed, and zeros otherwise
 abbrev bytes_by : Option (List ℕ) → ℕ → List ℕ
 bytes_by None len = replicate len 0
 bytes_by (Some bytes) len = bytes
@@ -36,7 +37,7 @@ bytes_of f = bytes_by f.bytes f.rec.len
 abbrev rec_of : File → FileRec
 rec_of f = f.rec
 
--- by its stamp, among files no two of which have one
+-- by its stamp, among files of which no two have the same
 abbrev text_in : List File → ℕ → List ℕ
 text_in [] stamp = []
 text_in (f ∷ fs) stamp = if f.rec.stamp == stamp then bytes_of f else text_in fs stamp

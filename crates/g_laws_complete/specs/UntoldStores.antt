@@ -1,6 +1,6 @@
--- STORES WHOSE DEVICES DON'T TELL all that they hold have a state, whether or not disc and rack belong together: what is in memory, with
--- a text of the right length for each version. So what a store owes of its answers by the state that it stands for (every refusal, number
--- and length of the step) it owes over real files too.
+-- A store whose devices don't expose all their contents has a state, whether or not disc and rack belong together: what is
+-- in memory, with a text of the right length for each version. Therefore every promise about answers that refers to the
+-- represented state (each refusal, number and length of the step) also holds on real files.
 use Rattle.std.specs.Prelude.{◌≡◌, ℕ, false, List, length, All, None}
 use Rattle.std.specs.Option.{ForSome}
 use Rattle.g_base.specs.Block.{IsBlock}
@@ -12,15 +12,15 @@ use Rattle.g_store_meaning.specs.Meaning.{told_reels}
 use Rattle.g_store_meaning.specs.Reading.{StandsForState}
 use Rattle.g_store_meaning.specs.StoreInvariant.{StoreFacts}
 
--- what every disc that tells keeps: as many blocks as it has, each of 512 bytes
+-- The contents of the disc, if exposed, are as many blocks as its size says, each of 512 bytes.
 pub record HasBlocks (s : StoreFacts) : Type 0 where
   pub blocks : ForSome s.online.disc.held (λ blocks. (length blocks ≡ s.online.disc.size) × All IsBlock blocks)
 
--- whichever completed dumps the reels have that tell
+-- For any completed dumps of the reels that expose their contents.
 abbrev pub UntoldHaveStates : Type 0
 UntoldHaveStates = (s : StoreFacts) (shelf : ℕ → List Dump) → s.spent ≡ false → IsStore s → (Told s → ⊥) → HasBlocks s → AreShelved shelf (told_reels s.rack)
     → (u : State) × StandsForState s u
 
--- over files, which tell nothing, nothing else is asked
+-- On real files, which expose nothing, no other premise is needed.
 abbrev pub RealHaveStates : Type 0
 RealHaveStates = (s : StoreFacts) → s.spent ≡ false → IsStore s → s.online.disc.held ≡ None → All (λ r. r.blocks ≡ None) (told_reels s.rack) → (u : State) × StandsForState s u

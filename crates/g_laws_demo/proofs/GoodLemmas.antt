@@ -1,4 +1,5 @@
--- The lines of a demonstration's script are those of its items, and each may stand in a script.
+-- The lines of a demonstration's script are those of its items, and each is allowed in a script.
+-- serves: the_script_is_good
 use Rattle.std.proofs.Common.{All, Bool, List, [], ap, append_assoc, arith, codes, false, get_or, length, map, refl, replicate, subst, suc, sym, true, zero, if◌then◌else◌, ℕ, ◌%◌, ◌&&◌, ◌*◌, ◌+◌, ◌++◌, ◌<◌, ◌==◌, ◌^◌, ◌||◌, ◌∙◌, ◌∷◌, ◌≡◌, ◌≢◌, ◌≤◌}
 use Rattle.std.specs.Prelude.{nat_le}
 use Rattle.std.specs.Fmt.{decimal}
@@ -183,7 +184,7 @@ good_round i state few =
     (good_behind (migration (4 * i) (drawn 20 (next (behind_three state)))) (dump (4 * i)) (i % 50 == 49) (i % 50 == 0)
     (good_migration (4 * i) (drawn 20 (next (behind_three state))) (omega (arith, few)) (below_20 (next (behind_three state)))) (good_dump (4 * i) (omega (arith, few))))
 
--- what holds of each of 1,000 rounds, holds of all
+-- a property of each of 1,000 rounds holds for all of them
 all_rounds : {X : Type 0} (P : X → Type 0) (rounds round : ℕ → List X) → rounds 0 ≡ [] → ((i : ℕ) → rounds (suc i) ≡ rounds i ++ round i) → ((i : ℕ) → suc i ≤ 1000 → All P (round i))
     → (i : ℕ) → i ≤ 1000 → All P (rounds i)
 all_rounds P rounds round none more each zero few = subst (All P) (sym none) (All-nil P)
@@ -327,7 +328,7 @@ lines_of_opening =
     ap (λ (d : List ℕ). (d ++ (32 ∷ codes "FORMAT")) ∷ (d ++ (32 ∷ (codes "MOUNT " ++ decimal 1))) ∷ []) decimal_0
     ∙ ap (λ (d : List ℕ). codes "0 FORMAT" ∷ (codes "0 MOUNT " ++ d) ∷ []) decimal_1
 
--- the last lines, over the digits of their numbers
+-- the last lines, by the digits of their numbers
 abbrev closing_by : List ℕ → List ℕ → List ℕ → List (List ℕ)
 closing_by turn one hundred =
     (turn ++ (32 ∷ (codes "DUMP " ++ one)))
@@ -351,7 +352,7 @@ lines_of_script number rounds =
     ∙ ap (λ (ls : List (List ℕ)). ls ++ lines_in closing_items) (lines_of_rounds number rounds)
     ∙ ap (λ (ls : List (List ℕ)). rounds_lines number rounds ++ ls) lines_of_closing)
 
--- no line has a byte 10 in it
+-- no line has a byte 10
 abbrev IsOneLine : List ℕ → Type 0
 IsOneLine line = All (λ byte. byte ≢ 10) line
 

@@ -1,4 +1,5 @@
--- What the script of a demonstration asks for.
+-- The items of a demonstration's script.
+-- serves: GoodLemmas
 use Rattle.std.proofs.Common.{List, None, Some, [], arith, codes, if◌then◌else◌, replicate, suc, zero, ℕ, ◌%◌, ◌*◌, ◌+◌, ◌++◌, ◌==◌, ◌∷◌}
 use Rattle.std.specs.Fmt.{decimal}
 use Rattle.g_name.specs.declared.path.Path.{Path}

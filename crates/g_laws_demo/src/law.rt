@@ -1,7 +1,7 @@
-//! What a demonstration's script says.
+//! The script of a demonstration is valid.
 ghost use Rattle.g_laws_demo.specs.GoodScript.{IsGood};
 
-/// Every line of a demonstration's script is one that the program reads, and what it asks for is what was meant.
+/// Every line of a demonstration's script of up to 1,000 rounds is a valid line of a script.
 pub fn the_script_is_good()
     ensures { IsGood }
 {}

@@ -1,4 +1,4 @@
-//! That the script of a demonstration is a good one for the whole program (docs/DEFINITIONS.md, "A demonstration").
+//! The script of a demonstration is valid for the whole program (docs/DEFINITIONS.md, "g_demo").
 #![tactic(auto)]
 
 mod law;

@@ -1,4 +1,5 @@
--- The step of a call is the call told as a value.
+-- The step of a call, and the simpler definition of it, are equivalent.
+-- serves: lib
 use Rattle.std.proofs.Common.{◌≡◌, ℕ, ◌+◌, ◌<◌, ◌≤◌, List, [], ◌∷◌, ◌++◌, Option, Some, None, refl, sym, ◌∙◌, ap, subst, inl, inr, arith}
 use Rattle.std.specs.Prelude.{◌⊎◌, ◌↔◌, Bool, true, false, nat_lt, nat_le, ◌&&◌, ◌||◌, not, Result, Ok, Err, MatchOption, is_some, option_map, unwrap_or, if◌then◌else◌}
 use Rattle.std.proofs.lemmas.Bool.{eq-eqb, false≢true, le-leb, leb-false, leb-true, lt-leb}
@@ -14,7 +15,7 @@ use Rattle.g_laws_model.specs.Refusals.{Goes, IsCutAt, first_of, when}
 use Rattle.g_laws_model.proofs.FrontLemmas.{Found, IsEnough, below, find_shortest, is_shortest}
 use Rattle.g_laws_model.proofs.TakenLemmas.{all_under, among_taken, candidates_rise, same_offline, same_room, under_is_all}
 
--- THE EARLY REFUSALS, whatever comes behind them
+-- The early refusals, for any refusals after them.
 early_ways : (P : Type 0) (rest : List (Option StoreFault)) (cut : Bool) (reply : StoreReply) (s : State) (between : List State) (after : State) (answer : Result StoreReply StoreFault) (new : State)
     → (P ↔ Goes (first_of rest) cut reply s between after answer new) → (f : Option StoreFault) (b c : Bool) (w : StoreFault)
     → MatchOption (first_fault ((is_some f, unwrap_or f Stopped) ∷ (b, w) ∷ (c, TapeReadFault) ∷ [])) P (λ fault. (answer ≡ Err fault) × (new ≡ s))

@@ -1,4 +1,5 @@
 -- The shortest front that is enough, of numbers that rise, is those below some number.
+-- serves: CallLemmas, TakenLemmas
 use Rattle.std.proofs.Common.{◌≡◌, ℕ, suc, ◌<◌, ◌≤◌, List, [], ◌∷◌, refl, sym, ◌∙◌, ap, inl, inr, arith}
 use Rattle.std.specs.Prelude.{◌⊎◌, Bool, true, false, cond, filter, nat_lt, ◌==◌}
 use Rattle.std.proofs.lemmas.Bool.{both_ways, cases_Bool, cases_lt, eqb-true, false≢true, le-ltb, lt-ltb, or_cases}
@@ -76,7 +77,7 @@ is_shortest enough until low (x ∷ xs) above is least = by (cases_Bool (enough 
         keeps_first until x xs less ∙ ap (λ (ys : List ℕ). x ∷ ys) (more (enough_there less is) least_there)
         ∙ sym (ap (λ (b : Bool). cond b [] (x ∷ shortest (λ front. enough (x ∷ front)) xs)) e)
 
--- AND THERE IS SUCH A NUMBER
+-- There is such a number.
 pub record Found (enough : List ℕ → Bool) (low : ℕ) (xs : List ℕ) : Type 0 where
   pub until : ℕ
   pub at : low ≤ until

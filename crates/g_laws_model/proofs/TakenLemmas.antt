@@ -1,4 +1,5 @@
 -- The candidates below some stamp are what is taken offline below it.
+-- serves: CallLemmas
 use Rattle.std.proofs.Common.{◌≡◌, ℕ, suc, ◌+◌, ◌<◌, ◌≤◌, List, [], ◌∷◌, Option, Some, None, refl, sym, ◌∙◌, ap, subst, inl, inr, arith}
 use Rattle.std.specs.Prelude.{◌⊎◌, Bool, true, false, T, cond, filter, map, nat_lt, ◌==◌, ◌&&◌, ◌||◌, sum_by, unwrap_or, if◌then◌else◌}
 use Rattle.std.specs.Cmp.{unsigned_tied}
@@ -109,7 +110,7 @@ among_found until stamp (e ∷ es) sorted = by (cases_Bool (stamp == e.0)) (amon
 pub among_taken : (k : Holding) (until stamp : ℕ) → is_among stamp (below until (candidates k)) ≡ is_taken k until stamp
 among_taken k until stamp = among_found until stamp (entries k.places) (entries_sorted k.places) ∙ sym (ap (is_taken_of until stamp) (get-entries k.places stamp))
 
--- WHAT COMES OF IT: the room, and what is held
+-- The consequences: the room, and what the store holds.
 funext : {A B : Type 0} (f g : A → B) → ((x : A) → f x ≡ g x) → f ≡ g
 funext f g same = λ i x. same x i
 
@@ -155,7 +156,7 @@ offline_each k until (e ∷ es) own =
 pub same_offline : (k : Holding) (until : ℕ) → offline (below until (candidates k)) k ≡ taken_offline until k
 same_offline k until = ap (λ (es : List (ℕ × Place)). let h : Holding = record k { places = from_sorted es } in h) (offline_each k until (entries k.places) (own_entries k))
 
--- ALL OF THEM are below a stamp where all candidates are
+-- All entries are handled if all candidates are below the stamp.
 under_each : (k : Holding) (until : ℕ) → ((stamp : ℕ) → is_candidate (place_at k.places stamp) ≡ true → stamp < until) → (es : List (ℕ × Place)) → AllOwn (entries k.places) es → Under until (stamps_in es)
 under_each k until all [] own = tt
 under_each k until all (e ∷ es) own = by (cases_Bool (is_candidate e.1)) (under_each k until all es own.1)

@@ -1,4 +1,5 @@
--- THE OPERATOR'S EVENTS OF ONE COMMIT told so: each refusal an option, and a cut by itself.
+-- The operator's events of one commit, defined in the same way: each refusal as an option, and a failed write
+-- separately.
 use Rattle.std.specs.Prelude.{◌≡◌, ℕ, ◌+◌, ◌-◌, ◌^◌, ◌==◌, ◌↔◌, true, false, not, ◌&&◌, ◌||◌, nat_lt, List, [], ◌∷◌, Option, Some, None, Result, option_map, is_none, is_some}
 use Rattle.std.specs.List.{list_all}
 use Rattle.std.specs.Ordering.{nat_cmp}
@@ -14,18 +15,20 @@ use Rattle.g_store_model.specs.Process.{process_refuses}
 use Rattle.g_store_model.specs.Rising.{FormatStep, RestoreStep, StartStep, adopted, coming_up, dump_adopted, has_none, is_completed, restored, unmounted_reel}
 use Rattle.g_laws_model.specs.Refusals.{Goes, first_of, when}
 
+-- The effect of FORMAT.
 abbrev pub DoesFormat : State → Outcome → Result (Unit {0}) StoreFault → State → Type 0
 DoesFormat s o answer new =
     Goes (first_of (option_map RackNotEmpty (first_reel (λ r. r.used) s.reels) ∷ when (is_disc_read o) DiscReadFault ∷ [])) (is_cut o) tt s []
     (coming_up s (record { tree = formatted; places = empty; last = 0; intent = None; kept = empty })) answer new
 
+-- The effect of START, on what the disc holds.
 abbrev pub DoesStart : State → Option Holding → Outcome → Result (Option ℕ) StoreFault → State → Type 0
 DoesStart s None o answer new = Goes (first_of (when (is_disc_read o) DiscReadFault ∷ Some NoFilestore ∷ [])) (is_cut o) None s [] s answer new
 DoesStart s (Some k) o answer new =
     Goes (first_of (when (is_disc_read o) DiscReadFault ∷ option_map MountFirst (unmounted_reel s k.intent) ∷ when (is_tape_read o) TapeReadFault ∷ []))
     (is_cut o && is_completed s k.intent) (option_map (λ d. d.number) (dump_adopted s k)) s [] (coming_up s (adopted (dump_adopted s k) k)) answer new
 
--- from the reels, of which a dump gives a tree
+-- From the reels, if their last dump gives a tree.
 abbrev pub DoesRestore : State → Dumped → Outcome → Result ℕ StoreFault → State → Type 0
 DoesRestore s d o answer new =
     Goes (first_of (
@@ -36,6 +39,7 @@ DoesRestore s d o answer new =
     ∷ []))
     (is_cut o) d.number s [] (coming_up s (restored d)) answer new
 
+-- Why opening a dump is refused.
 abbrev pub opening_refusal : State → Holding → ℕ → Outcome → Option StoreFault
 opening_refusal s k serial o = first_of (
     when (lacks s serial) NoTape
@@ -46,6 +50,7 @@ opening_refusal s k serial o = first_of (
     ∷ when (nat_lt (tape_room s serial) (dump_needs k)) (TapeFull (dump_needs k) (tape_room s serial))
     ∷ [])
 
+-- The effect of opening a dump.
 abbrev pub DoesOpening : State → Holding → ℕ → Outcome → Result ℕ StoreFault → State → Type 0
 DoesOpening s k serial o answer new =
     let ends = end_of s serial + dump_needs k - 1 in
@@ -53,6 +58,7 @@ DoesOpening s k serial o answer new =
     × (opening_refusal s k serial o ≡ None → is_cut o ≡ false → AreNoted serial (ends - waiting_blocks (waiting k)) ends k places)
     × Goes (opening_refusal s k serial o) (is_cut o) (k.last + 1) s [] (opening s k serial places) answer new
 
+-- The effect of migrating a file.
 abbrev pub DoesMigrate : State → Holding → Option (List ℕ) → Full → Outcome → Result Full StoreFault → State → Type 0
 DoesMigrate s k user full o answer new =
     let place = place_at k.places (stamp_of k.tree full) in
@@ -64,16 +70,17 @@ DoesMigrate s k user full o answer new =
     ∷ []))
     (is_cut o) full s [] (commits s (record k { places = with_online false (stamp_of k.tree full) k.places })) answer new
 
--- a mount and an unmount write nothing, so nothing cuts them
+-- A mount and an unmount write nothing, so no write can fail.
 abbrev pub DoesMount : State → ℕ → Result (Unit {0}) StoreFault → State → Type 0
 DoesMount s serial answer new = Goes (when (lacks s serial) NoTape) false tt s [] (record s { reels = with_reel serial (with_mounted true) s.reels }) answer new
 
+-- The effect of an unmount.
 abbrev pub DoesUnmount : State → ℕ → Result (Unit {0}) StoreFault → State → Type 0
 DoesUnmount s serial answer new =
     Goes (first_of (when (lacks s serial) NoTape ∷ when (not (is_mounted s serial)) NotMounted ∷ when (is_busy serial s.open_dump) TapeBusy ∷ []))
     false tt s [] (record s { reels = with_reel serial (with_mounted false) s.reels }) answer new
 
--- the refusals of PROCESS before the reels are read
+-- The refusals of PROCESS before the reels are read.
 abbrev pub process_refusal : State → Holding → ℕ → Option StoreFault
 process_refusal s k serial = first_of (
     when (lacks s serial) NoTape
@@ -82,7 +89,7 @@ process_refusal s k serial = first_of (
     ∷ when (k.last == 2 ^ 62 - 1) CountersSpent
     ∷ [])
 
--- they are the steps of these events
+-- The steps of these events, and these definitions of them, are equivalent.
 pub record EventsAreSimple : Type 0 where
   pub format : (s : State) (o : Outcome) (answer : Result (Unit {0}) StoreFault) (new : State) → FormatStep s o answer new ↔ DoesFormat s o answer new
   pub start : (s : State) (o : Outcome) (answer : Result (Option ℕ) StoreFault) (new : State) → StartStep s o answer new ↔ DoesStart s s.holding o answer new

@@ -1,4 +1,5 @@
 -- A call is answered, of every state that holds a filestore.
+-- serves: GoesLemmas
 use Rattle.std.proofs.Common.{◌≡◌, ℕ, zero, suc, ◌+◌, ◌<◌, ◌≤◌, ◌==◌, List, [], ◌∷◌, Option, Some, None, refl, sym, ◌∙◌, ap, subst, inl, inr, arith, eqb-true}
 use Rattle.std.specs.Prelude.{◌⊎◌, ◌&&◌, Bool, true, false, cond, nat_lt, not, Ok, Err, MatchOption, is_some, unwrap_or}
 use Rattle.std.proofs.lemmas.Bool.{false≢true}

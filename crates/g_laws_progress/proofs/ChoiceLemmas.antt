@@ -1,12 +1,13 @@
 -- One of some jobs is chosen.
+-- serves: CallLemmas, GoesLemmas, ReadyLemmas
 use Rattle.std.proofs.Common.{◌≡◌, ℕ, zero, suc, ◌<◌, ◌==◌, List, [], ◌∷◌, Bool, true, false, Option, Some, None, map, slice_get, refl, sym, ◌∙◌, ap, subst, inl, inr, arith, eq-eqb}
 use Rattle.std.specs.Prelude.{◌⊎◌, filter, cond}
 use Rattle.std.specs.Fn.{FnReturnsAt, Shared}
 use denote.Ref.{Bor}
 use Rattle.g_job.specs.Beginning.{standing_of}
 use Rattle.g_job.specs.State.{JobState}
-use Rattle.g_sched.specs.Choice.{IsChosen, IsNoLater}
-use Rattle.g_sched.specs.declared.rule.Standing.{Standing}
+use Rattle.g_rules.specs.Choice.{IsChosen, IsNoLater}
+use Rattle.g_rules.specs.declared.rule.Standing.{Standing}
 use Rattle.g_run_model.proofs.CrewLemmas.{numbered}
 
 no_standing : {P : Type 0} (x : Standing) → (let none : Option Standing = None in none ≡ Some x) → P
@@ -27,7 +28,7 @@ order (suc a) (suc b) = by (order a b)
     by (inr (inl same)) = inr (inl (ap suc same))
     by (inr (inr more)) = inr (inr (omega (arith, more)))
 
--- of two, one may go before the other
+-- of two, one may precede the other
 either : (w n w' n' : ℕ) → IsNoLater w n w' n' ⊎ IsNoLater w' n' w n
 either w n w' n' = by (order w w') (order n n')
   where
@@ -48,7 +49,7 @@ module _ {U : Type 0} (rules : Shared U (Bor Standing × Unit {0}) ℕ) (rule : 
   abbrev Answers : Standing → ℕ → Type 0
   Answers standing weight = FnReturnsAt rules rule standing weight
 
-  -- the first goes before all others
+  -- the first precedes all others
   first : (x : Standing) (xs : List Standing) (weight : ℕ) → Answers x weight
       → ((place : ℕ) (y : Standing) → slice_get xs place ≡ Some y → (weight' : ℕ) × Answers y weight' × IsNoLater weight x.number weight' y.number) → IsChosen rules rule (x ∷ xs) 0
   first x xs weight answer rest = record { standing = x; weight = weight; there = refl; weighed = answer; least = least }
@@ -59,7 +60,7 @@ module _ {U : Type 0} (rules : Shared U (Bor Standing × Unit {0}) ℕ) (rule : 
           subst (λ (z : Standing). (weight' : ℕ) × Answers z weight' × IsNoLater weight x.number weight' z.number) same (weight, answer, inr (refl, omega arith))
       least (suc place) y there = rest place y there
 
-  -- or one behind it
+  -- or a later one
   later : (x : Standing) (xs : List Standing) (place weight : ℕ) → Answers x weight → (chosen : IsChosen rules rule xs place) → IsNoLater chosen.weight chosen.standing.number weight x.number → IsChosen rules rule (x ∷ xs) (suc place)
   later x xs place weight answer chosen before = record { standing = chosen.standing; weight = chosen.weight; there = chosen.there; weighed = chosen.weighed; least = least }
     where

@@ -1,12 +1,13 @@
 -- From a ready world there is a next one.
+-- serves: runs_go_on
 use Rattle.std.proofs.Common.{◌≡◌, ℕ, ◌+◌, ◌<◌, List, [], ◌∷◌, Option, Some, None, map, slice_get, refl, sym, ◌∙◌, ap, subst, inl, inr, arith}
 use Rattle.std.specs.Prelude.{◌⊎◌, ◌≢◌, ◌&&◌, not, Bool, true, false, Ok, Result, is_some}
 use Rattle.std.proofs.lemmas.Bool.{false≢true}
 use Rattle.std.specs.Fn.{Shared}
 use denote.Ref.{Bor}
 use Rattle.g_turn.specs.State.{Broken, Done, Full, Stop, Waits, Work}
-use Rattle.g_budget.specs.declared.tariff.Charge.{Charge}
-use Rattle.g_budget.specs.declared.tariff.Usage.{Usage}
+use Rattle.g_rules.specs.declared.tariff.Charge.{Charge}
+use Rattle.g_rules.specs.declared.tariff.Usage.{Usage}
 use Rattle.g_job.specs.Beginning.{standing_of}
 use Rattle.g_job.specs.TurnEnd.{IsPriced, broken, end_by, waited}
 use Rattle.g_job.specs.State.{JobState}
@@ -15,8 +16,8 @@ use Rattle.g_job.specs.declared.turn.Turn.TheVariants as turns
 use Rattle.g_plain.specs.Programs.{Answer, Asks, Call, Gives}
 use Rattle.g_plain.specs.declared.calls.StoreCall.{StoreCall}
 use Rattle.g_plain.specs.declared.faults.StoreFault.{StoreFault}
-use Rattle.g_sched.specs.Choice.{IsChosen}
-use Rattle.g_sched.specs.declared.rule.Standing.{Standing}
+use Rattle.g_rules.specs.Choice.{IsChosen}
+use Rattle.g_rules.specs.declared.rule.Standing.{Standing}
 use Rattle.g_script.specs.declared.operator.Timed.{Timed}
 use Rattle.g_store_model.specs.CallStep.{Cut, DiscRead, Plain}
 use Rattle.g_store_model.specs.DumpSteps.{Completed, DumpStep, Going, Stepped as DumpStepped}
@@ -62,7 +63,7 @@ module _ {F U : Type 0} (tariffs : Shared F (Bor Usage × Unit {0}) Charge) (tar
   holds_by w n job here (inl one) = one
   holds_by w n job here (inr none) = nobody n w.jobs job none here
 
-  -- a turn goes on
+  -- a turn continues
   call_goes : (w : World) (n : ℕ) (call : StoreCall) (more : Answer → Asks Work) → IsReadyWorld w → w.turn ≡ Some (n, Call call more) → Goes w
   call_goes w n call more ready is =
       let (job, here) = ready.turn n (Call call more) is in

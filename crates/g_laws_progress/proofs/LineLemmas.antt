@@ -1,4 +1,5 @@
--- Each line gives something, and leaves what isn't its own.
+-- Each line has an effect, and leaves everything else unchanged.
+-- serves: GoesLemmas, ReadyLemmas
 use Rattle.std.proofs.Common.{◌≡◌, ℕ, ◌+◌, ◌-◌, ◌^◌, ◌==◌, List, [], ◌∷◌, ◌++◌, Option, Some, None, refl, sym, ◌∙◌, subst, inl, inr}
 use Rattle.std.specs.Prelude.{◌⊎◌, Bool, true, false, not, nat_lt, Result, Ok, Err, MatchBool, MatchOption, is_some, codes, if◌then◌else◌}
 use Rattle.std.specs.Fmt.{decimal}
@@ -96,7 +97,7 @@ process_by s k serial None None = (Cut, Err Stopped, down s, (refl, NotYet false
 process_some : (s : State) (k : Holding) (serial : ℕ) → (o : Outcome) × (r : Result ℕ StoreFault) × (new : State) × ProcessStep s k serial o r new × IsTold o r
 process_some s k serial = process_by s k serial (process_refuses s k serial) (process_refuses_late s k serial)
 
--- A LINE gives something, where a system that is up holds a filestore
+-- A LINE gives something, if a system that is up holds a filestore
 abbrev pub GivesSome : Operator → World → Type 0
 GivesSome what w = (o : Outcome) × (new : World) × LineGives o what w new
 

@@ -1,4 +1,5 @@
 -- What holds of every world of a run, so that there is a next one.
+-- serves: GoesLemmas
 use Rattle.std.proofs.Common.{◌≡◌, ℕ, ◌==◌, List, [], ◌∷◌, Option, Some, None, refl, sym, ◌∙◌, ap, subst, inl, inr, find}
 use Rattle.std.specs.Prelude.{◌⊎◌, Bool, true, false, Result, Ok, Err, is_some}
 use Rattle.std.proofs.lemmas.Bool.{false≢true}
@@ -6,14 +7,14 @@ use Rattle.std.proofs.lemmas.Option.{some_pair_parts}
 use Rattle.std.specs.Fn.{Shared}
 use denote.Ref.{Bor}
 use Rattle.g_turn.specs.State.{Work}
-use Rattle.g_budget.specs.declared.tariff.Charge.{Charge}
-use Rattle.g_budget.specs.declared.tariff.Usage.{Usage}
+use Rattle.g_rules.specs.declared.tariff.Charge.{Charge}
+use Rattle.g_rules.specs.declared.tariff.Usage.{Usage}
 use Rattle.g_job.specs.State.{JobState}
 use Rattle.g_job.specs.Turns.{turn_work}
 use Rattle.g_plain.specs.Programs.{Asks}
 use Rattle.g_plain.specs.declared.faults.StoreFault.{StoreFault}
 use Rattle.g_plain.specs.declared.faults.StoreFault.TheVariants.{Stopped}
-use Rattle.g_sched.specs.declared.rule.Standing.{Standing}
+use Rattle.g_rules.specs.declared.rule.Standing.{Standing}
 use Rattle.g_script.specs.declared.operator.Timed.{Timed}
 use Rattle.g_store_model.specs.CallStep.{Outcome, down}
 use Rattle.g_store_model.specs.DumpSteps.{Completed, Event, Going, Stepped as DumpStepped}
@@ -91,7 +92,7 @@ not_stepped p between stepped = let both : Between ≡ Stepped = sym between ∙
 not_turned : {P : Type 0} → Turned ≡ Stepped → P
 not_turned e = absurd (let no : ⊥ = cc in no)
 
--- nobody is found among none
+-- no job is found in an empty list
 pub nobody : {P : Type 0} (n : ℕ) (jobs : List JobState) (job : JobState) → jobs ≡ [] → find (λ j. j.number == n) jobs ≡ Some job → P
 nobody n jobs job none found = no_job job (sym (ap (λ (js : List JobState). find (λ j. j.number == n) js) none) ∙ found)
 
@@ -108,7 +109,7 @@ module _ {F U : Type 0} (tariffs : Shared F (Bor Usage × Unit {0}) Charge) (tar
   held_move : (w new : World) (move : Move) → IsHeld w.store → Step tariffs tariff rules rule w move new → IsHeld new.store
   held_move w new move has step = move_kept KeepsHeld held_kept tariffs tariff rules rule (λ s k d o r after holds there stepped old up. dump_one s k d o r after (ap is_some holds) stepped) w new move step has
 
-  -- no jobs come to a system that holds no filestore
+  -- a system that holds no filestore accepts no jobs
   line_jobs : (w new : World) (tape : Bool) (o : Outcome) → IsReadyWorld w → w.jobs ≡ [] → Step tariffs tariff rules rule w (TakeLine tape o) new → (new.jobs ≡ w.jobs) ⊎ ((new.jobs ≡ []) ⊎ (w.store.up ≡ true))
       → HoldsOne new.store ⊎ (new.jobs ≡ [])
   line_jobs w new tape o ready none step (inl same) = inr (same ∙ none)

@@ -1,4 +1,5 @@
--- A FORMAT over emptied reels: its state is made of nothing that the disc held before.
+-- FORMAT on emptied reels: its state depends on nothing that the disc held before.
+-- serves: lib, crates above
 use Rattle.std.proofs.Common.{◌≡◌, ℕ, List, [], ◌∷◌, ◌++◌, Contains, map, Option, Some, None, refl, sym, ◌∙◌, ap, subst}
 use Rattle.std.specs.Prelude.{All, Bool, true, false, not, cond, nat_lt, option_map, Ok, Result}
 use Rattle.std.specs.List.{AllByRecursion}
@@ -53,7 +54,7 @@ undumped : (text : ℕ → List ℕ) (dumps : List Dump) (t : Option (DumpedDire
 undumped text dumps None is = refl
 undumped text dumps (Some t) is = nobody t.last (subst (λ (ds : List Dump). Contains ds t.last) is t.greatest.there)
 
--- nobody's directory is kept
+-- no user's directory is kept
 none_left : (numbers : List ℕ) (users : List UserRec) → AllByRecursion (λ u. has numbers u.number ≡ true) users → users_not_in numbers users ≡ []
 none_left numbers [] all = refl
 none_left numbers (u ∷ users) all = ap (λ (b : Bool). cond (not b) (u ∷ users_not_in numbers users) (users_not_in numbers users)) all.0 ∙ none_left numbers users all.1

@@ -1,4 +1,5 @@
 -- Whose a failed write is.
+-- serves: tapes_cut_no_call
 use Rattle.std.proofs.Common.{◌≡◌, ◌+◌, List, [], ◌∷◌, refl, sym, ◌∙◌, ap, arith}
 use Rattle.std.specs.Prelude.{◌≢◌, Bool, true, false, cond, filter}
 use Rattle.std.specs.List.{AllByRecursion}

@@ -1,4 +1,5 @@
--- An open dump of which no device fails, move by move.
+-- An open dump during which no device fails, move by move.
+-- serves: undisturbed_dumps_complete (going, needs), crates above
 use Rattle.std.proofs.Common.{◌≡◌, ℕ, ◌+◌, ◌<◌, List, [], ◌∷◌, Option, Some, None, refl, sym, ◌∙◌, ap, subst, inl, inr, arith}
 use Rattle.std.specs.Prelude.{◌≢◌, ◌⊎◌, ◌||◌, Bool, true, false, Result, Ok, Err, MatchOption, option_map, sum_by, if◌then◌else◌}
 use Rattle.std.specs.FinMap.{FinMap}
@@ -8,9 +9,9 @@ use Rattle.std.proofs.lemmas.List.Elements.{recursion_from_All}
 use Rattle.std.proofs.lemmas.List.Sums.{sum_by-cons}
 use Rattle.std.specs.Fn.{Shared}
 use denote.Ref.{Bor}
-use Rattle.g_budget.specs.declared.tariff.Charge.{Charge}
-use Rattle.g_budget.specs.declared.tariff.Usage.{Usage}
-use Rattle.g_sched.specs.declared.rule.Standing.{Standing}
+use Rattle.g_rules.specs.declared.tariff.Charge.{Charge}
+use Rattle.g_rules.specs.declared.tariff.Usage.{Usage}
+use Rattle.g_rules.specs.declared.rule.Standing.{Standing}
 use Rattle.g_plain.specs.PlainStep.{first_fault, reply_to}
 use Rattle.g_plain.specs.declared.calls.StoreCall.{StoreCall}
 use Rattle.g_plain.specs.declared.calls.StoreReply.{StoreReply}
@@ -94,7 +95,7 @@ call_sound s k who call o answer new old step =
     call_kept (λ (x : State). IsSound x) s k who call old (sound_none (down s) refl) (λ until. sound_none (down (after_unjam s k who call until)) refl) (λ until. after_sound s k who call until old)
     (λ until. sound_none (down (after_call s k who call until)) refl) o answer new step
 
--- a PROCESS leaves an open dump as it was, or, where it stops, none
+-- PROCESS leaves an open dump unchanged, or, if it stops, none
 process_sound : (s : State) (k : Holding) (serial : ℕ) (o : Outcome) (r : Result ℕ StoreFault) (new : State) → IsSound s → ProcessStep s k serial o r new → IsSound new
 process_sound s k serial o r new old step =
     of_each IsSound s k serial
@@ -135,7 +136,7 @@ dump_sound s k d o (Err Stopped) new up (cut, inr (last, inl is)) = sound_none n
 dump_sound s k d o (Err Stopped) new up (cut, inr (last, inr is)) = sound_none new (ap (λ (x : State). x.open_dump) is)
 dump_sound s k d o (Err fault) new up step = absurd step
 
--- IN AN EVENT IN WHICH NO DEVICE FAILED an open dump stays as it is
+-- in an event in which no device failed an open dump is unchanged
 pub record GoesOn (d : OpenDump) (s : State) : Type 0 where
   pub up : s.up ≡ true
   pub open_dump : OpenDump
@@ -257,7 +258,7 @@ kind Ticked = inr tt
 kind Over = inr tt
 
 module _ {F U : Type 0} (tariffs : Shared F (Bor Usage × Unit {0}) Charge) (tariff : F) (rules : Shared U (Bor Standing × Unit {0}) ℕ) (rule : U) where
-  -- a dump is open of a system that is up alone, all along a run
+  -- a dump is open only while the system is up, throughout a run
   pub sound_move : (w new : World) (move : Move) → IsSound w.store → Step tariffs tariff rules rule w move new → IsSound new.store
   sound_move w new move sound step =
       move_kept KeepsSound sound_kept tariffs tariff rules rule (λ s k d o r after holds there stepped old. dump_sound s k d o r after (old d there).0 stepped) w new move step sound
@@ -269,7 +270,7 @@ module _ {F U : Type 0} (tariffs : Shared F (Bor Usage × Unit {0}) Charge) (tar
   abbrev Ends : World → OpenDump → List Move → World → Type 0
   Ends w d moves last = IsOpenAt d (sum_by dump_steps moves + d.done) last.store ⊎ Completes tariffs tariff rules rule w d moves last
 
-  -- of the rest of the moves, from a dump that is the same or has come a step further
+  -- for the rest of the moves, from a dump that is the same or has advanced by a step
   abbrev Rest : World → List Move → World → Type 0
   Rest mid moves last = (e : OpenDump) → mid.store.up ≡ true → mid.store.open_dump ≡ Some e → e.done < e.needs → Ends mid e moves last
 

@@ -1,13 +1,14 @@
 -- An open dump, move by move.
+-- serves: dumps_take_their_needs, open_dumps_stay, CompleteLemmas
 use Rattle.std.proofs.Common.{◌≡◌, ℕ, ◌+◌, ◌≤◌, ◌<◌, List, [], ◌∷◌, Option, Some, None, refl, sym, ◌∙◌, ap, subst, inl, inr, arith}
 use Rattle.std.specs.Prelude.{◌⊎◌, ◌-◌, ◌^◌, ◌==◌, ◌||◌, Bool, true, false, not, nat_lt, Result, Err, MatchBool, if◌then◌else◌, is_some, option_map, sum_by, codes, ◌++◌}
 use Rattle.std.proofs.lemmas.List.Sums.{sum_by-cons}
 use Rattle.std.specs.Fmt.{decimal}
 use Rattle.std.specs.Fn.{Shared}
 use denote.Ref.{Bor}
-use Rattle.g_budget.specs.declared.tariff.Charge.{Charge}
-use Rattle.g_budget.specs.declared.tariff.Usage.{Usage}
-use Rattle.g_sched.specs.declared.rule.Standing.{Standing}
+use Rattle.g_rules.specs.declared.tariff.Charge.{Charge}
+use Rattle.g_rules.specs.declared.tariff.Usage.{Usage}
+use Rattle.g_rules.specs.declared.rule.Standing.{Standing}
 use Rattle.g_monitor.specs.Parts.{full_text}
 use Rattle.g_plain.specs.declared.calls.StoreCall.{StoreCall}
 use Rattle.g_plain.specs.declared.calls.StoreReply.{StoreReply}
@@ -85,7 +86,7 @@ module _ (d : OpenDump) where
       third_true (lacks s serial) (not (is_mounted s serial)) NoTape NotMounted (DumpOpen (open_number s.open_dump)) rest
       (subst (λ (b : Bool). first_fault ((lacks s serial, NoTape) ∷ (not (is_mounted s serial), NotMounted) ∷ (b, DumpOpen (open_number s.open_dump)) ∷ rest) ≡ None) (ap is_some opened) none)
 
-  -- behind a line that asked the store, and left it at s
+  -- after a line that called the store, and left it at s
   told : (w new v : World) (s : State) → new ≡ v → v.store ≡ s → StaysOrGoes d s.open_dump → StaysOrGoes d new.store.open_dump
   told w new v s is same it = at_state s new.store (ap (λ (x : World). x.store) is ∙ same) it
 

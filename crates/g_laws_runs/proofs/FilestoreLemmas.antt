@@ -1,4 +1,5 @@
 -- What a store holds, event by event.
+-- serves: filestores_stay (devices, states), crates above
 use Rattle.std.proofs.Common.{◌≡◌, ℕ, List, [], ◌∷◌, Option, Some, None, refl, sym, ◌∙◌, ap, subst, inl, inr}
 use Rattle.std.specs.Prelude.{◌⊎◌, ◌||◌, Bool, true, false, Result, Ok, Err, option_map, is_some, if◌then◌else◌}
 use Rattle.std.proofs.lemmas.Bool.{false≢true}
@@ -6,9 +7,9 @@ use Rattle.std.specs.FinMap.{FinMap}
 use Rattle.std.specs.Fn.{Shared}
 use Rattle.std.specs.Ordering.{nat_cmp}
 use denote.Ref.{Bor}
-use Rattle.g_budget.specs.declared.tariff.Charge.{Charge}
-use Rattle.g_budget.specs.declared.tariff.Usage.{Usage}
-use Rattle.g_sched.specs.declared.rule.Standing.{Standing}
+use Rattle.g_rules.specs.declared.tariff.Charge.{Charge}
+use Rattle.g_rules.specs.declared.tariff.Usage.{Usage}
+use Rattle.g_rules.specs.declared.rule.Standing.{Standing}
 use Rattle.g_disc_contents.specs.Contents.{Contents}
 use Rattle.g_plain.specs.declared.calls.StoreCall.{StoreCall}
 use Rattle.g_plain.specs.declared.calls.StoreReply.{StoreReply}
@@ -110,7 +111,7 @@ dump_one s k d o (Err Stopped) new old (cut, inr (last, inl is)) = ap (λ (x : S
 dump_one s k d o (Err Stopped) new old (cut, inr (last, inr is)) = ap (λ (x : State). is_some x.holding) is
 dump_one s k d o (Err fault) new old step = absurd step
 
--- devices that stand for a state have a filestore just where it holds one
+-- devices that represent a state have a filestore if and only if it holds one
 pub state_holds : (d : Devices) (s : State) → StandFor d s → HasFilestore d → HoldsOne s
 state_holds d s stand has = ap (λ (x : State). is_some x.holding) stand.is ∙ by stand.contents stand.disc
   where

@@ -1,4 +1,5 @@
--- That devices have a state, new ones one without a filestore.
+-- Devices have a state, new ones a state without a filestore.
+-- serves: devices_have_one_state (emptied, new, some), AnewLemmas, crates above
 use Rattle.std.proofs.Common.{◌≡◌, ℕ, zero, suc, ◌+◌, List, [], ◌∷◌, Contains, map, Option, Some, None, refl, sym, ◌∙◌, ap, subst, arith}
 use Rattle.std.specs.Prelude.{All, true, IfSome, drop, is_some, option_map, replicate, slice_get, take}
 use Rattle.std.specs.List.{AllByRecursion}
@@ -88,7 +89,7 @@ racked labels m empty =
 told_empty : (labels : List (ℕ × ℕ)) (m : Memory) → IsEmptyRack labels m → All IsEmptyReel (told_reels m.rack)
 told_empty labels m empty = All-from_recursion IsEmptyReel (told_reels m.rack) (unread_empty m.rack.reels (recursion_from_All IsEmptyReel m.rack.reels (racked labels m empty)))
 
--- no dump stands on them
+-- they have no dump
 drop_none : (n : ℕ) → drop n (let none : List (List ℕ) = [] in none) ≡ []
 drop_none zero = refl
 drop_none (suc n) = refl

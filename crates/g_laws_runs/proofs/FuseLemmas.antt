@@ -1,4 +1,5 @@
--- What a device's fuse is behind the lines that armed it.
+-- The fuse of a device after the lines that armed it.
+-- serves: lib
 use Rattle.std.proofs.Common.{◌≡◌, ◌⊎◌, ◌+◌, ◌-◌, ◌^◌, ◌<◌, ◌≤◌, ℕ, Bool, if◌then◌else◌, List, [], ◌∷◌, ◌++◌, Option, Some, None, refl, sym, ◌∙◌, ap, subst, inl, inr, arith}
 use Rattle.std.proofs.lemmas.Bool.{cases_lt, lt-ltb}
 use Rattle.g_base.specs.Counts.{Rose}

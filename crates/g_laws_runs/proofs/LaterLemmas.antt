@@ -1,11 +1,12 @@
--- A START behind any move, and in a later run.
+-- START after any move, and in a later run.
+-- serves: devices_have_one_state (one), later_runs_keep_the_tree, start_is_behind_any_move
 use Rattle.std.proofs.Common.{◌≡◌, ℕ, Option, Some, None, option_map, refl, ◌∙◌, ap, inl, inr}
 use Rattle.std.specs.Prelude.{◌⊎◌}
 use Rattle.std.specs.Fn.{Shared}
 use denote.Ref.{Bor}
-use Rattle.g_budget.specs.declared.tariff.Charge.{Charge}
-use Rattle.g_budget.specs.declared.tariff.Usage.{Usage}
-use Rattle.g_sched.specs.declared.rule.Standing.{Standing}
+use Rattle.g_rules.specs.declared.tariff.Charge.{Charge}
+use Rattle.g_rules.specs.declared.tariff.Usage.{Usage}
+use Rattle.g_rules.specs.declared.rule.Standing.{Standing}
 use Rattle.g_store_meaning.specs.Meaning.{told_reels}
 use Rattle.g_store_meaning.specs.OneState.{DevicesAreOne}
 use Rattle.g_store_model.specs.CallStep.{down, no_longer_kept}
@@ -18,7 +19,7 @@ use Rattle.g_laws_runs.specs.NewDevices.{StatesAreOne}
 use Rattle.g_laws_runs.specs.LaterRuns.{LaterRunsKeep, StartIsBehind}
 use Rattle.g_laws_runs.proofs.RefusedLemmas.{keeping}
 
--- a store that goes down keeps its tree
+-- a store that goes down has the same tree
 tree_down : (h : Option Holding) → option_map (λ (k : Holding). k.tree) (option_map no_longer_kept h) ≡ option_map (λ (k : Holding). k.tree) h
 tree_down None = refl
 tree_down (Some k) = refl

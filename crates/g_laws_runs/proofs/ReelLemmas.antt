@@ -1,13 +1,14 @@
 -- The reels of a rack, move by move.
+-- serves: completed_dumps_stay, process_leaves_lists
 use Rattle.std.proofs.Common.{◌≡◌, ℕ, ◌+◌, ◌≤◌, List, [], ◌∷◌, ◌++◌, Option, Some, None, refl, sym, ◌∙◌, ap, subst, inl, inr, arith, append-nil, append_assoc, length, length-append}
 use Rattle.std.specs.Prelude.{not, ◌==◌, ◌||◌, Bool, true, false, Result, Ok, Err, MatchBool, MatchOption, if◌then◌else◌, sum_by, codes, ◌⊎◌}
 use Rattle.std.proofs.lemmas.List.Sums.{sum_by-cons}
 use Rattle.std.specs.Fmt.{decimal}
 use Rattle.std.specs.Fn.{Shared}
 use denote.Ref.{Bor}
-use Rattle.g_budget.specs.declared.tariff.Charge.{Charge}
-use Rattle.g_budget.specs.declared.tariff.Usage.{Usage}
-use Rattle.g_sched.specs.declared.rule.Standing.{Standing}
+use Rattle.g_rules.specs.declared.tariff.Charge.{Charge}
+use Rattle.g_rules.specs.declared.tariff.Usage.{Usage}
+use Rattle.g_rules.specs.declared.rule.Standing.{Standing}
 use Rattle.g_monitor.specs.Parts.{full_text}
 use Rattle.g_plain.specs.declared.calls.StoreCall.{StoreCall}
 use Rattle.g_plain.specs.declared.calls.StoreReply.{StoreReply}
@@ -36,7 +37,7 @@ use Rattle.std.proofs.lemmas.Bool.{false≢true}
 use Rattle.g_script.specs.declared.operator.Timed.{Timed}
 use Rattle.g_run_model.proofs.StepLemmas.{call_kept}
 
--- a reel that is as it was, or was mounted, unmounted or written
+-- a reel that is unchanged, or was mounted, unmounted or written
 row_same : (n : ℕ) (r q : ReelRow) → q.serial ≡ r.serial → q.capacity ≡ r.capacity → q.dumps ≡ r.dumps → IsGrown n r q
 row_same n r q serial capacity dumps = record { serial = serial; capacity = capacity; more = []; dumps = dumps ∙ sym (append-nil r.dumps); few = omega arith }
 
@@ -112,7 +113,7 @@ restore_grows : (s : State) (f : Option StoreFault) (o : Outcome) (r : Result �
 restore_grows s None o r new step = restores_grow s s.dumped o r new step
 restore_grows s (Some fault) o r new (err, is) = still 0 s new (ap (λ (x : State). x.reels) is)
 
--- of the world's store behind a line
+-- for the world's store after a line
 told : (w new v : World) (s : State) → new ≡ v → v.store ≡ s → Grows 0 w.store s → Grows 0 w.store new.store
 told w new v s is same it = at_state 0 w.store s new.store (ap (λ (x : World). x.store) is ∙ same) it
 

@@ -1,12 +1,13 @@
 -- What a line that is refused while the system is down leaves.
+-- serves: refused_lines_leave_the_tree, start_still_has_the_tree, CompleteLemmas, LaterLemmas
 use Rattle.std.proofs.Common.{◌≡◌, ℕ, List, [], ◌∷◌, Option, Some, None, refl, sym, ◌∙◌, ap, inl, inr}
 use Rattle.std.specs.Prelude.{not, ◌≢◌, ◌⊎◌, Bool, true, false, Result, Err, MatchBool, MatchOption, if◌then◌else◌, codes, ◌++◌}
 use Rattle.std.specs.Fmt.{decimal}
 use Rattle.std.specs.Fn.{Shared}
 use denote.Ref.{Bor}
-use Rattle.g_budget.specs.declared.tariff.Charge.{Charge}
-use Rattle.g_budget.specs.declared.tariff.Usage.{Usage}
-use Rattle.g_sched.specs.declared.rule.Standing.{Standing}
+use Rattle.g_rules.specs.declared.tariff.Charge.{Charge}
+use Rattle.g_rules.specs.declared.tariff.Usage.{Usage}
+use Rattle.g_rules.specs.declared.rule.Standing.{Standing}
 use Rattle.g_plain.specs.declared.faults.StoreFault.{StoreFault}
 use Rattle.g_plain.specs.declared.faults.StoreFault.TheVariants.{Running, Stopped}
 use Rattle.g_script.specs.declared.operator.Operator.{Operator}
@@ -26,7 +27,7 @@ use Rattle.g_run_model.proofs.EventToldLemmas.{ToldBy, format_told, restore_told
 use Rattle.g_run_model.proofs.TreeLemmas.{either_first, either_still, told_up}
 use Rattle.g_laws_runs.specs.RefusedLines.{KeepsTree, RefusedLinesLeave, RunKeeping, StartStillHasTheTree}
 
--- an answer that is told isn't a stop where no write failed
+-- an answer with its outcome isn't a stop if no write failed
 pub unstopped : {A : Type 0} (By : Outcome → Result A StoreFault → State → Type 0) (o : Outcome) (r : Result A StoreFault) (new : State) → ToldBy By o r new → o ≢ Cut → r ≢ Err Stopped
 unstopped By o r new (told, step, tells_so, inl same) whole stop = whole (sym same ∙ tells_so.cut stop)
 unstopped By o r new (told, step, tells_so, inr plain) whole stop = let is_cut = tells_so.cut stop in let no : ⊥ = cc in no
@@ -61,7 +62,7 @@ rises_low Does said o w new low leaves false e (r, s, (does, says_so), is) =
     let at_s : new.store ≡ s = ap (λ (x : World). x.store) is ∙ told_up said r s w in
     ap tree_in at_s ∙ leaves r s (sym (ap (λ (x : State). x.up) at_s) ∙ low) does
 
--- a line that leaves the tree, or puts its own there, and isn't one of the two that may put another
+-- a line that leaves the tree, or installs its own, and isn't one of the two that may install another
 line_low : (o : Outcome) (what : Operator) (w new : World) → w.store.up ≡ false → new.store.up ≡ false → o ≢ Cut → LineGives o what w new
     → (tree_in new.store ≡ tree_in w.store) ⊎ (tree_in new.store ≡ tree_by_line what w.store) → tree_in new.store ≡ tree_in w.store
 line_low o line.Format w new was low whole gives both =

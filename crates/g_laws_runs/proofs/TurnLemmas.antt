@@ -1,4 +1,5 @@
 -- A turn, from its beginning to its end, on one tree.
+-- serves: turns_print_plainly
 use Rattle.std.proofs.Common.{◌≡◌, ℕ, List, [], ◌∷◌, Option, Some, None, refl, sym, ◌∙◌, ap, subst}
 use Rattle.std.proofs.lemmas.Bool.{false≢true}
 use Rattle.std.proofs.lemmas.List.Elements.{recursion_from_All}
@@ -8,8 +9,8 @@ use Rattle.std.specs.Prelude.{false}
 use Rattle.std.specs.Fn.{Shared}
 use denote.Ref.{Bor}
 use Rattle.g_turn.specs.State.{Work}
-use Rattle.g_budget.specs.declared.tariff.Charge.{Charge}
-use Rattle.g_budget.specs.declared.tariff.Usage.{Usage}
+use Rattle.g_rules.specs.declared.tariff.Charge.{Charge}
+use Rattle.g_rules.specs.declared.tariff.Usage.{Usage}
 use Rattle.g_job.specs.TurnEnd.{IsPriced, turn_end}
 use Rattle.g_job.specs.State.{JobState}
 use Rattle.g_job.specs.Turns.{turn_work}
@@ -17,7 +18,7 @@ use Rattle.g_job.specs.declared.turn.Turn.{Turn}
 use Rattle.g_plain.specs.Programs.{Asks, Call, Gives}
 use Rattle.g_plain.specs.PlainTree.{Tree}
 use Rattle.g_plain.specs.PlainAnswers.{PlainOrDevice, RanPlainly}
-use Rattle.g_sched.specs.declared.rule.Standing.{Standing}
+use Rattle.g_rules.specs.declared.rule.Standing.{Standing}
 use Rattle.g_store_model.specs.CallStep.{Outcome}
 use Rattle.g_store_model.specs.Laws.{AnswersPlainly, RefusalsKeep, StopsLeave}
 use Rattle.g_store_model.specs.State.{State}
@@ -92,7 +93,7 @@ module _ {F U : Type 0} (tariffs : Shared F (Bor Usage × Unit {0}) Charge) (tar
       }
 
   module _ (plainly : AnswersPlainly) (keep : RefusalsKeep) (stops : StopsLeave) where
-    -- the rest of the moves, whatever is left of the program then
+    -- the rest of the moves, for any rest of the program
     abbrev Rest : ℕ → JobState → World → World → ℕ → Option Charge → World → Type 0
     Rest number job mid before ended charge new =
         (tree : Tree) (asks : Asks Work) → mid.turn ≡ Some (number, asks) → job_of mid number ≡ Some job → tree_of mid.store ≡ Some tree → RestOf job tree number asks ended charge mid before new
@@ -117,7 +118,7 @@ module _ {F U : Type 0} (tariffs : Shared F (Bor Usage × Unit {0}) Charge) (tar
           kept = behind_made w mid before s (Some (asker, more answer)) w.phase made r.kept;
         }
 
-    -- no other move comes within a turn
+    -- no other move occurs within a turn
     one_within : (job : JobState) (tree : Tree) (number : ℕ) (asks : Asks Work) (ended : ℕ) (charge : Option Charge) (move : Move) (w mid before new : World) → w.turn ≡ Some (number, asks) → job_of w number ≡ Some job
         → tree_of w.store ≡ Some tree → IsWithin move → Step tariffs tariff rules rule w move mid → Rest number job mid before ended charge new → RestOf job tree number asks ended charge w before new
     one_within job tree number asks ended charge (TakeLine tape o) w mid before new turn_is here there within (line, others, lines, between, idle, due, is_tape, gives) rest = idle_turn w.turn (number, asks) turn_is idle

@@ -1,12 +1,13 @@
--- What every event of the store keeps, by its outcome, every move of a run keeps.
+-- What every event of the store preserves, by its outcome, every move of a run preserves.
+-- serves: CompleteLemmas, FilestoreLemmas, LostLemmas, crates above
 use Rattle.std.proofs.Common.{◌≡◌, ℕ, List, [], ◌++◌, Option, Some, None, refl, sym, ◌∙◌, ap, subst}
 use Rattle.std.specs.Prelude.{if◌then◌else◌, not, Bool, true, false, Result, MatchBool, codes}
 use Rattle.std.specs.Fmt.{decimal}
 use Rattle.std.specs.Fn.{Shared}
 use denote.Ref.{Bor}
-use Rattle.g_budget.specs.declared.tariff.Charge.{Charge}
-use Rattle.g_budget.specs.declared.tariff.Usage.{Usage}
-use Rattle.g_sched.specs.declared.rule.Standing.{Standing}
+use Rattle.g_rules.specs.declared.tariff.Charge.{Charge}
+use Rattle.g_rules.specs.declared.tariff.Usage.{Usage}
+use Rattle.g_rules.specs.declared.rule.Standing.{Standing}
 use Rattle.g_job.specs.Terminal.{logged_out, typed_to}
 use Rattle.g_monitor.specs.Parts.{full_text}
 use Rattle.g_name.specs.declared.full.Full.{Full}
@@ -29,7 +30,7 @@ use Rattle.g_run_model.specs.Texts.{dump_text, processed_text, started_text, tap
 use Rattle.g_run_model.specs.World.{World, shows}
 use Rattle.g_run_model.proofs.TreeLemmas.{dump_store, job_by, login_by, told_stands, told_up, turn_store, typed_by}
 
--- what is kept between a state and the next, at each event but a step of the open dump
+-- what is preserved between a state and the next, in each event except a step of the open dump
 pub record AreKept (K : Outcome → State → State → Type 0) : Type 0 where
   pub itself : (s : State) → K Plain s s
   pub format : (s : State) (o : Outcome) (r : Result (Unit {0}) StoreFault) (new : State) → s.up ≡ false → FormatStep s o r new → IsTold o r → K o s new
@@ -50,7 +51,7 @@ IsQuiet (Dumped o) = ⊥
 IsQuiet move = Unit {0}
 
 module _ (K : Outcome → State → State → Type 0) (kept : AreKept K) where
-  -- of the world's store behind an event that left it at s
+  -- for the world's store after an event that left it at s
   told : (o : Outcome) (w new v : World) (s : State) → new ≡ v → v.store ≡ s → K o w.store s → K o w.store new.store
   told o w new v s is same it = subst (λ (x : State). K o w.store x) (sym (ap (λ (x : World). x.store) is ∙ same)) it
 
@@ -120,7 +121,7 @@ module _ (K : Outcome → State → State → Type 0) (kept : AreKept K) where
     quiet_kept w new Ticked quiet (idle, phase, is) = still Plain w new _ refl is refl
     quiet_kept w new Over quiet (between, idle, lines, nothing, over, is) = still Plain w new _ refl is refl
 
-    -- ANY MOVE, where a step of the open dump keeps it too
+    -- ANY MOVE, if a step of the open dump keeps it too
     pub move_kept : ((s : State) (k : Holding) (d : OpenDump) (o : Outcome) (r : Result Stepped StoreFault) (new : State) → s.holding ≡ Some k → s.open_dump ≡ Some d → DumpStep s k d o r new → K o s new)
         → (w new : World) (move : Move) → Step tariffs tariff rules rule w move new → K (outcome_of move) w.store new.store
     move_kept dumped w new (Dumped o) step =

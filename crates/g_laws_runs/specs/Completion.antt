@@ -1,10 +1,10 @@
--- A DUMP THAT NOTHING DISTURBS COMPLETES: it goes on by one step at a time, and with the last one that it needs its tree is the dumped one.
+-- An undisturbed dump completes: it progresses by one step at a time, and with the last step its tree is the dumped one.
 use Rattle.std.specs.Prelude.{◌≡◌, ◌⊎◌, ℕ, ◌+◌, ◌<◌, ◌≤◌, true, List, ◌∷◌, ◌++◌, All, Option, Some, None, sum_by}
 use Rattle.std.specs.Fn.{Shared}
 use denote.Ref.{Bor}
-use Rattle.g_budget.specs.declared.tariff.Charge.{Charge}
-use Rattle.g_budget.specs.declared.tariff.Usage.{Usage}
-use Rattle.g_sched.specs.declared.rule.Standing.{Standing}
+use Rattle.g_rules.specs.declared.tariff.Charge.{Charge}
+use Rattle.g_rules.specs.declared.tariff.Usage.{Usage}
+use Rattle.g_rules.specs.declared.rule.Standing.{Standing}
 use Rattle.g_script.specs.declared.operator.Timed.{Timed}
 use Rattle.g_store_model.specs.CallStep.{Plain}
 use Rattle.g_store_model.specs.State.{Dumped as DumpedTree, OpenDump, State}
@@ -13,7 +13,7 @@ use Rattle.g_run_model.specs.Moves.{Dumped, Move, Run, Step}
 use Rattle.g_run_model.specs.World.{World, start}
 use Rattle.g_laws_runs.specs.Dumps.{dump_steps}
 
--- the dump is open, so many of its steps are done, and one is left at least
+-- The dump is open, this many of its steps are done, and at least one is left.
 pub record IsOpenAt (d : OpenDump) (done : ℕ) (s : State) : Type 0 where
   pub up : s.up ≡ true
   pub open_dump : OpenDump
@@ -24,7 +24,7 @@ pub record IsOpenAt (d : OpenDump) (done : ℕ) (s : State) : Type 0 where
   pub tree : open_dump.tree ≡ d.tree
   pub left : done < d.needs
 
--- it is completed: what is dumped is the tree on which it opened, under its number
+-- The dump is completed: the dumped tree is the one on which it opened, under its number.
 pub record IsCompleted (d : OpenDump) (s : State) : Type 0 where
   pub closed : s.open_dump ≡ None
   pub dumped : DumpedTree
@@ -33,7 +33,7 @@ pub record IsCompleted (d : OpenDump) (s : State) : Type 0 where
   pub tree : dumped.tree ≡ d.tree
 
 module _ {F U : Type 0} (tariffs : Shared F (Bor Usage × Unit {0}) Charge) (tariff : F) (rules : Shared U (Bor Standing × Unit {0}) ℕ) (rule : U) where
-  -- one of these moves completed it, the last step that it needed
+  -- one of these moves completed the dump, with its last step
   pub record Completes (w : World) (d : OpenDump) (moves : List Move) (last : World) : Type 0 where
     pub front : List Move
     pub back : List Move
@@ -46,14 +46,14 @@ module _ {F U : Type 0} (tariffs : Shared F (Bor Usage × Unit {0}) Charge) (tar
     pub steps : sum_by dump_steps front + d.done + 1 ≡ d.needs
     pub completed : IsCompleted d behind.store
 
-  -- From a world of any run in which a dump is open: behind moves in which no device failed it is open, with the steps of these moves done, or
-  -- one of them completed it.
+  -- For a world of any run in which a dump is open: after moves in which no device failed it is open, with the steps of
+  -- these moves done, or one of them completed it.
   abbrev pub DumpsGoOn : Type 0
   DumpsGoOn = (lines : List Timed) (bad : Option ℕ) (s : State) (front moves : List Move) (w last : World) (d : OpenDump) → s.open_dump ≡ None
       → Run tariffs tariff rules rule (start lines bad s) front w → w.store.open_dump ≡ Some d → Run tariffs tariff rules rule w moves last → All IsPlain moves
       → IsOpenAt d (sum_by dump_steps moves + d.done) last.store ⊎ Completes w d moves last
 
-  -- "Once a dump is open, its needs in steps without a failure complete it"
+  -- once a dump is open, it is completed by as many steps without a failure as it needs
   abbrev pub DumpsComplete : Type 0
   DumpsComplete = (lines : List Timed) (bad : Option ℕ) (s : State) (front moves : List Move) (w last : World) (d : OpenDump) → s.open_dump ≡ None
       → Run tariffs tariff rules rule (start lines bad s) front w → w.store.open_dump ≡ Some d → Run tariffs tariff rules rule w moves last → All IsPlain moves

@@ -1,11 +1,11 @@
--- A WHOLE RUN ON ONE TREE: each call of each job is answered of the tree that the moves before it left, and no other move changes it but a
--- FORMAT and a RESTORE.
+-- A whole run on one tree: each call of each job is answered for the tree that the moves before it left, and no other move
+-- changes it except FORMAT and RESTORE.
 use Rattle.std.specs.Prelude.{◌≡◌, ◌⊎◌, ℕ, List, [], ◌∷◌, Option, Some}
 use Rattle.std.specs.Fn.{Shared}
 use denote.Ref.{Bor}
-use Rattle.g_budget.specs.declared.tariff.Charge.{Charge}
-use Rattle.g_budget.specs.declared.tariff.Usage.{Usage}
-use Rattle.g_sched.specs.declared.rule.Standing.{Standing}
+use Rattle.g_rules.specs.declared.tariff.Charge.{Charge}
+use Rattle.g_rules.specs.declared.tariff.Usage.{Usage}
+use Rattle.g_rules.specs.declared.rule.Standing.{Standing}
 use Rattle.g_turn.specs.State.{Work}
 use Rattle.g_job.specs.State.{JobState}
 use Rattle.g_plain.specs.Programs.{Answer, Asks, Call}
@@ -17,8 +17,8 @@ use Rattle.g_run_model.specs.Laws.{tree_behind}
 use Rattle.g_run_model.specs.Moves.{Answered, Begin, Dumped, Move, Over, Run, Step, TakeLine, Ticked, TurnOver}
 use Rattle.g_run_model.specs.World.{World, job_of}
 
--- A call was answered, of this tree, as the plain tree answers it, or with a wait, a refusal of a device, or a stop; the job goes on with
--- that answer.
+-- A call was answered, for this tree, as the plain tree answers it, or with a wait, a device error, or a stop; the job
+-- continues with that answer.
 pub record IsAnsweredOn (tree : Option Tree) (w : World) (after : Option Tree) (new : World) : Type 0 where
   pub before : Tree
   pub behind : Tree
@@ -34,7 +34,7 @@ pub record IsAnsweredOn (tree : Option Tree) (w : World) (after : Option Tree) (
   pub plain : PlainOrDevice before job.user call answer behind
   pub goes_on : new.turn ≡ Some (number, more answer)
 
--- what a move makes of the tree: a line leaves it, or, FORMAT and RESTORE alone, puts its own there
+-- What a move does to the tree: a line leaves it unchanged, or installs its own, as FORMAT and RESTORE do.
 abbrev pub MovesOn : Move → Option Tree → World → Option Tree → World → Type 0
 MovesOn (TakeLine tape o) tree w after new = (after ≡ tree) ⊎ (after ≡ tree_behind w (TakeLine tape o))
 MovesOn (Dumped o) tree w after new = after ≡ tree
@@ -45,12 +45,12 @@ MovesOn Ticked tree w after new = after ≡ tree
 MovesOn Over tree w after new = after ≡ tree
 
 module _ {F U : Type 0} (tariffs : Shared F (Bor Usage × Unit {0}) Charge) (tariff : F) (rules : Shared U (Bor Standing × Unit {0}) ℕ) (rule : U) where
-  -- the moves of a run, one behind the other on the tree that the one before has left
+  -- the moves of a run, each on the tree that its predecessor has left
   abbrev pub RunOn : Option Tree → World → List Move → Option Tree → World → Type 0
   RunOn tree w [] after new = (new ≡ w) × (after ≡ tree)
   RunOn tree w (move ∷ moves) after new =
       (mid : World) × (between : Option Tree) × Step tariffs tariff rules rule w move mid × MovesOn move tree w between mid × RunOn between mid moves after new
 
-  -- EVERY RUN is one on the tree that the store has when it begins
+  -- every run is one on the tree that the store has when it begins
   abbrev pub RunsOnOneTree : Type 0
   RunsOnOneTree = (w last : World) (moves : List Move) → Run tariffs tariff rules rule w moves last → RunOn (tree_of w.store) w moves (tree_of last.store) last

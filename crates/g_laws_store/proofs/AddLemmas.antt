@@ -1,4 +1,5 @@
--- The step of a call that makes a user, or sets a budget.
+-- The step of a call that creates a user, or sets a budget.
+-- serves: CallLemmas
 use Rattle.std.proofs.Common.{◌≡◌, ℕ, ◌<◌, Bool, true, false, cond, List, [], ◌∷◌, ◌++◌, get_or, length, set, Option, Some, None, is_some, refl, sym, ◌∙◌, ap, inl, inr}
 use Rattle.std.specs.Prelude.{◌⊎◌, ◌||◌, filter, map, not, slice_get, slice_set}
 use Rattle.std.specs.List.{list_any}
@@ -49,7 +50,7 @@ or_false : (b : Bool) → (b || false) ≡ b
 or_false true = refl
 or_false false = refl
 
--- a name among those of a list and one more, where it isn't the last one's
+-- a name among those of a list and one more, if it isn't the last one's
 any_more : (q : List ℕ) (test : UserRec → Bool) (users : List UserRec) (u : UserRec) → called q u ≡ false
     → list_any (called q) (filter test (users ++ u ∷ [])) ≡ list_any (called q) (filter test users)
 any_more q test users u isnt =

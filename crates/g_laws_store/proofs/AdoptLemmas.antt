@@ -1,4 +1,5 @@
 -- What a start would adopt, at the opening of a dump.
+-- serves: StandLemmas
 use Rattle.std.proofs.Common.{◌≡◌, ℕ, ◌<◌, ◌≤◌, Bool, true, false, List, get_or, length, Option, Some, None, is_some, unwrap_or, refl, sym, ◌∙◌, ap, arith, subst, inl, inr}
 use Rattle.std.specs.Prelude.{◌⊎◌, ◌==◌, ◌&&◌, Contains, filter, is_none, map, nat_lt, if◌then◌else◌}
 use Rattle.std.specs.List.{list_any}
@@ -77,7 +78,7 @@ module _ (v : View) (s : StoreFacts) (plan : Plan) (pins : List Pin) (content : 
         both_ways (state.is_in (held_in v s.online).kept full.user) (ap (λ (n : Full). state.is_in (held_in v s.online).kept n.user) (sym named_r) ∙ never_kept r in_r waits_it) is_kept));
   }
 
--- THE COPIES at the opening, by the state alone
+-- the copies at the opening, from the state only
 with_tape : Option TapeCopy → state.Place → state.Place
 with_tape o p = record p { copy = o }
 
@@ -162,7 +163,7 @@ module _ (k : state.Holding) (serial from to : ℕ) (places : FinMap nat_cmp sta
     other_is : (stamp : ℕ) (p : state.Place) (o : Option TapeCopy) → get (own_copies k places) stamp ≡ o → other_copy (get d.own stamp) p ≡ other_copy o p
     other_is stamp p o is = ap (λ (m : FinMap nat_cmp TapeCopy). other_copy (get m stamp) p) own_is ∙ ap (λ (x : Option TapeCopy). other_copy x p) is
 
-    -- a version that doesn't wait keeps its copy
+    -- a version that doesn't wait has the same copy
     same_copy : (e : Full × FileRow) (p : state.Place) → Contains es e → get k.places e.1.stamp ≡ Some p → waits k e ≡ false → other_copy (state.place_at places e.1.stamp).copy p ≡ p
     unfolding with_tape
     same_copy e p there has isnt = by_length (cases_eq (length e.1.bytes) 0)

@@ -1,4 +1,5 @@
 -- The step of each kind of call.
+-- serves: calls_go_by_step, crates above
 use Rattle.std.proofs.Common.{◌≡◌, ◌≢◌, ℕ, ◌<◌, Bool, true, false, List, [], ◌∷◌, ◌++◌, length, Option, Some, None, refl, sym, ◌∙◌, ap, subst}
 use Rattle.std.specs.Prelude.{◌==◌, ◌||◌, AllPairs, Contains, not, slice_set, if◌then◌else◌}
 use Rattle.std.specs.Ordering.{nat_cmp}
@@ -44,7 +45,7 @@ use Rattle.g_laws_store.proofs.SetLemmas.{rename_parts, trap_parts}
 use Rattle.g_laws_store.proofs.StillLemmas.{still}
 use Rattle.g_laws_store.proofs.PartLemmas.{GoesBy, granted_tree, kept_without, state_is, touched_with}
 
--- A CALL THAT ONLY TELLS
+-- a call that changes nothing
 tells : (v : View) (reels : List Reel) (o : OnlineFacts) (dump : Option DumpFacts) (who : List ℕ) (call : StoreCall) (until : ℕ)
     → (writes call || brings_now (state_up v reels o dump) (held_in v o) who call) ≡ false
     → state_up v reels o dump ≡ after_call (state_up v reels o dump) (held_in v o) who call until

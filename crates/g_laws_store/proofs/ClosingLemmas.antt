@@ -1,4 +1,5 @@
--- The closing of a dump keeps what a store that is up keeps.
+-- The closing of a dump preserves the invariant of a store that is up.
+-- serves: events_stay_up (closing), AdoptLemmas, MoveLemmas, NeedsLemmas, OpeningLemmas, OwnLemmas, PlaceLemmas, TreeLemmas, UserLemmas, and 2 more
 use Rattle.std.proofs.Common.{◌≡◌, ℕ, zero, suc, ◌+◌, ◌≤◌, Bool, true, false, List, [], ◌∷◌, ◌++◌, get_or, Option, Some, sym, ◌∙◌, ap, arith, subst, inl, inr}
 use Rattle.std.specs.Prelude.{◌⊎◌, ◌==◌, All, Contains, IfSome, filter, map}
 use Rattle.std.specs.Option.{ForSome}
@@ -24,7 +25,7 @@ use Rattle.g_store_meaning.proofs.DirectoryLemmas.{closing_keeps_directories}
 use Rattle.g_laws_store.proofs.StateLemmas.{with_there}
 use Rattle.g_laws_store.proofs.UpOneLemmas.{in_with, reel_named}
 
--- LISTS: parts, and what a filter keeps
+-- LISTS: parts, and what a filter leaves
 pub all_left : {A : Type 0} (P : A → Type 0) (xs ys : List A) → All P (xs ++ ys) → All P xs
 all_left P [] ys all = All-nil P
 all_left P (x ∷ xs) ys all = All-cons P x xs (All-head P x (xs ++ ys) all) (all_left P xs ys (All-tail P x (xs ++ ys) all))
@@ -43,7 +44,7 @@ contains_filter {A} p (y ∷ ys) x (suc i, within, is) holds = by_test (cases_Bo
     by_test (inl is_in) rest = subst (λ (zs : List A). Contains zs x) (sym (cond-true (p y) (y ∷ filter p ys) (filter p ys) is_in)) (Contains-append_right (y ∷ []) (filter p ys) x rest)
     by_test (inr isnt) rest = subst (λ (zs : List A). Contains zs x) (sym (cond-false (p y) (y ∷ filter p ys) (filter p ys) isnt)) rest
 
--- COPIES of records, whatever their numbers
+-- copies of records, for any numbers
 
 abbrev pub CopyIs : (ℕ → List ℕ) → List Dump → FileRec → Type 0
 CopyIs text dumps r = IfSome r.tape (λ c. IsContent dumps c (text r.stamp))

@@ -1,4 +1,5 @@
 -- Looking up copies by stamp.
+-- serves: AdoptLemmas, OpenedLemmas, OwnLemmas, crates above
 use Rattle.std.proofs.Common.{◌≡◌, ℕ, zero, suc, ◌+◌, ◌≤◌, Bool, cond, List, [], ◌∷◌, ◌++◌, Option, Some, None, refl, sym, ◌∙◌, ap, arith, subst, inl, inr}
 use Rattle.std.specs.Prelude.{◌⊎◌, ◌==◌, All, AllPairs, Contains}
 use Rattle.std.specs.List.{flat_map}
@@ -59,7 +60,7 @@ find_some {A} key value (y ∷ ys) q c x there same all =
         ∙ hit q (key y) c (copies_by key value ys) is
     by_key (inr isnt) rest = skip q (key y) (value y) (copies_by key value ys) isnt ∙ rest isnt
 
--- the copy of the element of a key, where all of that key agree
+-- the copy of the element of a key, if all of that key agree
 pub find_copy : {A : Type 0} (key : A → ℕ) (value : A → Option TapeCopy) (xs : List A) (q : ℕ) (o : Option TapeCopy) (x : A) → Contains xs x → key x ≡ q
     → All (λ y. key y ≡ q → value y ≡ o) xs → find nat_cmp q (copies_by key value xs) ≡ o
 find_copy key value xs q None x there same all = find_none key value xs q all
@@ -68,7 +69,7 @@ find_copy key value xs q (Some c) x there same all = find_some key value xs q c 
 pub no_copy_of : {A : Type 0} (key : A → ℕ) (value : A → Option TapeCopy) (xs : List A) (q : ℕ) → All (λ y. key y ≡ q → ⊥) xs → find nat_cmp q (copies_by key value xs) ≡ None
 no_copy_of key value xs q all = find_none key value xs q (λ i d within same. absurd (all i d within same))
 
--- copies don't go by numbers
+-- copies don't depend on numbers
 pub numbered_copies : (n : ℕ) (rs : List FileRec) → copies_by (λ (r : FileRec). r.stamp) (λ (r : FileRec). r.tape) (numbered_from n rs) ≡ copies_by (λ (r : FileRec). r.stamp) (λ (r : FileRec). r.tape) rs
 numbered_copies n [] = refl
 numbered_copies n (r ∷ rs) = ap (λ (cs : List (ℕ × TapeCopy)). copy_entry r.stamp r.tape ++ cs) (numbered_copies (n + 1) rs)
@@ -77,7 +78,7 @@ pub same_flat : {A : Type 0} (f g : A → List (ℕ × TapeCopy)) → ((x : A) �
 same_flat f g same [] = refl
 same_flat f g same (x ∷ xs) = ap (λ (cs : List (ℕ × TapeCopy)). cs ++ flat_map f xs) (same x) ∙ ap (λ (cs : List (ℕ × TapeCopy)). g x ++ cs) (same_flat f g same xs)
 
--- THE COPY that is noted for a version that waits, among so many blocks
+-- the copy that is noted for a version that waits, within this many blocks
 pub record HasCopy (serial from : ℕ) (ws : List FileRec) (pins : List Pin) (r : FileRec) (old : Option TapeCopy) : Type 0 where
   pub first : ℕ
   pub is : copy_of (pairs pins) r.stamp old ≡ Some (record { serial = serial; first = first })

@@ -1,4 +1,5 @@
--- Events that aren't a job's keep what a store that is up keeps.
+-- Events that aren't a job's preserve the invariant of a store that is up.
+-- serves: lib, crates above
 use Rattle.std.proofs.Common.{◌≡◌, ℕ, ◌≤◌, List, [], ◌∷◌, ◌++◌, Option, Some, None, refl, sym, ◌∙◌, ap, subst}
 use Rattle.std.specs.Prelude.{◌⊎◌, All, Contains, IfSome, map}
 use Rattle.std.specs.Option.{ForSome}
@@ -21,7 +22,7 @@ use Rattle.g_store_meaning.proofs.ChangeLemmas.{files_belong, intents_belong}
 use Rattle.g_store_meaning.proofs.DirectoryLemmas.{changes_keep_others}
 use Rattle.g_store_meaning.proofs.StayLemmas.{Carries, both_open, up_after}
 
--- REELS count by their serials alone
+-- only the serials of the reels matter
 abbrev serials : List Reel → List ℕ
 serials reels = map (λ r. r.serial) reels
 
@@ -114,7 +115,7 @@ dropped_stays text shelf s isnt was =
       open_dump = none_open _ s.dump isnt;
     }
 
--- THE DUMP goes on, or is given up
+-- the dump continues, or is given up
 going_stays : (text : ℕ → List ℕ) (shelf : ℕ → List Dump) (s : StoreFacts) (d : DumpFacts) (done : ℕ) → s.dump ≡ Some d → IsUp text shelf s
     → IsUp text shelf (record s { dump = Some (record d { done = done }) })
 going_stays text shelf s d done is was = record {

@@ -1,4 +1,5 @@
--- Files that are taken off, brought back, or put among others.
+-- Files that are taken off, brought back, or inserted among others.
+-- serves: CallLemmas, PutLemmas, crates above
 use Rattle.std.proofs.Common.{◌≡◌, ℕ, Bool, true, false, List, [], ◌∷◌, ◌++◌, get_or, Option, None, refl, sym, ◌∙◌, ap}
 use Rattle.std.specs.Prelude.{◌==◌, All, Contains, filter, map, nat_lt, if◌then◌else◌}
 use Rattle.std.proofs.lemmas.List.{map-append}
@@ -11,7 +12,7 @@ use Rattle.g_tree.proofs.RuleLemmas.{one_of_key}
 use Rattle.g_disc_contents.specs.Contents.{File, brought, has, taken_off, with_file}
 use Rattle.g_laws_store.specs.Places.{AreDistinct, IsOfStamp}
 
--- RECORDS of what is taken off, and brought back
+-- records of files that are taken off and brought back
 pub offline_rec : (b : Bool) (f : File) → (if b then record f { online = false; bytes = None } else f).rec ≡ f.rec
 offline_rec true f = refl
 offline_rec false f = refl
@@ -39,7 +40,7 @@ of_stamp files f distinct numbered there i d within =
       λ same. ap (λ (h : File). h.rec.number) (one_of_key (λ (h : File). h.rec.stamp) files g f distinct in_files there same),
     )
 
--- a file put among others, by their records
+-- a file inserted among others, by their records
 pub recs_with : (f : File) (files : List File) → map (λ (g : File). g.rec) (with_file f files) ≡ records.with_file f.rec (map (λ (g : File). g.rec) files)
 recs_with f files =
     map-append (λ (g : File). g.rec) (filter (λ (g : File). nat_lt g.rec.number f.rec.number) files) (f ∷ filter (λ (g : File). nat_lt f.rec.number g.rec.number) files)

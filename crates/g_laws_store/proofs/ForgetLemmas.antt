@@ -1,4 +1,5 @@
--- A store that has forgotten its copies keeps what it kept.
+-- A store that has forgotten its copies preserves its invariant.
+-- serves: lib, crates above
 use Rattle.std.proofs.Common.{◌≡◌, ◌≢◌, ℕ, zero, suc, ◌<◌, ◌≤◌, true, false, List, [], ◌∷◌, get_or, length, Option, Some, None, refl, sym, ◌∙◌, ap, arith, subst}
 use Rattle.std.specs.Prelude.{Bool, ◌==◌, ◌||◌, All, AllPairs, Contains, IfSome, map}
 use Rattle.std.specs.Option.{ForSome}

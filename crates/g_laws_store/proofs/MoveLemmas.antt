@@ -1,4 +1,5 @@
 -- What has moved twice has moved.
+-- serves: lib, crates above
 use Rattle.std.proofs.Common.{◌⊎◌, ℕ, ◌<◌, List, ◌++◌, append_assoc, refl, sym, ◌∙◌, ap, arith, subst, inl, inr, zero, suc, [], ◌∷◌}
 use Rattle.std.specs.Prelude.{All, Contains, map}
 use Rattle.std.proofs.lemmas.List.Elements.{All-contains, All-weaker, Contains-append_left, Contains-append_right}

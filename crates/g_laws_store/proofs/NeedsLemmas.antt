@@ -1,4 +1,5 @@
--- How many blocks a dump needs: by the plan and by the state.
+-- The number of blocks that a dump needs: by the plan and by the state.
+-- serves: lib, AddLemmas, AdoptLemmas, OpenedLemmas, OwnLemmas, PartLemmas, crates above
 use Rattle.std.proofs.Common.{◌≡◌, ◌≢◌, ℕ, zero, suc, ◌+◌, ◌<◌, Bool, true, false, cond, List, [], ◌∷◌, ◌++◌, get_or, length, refl, sym, ◌∙◌, ap, arith, subst, inl, inr}
 use Rattle.std.specs.Prelude.{◌⊎◌, ◌==◌, All, AllPairs, Contains, filter, map, not, sum_by}
 use Rattle.std.specs.List.{list_any}
@@ -56,7 +57,7 @@ users_named users files rules u there i d within =
     by_number v in_users same (inr isnt) =
         absurd (apart_in (λ (x y : UserRec). x.user ≢ y.user) (λ x y other e. other (sym e)) users rules.among_users.names v u in_users there (λ e. isnt (ap (λ (x : UserRec). x.number) e)) same)
 
--- who is kept, by name, isn't changed
+-- a user who is kept, by name, isn't changed
 any_kept : (users : List UserRec) (changed : List ℕ) (u : UserRec) → Contains users u → All (IsNamed u.number u.user) users → (has changed u.number ≡ true) ⊎ (has changed u.number ≡ false)
     → not (list_any (called u.user) (users_not_in changed users)) ≡ has changed u.number
 any_kept users changed u there named (inl is) =
@@ -80,7 +81,7 @@ kept_is users files changed owner rules within =
     ∙ any_kept users changed u there (users_named users files rules u there) (cases_Bool (has changed u.number))
     ∙ ap (has changed) number
 
--- AS MANY as are gathered, where each has an owner
+-- AS MANY as are gathered, if each has an owner
 abbrev IsntOf : ℕ → UserRec → Type 0
 IsntOf owner u = u.number ≡ owner → ⊥
 

@@ -1,4 +1,5 @@
 -- What a dump that is opened will leave: the tree of the opening, and the places of its versions.
+-- serves: AdoptLemmas, OwnLemmas, crates above
 use Rattle.std.proofs.Common.{◌≡◌, ℕ, ◌+◌, ◌-◌, ◌<◌, ◌≤◌, Bool, true, false, List, length, Option, Some, None, is_some, unwrap_or, refl, sym, ◌∙◌, ap, arith, subst, inl, inr}
 use Rattle.std.specs.Prelude.{◌⊎◌, ◌==◌, ◌&&◌, All, Contains, is_none, map, nat_lt}
 use Rattle.std.specs.Option.{option_map}
@@ -178,7 +179,7 @@ module _ (v : View) (s : StoreFacts) (plan : Plan) (pins : List Pin) (content : 
       ∙ ap (option_map noted_place)
       (found_itself nat_cmp_total nat_cmp-IsAntisymmetric stamp_of gathered r gathered_distinct (all_there s.online.contents.users (recs_in s.online.contents) is.dumpable.records r there)))
 
-  -- A VERSION THAT DOESN'T WAIT keeps its copy
+  -- A VERSION THAT DOESN'T WAIT has the same copy
   unpinned : (r : FileRec) → Contains (recs_in s.online.contents) r → file_waits r ≡ false → All (IsOtherPin r.stamp) pins
   unpinned r there isnt =
       All-weaker (IsPinned (waiting_files plan.files)) (IsOtherPin r.stamp)

@@ -1,4 +1,6 @@
--- The opening of a dump: with its dump completed disc and rack would belong together, and the directories be those of the opening.
+-- The opening of a dump: with its dump completed disc and rack would belong together, and the directories would be those of
+-- the opening.
+-- serves: events_stay_up (opening), ForgetLemmas, OpenedLemmas, crates above
 use Rattle.std.proofs.Common.{◌≡◌, ℕ, ◌+◌, ◌<◌, ◌≤◌, Bool, true, false, List, [], ◌∷◌, ◌++◌, get_or, length, Option, Some, None, refl, sym, ◌∙◌, ap, arith, subst, inl, inr}
 use Rattle.std.specs.Prelude.{◌⊎◌, ◌==◌, ◌&&◌, All, AllPairs, Contains, IfSome, filter, map, nat_le, nat_lt}
 use Rattle.std.proofs.lemmas.Bool.{and_left, both_ways, cases_Bool, cases_eq, cond-false, cond-true, eq-eqb, eqb-true, lt-leb}

@@ -1,4 +1,5 @@
--- The copies that the records of a dump name at its opening, and the whole state behind it.
+-- The copies that the records of a dump name at its opening, and the whole state afterwards.
+-- serves: opening_goes_by_step, AdoptLemmas, crates above
 use Rattle.std.proofs.Common.{◌≡◌, ℕ, zero, suc, ◌+◌, ◌<◌, Bool, true, false, List, [], ◌∷◌, get_or, length, Option, Some, None, refl, sym, ◌∙◌, ap, arith, subst, inl, inr}
 use Rattle.std.specs.Prelude.{◌⊎◌, ◌==◌, Contains, Ok, map, not, if◌then◌else◌}
 use Rattle.std.specs.Ordering.{nat_cmp}
@@ -41,7 +42,7 @@ use Rattle.g_laws_store.specs.Opening.{IsOpening, OpeningIsStep}
 use Rattle.g_laws_store.proofs.CopyLemmas.{copies_by, find_copy, no_copy_of, numbered_copies, same_flat}
 use Rattle.g_laws_store.proofs.OpenedLemmas.{are, are_noted, distinct, place_of_rec, tree_is}
 
--- THE REEL of the dump, and the block behind its dumps
+-- the reel of the dump, and the block after its dumps
 ends_same : (at : ℕ) (d : Dump) (ds : List Dump) → state.end_of_dumps (map shelved_of (d ∷ ds)) ≡ end_behind at (d ∷ ds)
 ends_same at d [] = refl
 ends_same at d (e ∷ es) = ends_same (ends d) e es
@@ -68,7 +69,7 @@ reel_end shelf serial (r ∷ rs) there = by_serial (cases_eq serial r.serial) (�
     by_serial (inr other) rest =
         ap (λ (b : Bool). state.end_in (if b then Some (row_of shelf r) else state.reel_at serial (map (row_of shelf) rs))) (ne_eqb serial r.serial other) ∙ rest other
 
--- one who is kept has no copy of the dump's own
+-- a user who is kept has no copy of the dump's own
 pub chosen_copy : (b : Bool) (n : ℕ) (o : Option TapeCopy) → (if b then [] else state.copy_entry n o) ≡ state.copy_entry n (if b then None else o)
 chosen_copy true n o = refl
 chosen_copy false n o = refl
@@ -191,7 +192,7 @@ module _ (v : View) (s : StoreFacts) (plan : Plan) (pins : List Pin) (content : 
           (sym e ∙ subst (λ (n : ℕ). find nat_cmp n (keyed (λ (g : File). g.rec.stamp) s.online.contents.files) ≡ Some f) same
           (found_itself nat_cmp_total nat_cmp-IsAntisymmetric (λ (g : File). g.rec.stamp) s.online.contents.files f (distinct v s plan pins content opened is) in_files))
 
-  -- the copies of the dump's records, whatever their numbers
+  -- the copies of the dump's records, for any numbers
   plan_copies : own_of (dump_of plan content) ≡ from_entries {R = nat_cmp} (copies_by stamp_of copy_by plan.files)
   plan_copies =
       ap (λ (es : List (ℕ × TapeCopy)). from_entries {R = nat_cmp} es)
@@ -214,7 +215,7 @@ module _ (v : View) (s : StoreFacts) (plan : Plan) (pins : List Pin) (content : 
       ∙ sym (get-from_entries nat_cmp_total (copies_by entry_stamp entry_copy (entries k.tree.files)) q))
       ∙ sym state_copies
 
-  -- THE STATE behind the opening
+  -- the state after the opening
   abbrev old : state.State
   old = state_up v reels s.online s.dump
 

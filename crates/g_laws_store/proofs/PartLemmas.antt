@@ -1,4 +1,5 @@
--- Where the parts of a state go by a call, the state does.
+-- IF the parts of a state go by a call, the state does.
+-- serves: AddLemmas, CallLemmas, PutLemmas, SetLemmas
 use Rattle.std.proofs.Common.{◌≡◌, ℕ, ◌<◌, ◌≤◌, Bool, true, false, List, [], get_or, length, Option, Some, None, is_some, refl, sym, ◌∙◌, ap, arith}
 use Rattle.std.specs.Prelude.{◌||◌, Contains, IfSome, map, if◌then◌else◌}
 use Rattle.std.specs.Option.{option_map}
@@ -37,7 +38,7 @@ use Rattle.g_laws_store.specs.Calls.{IsBehind, marked}
 pub granted_tree : (tree : Tree) (who : List ℕ) (call : StoreCall) → fault_of tree who call ≡ None → plain_tree tree who call ≡ tree_after tree who call
 granted_tree tree who call none = ap (λ (f : Option StoreFault). let t : Tree = elim f [ Some fault ↦ tree | None ↦ tree_after tree who call ] in t) none
 
--- the intent of a commit: it is kept while a dump is open
+-- the intent of a commit: it stays while a dump is open
 intent_by : (b : Bool) (e : Contents) (dump : Option state.OpenDump) → b ≡ is_some dump → (committed b e).head.intent ≡ kept_intent dump e.head.intent
 intent_by true e (Some d) same = refl
 intent_by false e None same = refl
@@ -63,7 +64,7 @@ module _ (v : View) (reels : List Reel) (o new : OnlineFacts) (dump : Option Dum
   abbrev w : View
   w = record v { text = text }
 
-  -- what each part is behind the call
+  -- each part after the call
   pub record GoesBy : Type 0 where
     pub does : (writes call || brings_now s k who call) ≡ true
     pub tree : tree_by text e.users (recs_in e) e.head.next_stamp ≡ plain_tree k.tree who call
@@ -166,7 +167,7 @@ owner_of users files owner rules within = record {
   name = name_at users owner nobody within;
 }
 
--- who is changed is kept no longer, and is touched
+-- a changed user is no longer kept, and is touched
 pub kept_without : (users : List UserRec) (files : List FileRec) (numbers : List ℕ) (owner : ℕ) → IsRecords users files → owner < length users
     → names_of (users_not_in (with_number owner numbers) users) ≡ remove (names_of (users_not_in numbers users)) (name_of users owner)
 kept_without users files numbers owner rules within =

@@ -1,4 +1,5 @@
 -- The pins of a dump that is opened: the copies that are noted for the versions, and their bytes in the dump's content.
+-- serves: CopyLemmas, NeedsLemmas, OpenedLemmas, OpeningLemmas, OwnLemmas, PlaceLemmas, StateLemmas, crates above
 use Rattle.std.proofs.Common.{◌≡◌, ◌≢◌, ℕ, suc, ◌+◌, ◌-◌, min, true, false, List, [], ◌∷◌, ◌++◌, length, take, drop, Option, Some, None, refl, sym, ◌∙◌, ap, arith, subst, inl, inr}
 use Rattle.std.specs.Prelude.{◌⊎◌, ◌==◌, All, AllPairs, Contains, map}
 use Rattle.std.proofs.lemmas.Bool.{cases_Bool, cond-false, cond-true, eq-eqb, ne_eqb}
@@ -144,13 +145,13 @@ pinned_blocks text serial at (r ∷ rs) pins content (pin, rest, same, stamp, le
 abbrev pub HasLen : (ℕ → List ℕ) → FileRec → Type 0
 HasLen text r = length (text r.stamp) ≡ r.len
 
--- a front that is as long as it is to be
+-- a prefix of the required length
 front_is : (n : ℕ) (a b text : List ℕ) → take n a ≡ text → length text ≡ n → take n (a ++ b) ≡ text
 front_is n a b text is long =
     let least : min n (length a) ≡ n = sym (length-take n a) ∙ ap (λ (xs : List ℕ). length xs) is ∙ long in
     take-append-le n a b (omega (arith, least)) ∙ is
 
--- EACH PIN'S COPY is content of the dump, of which so much lies before
+-- each pin's copy is content of the dump, at this distance from its start
 pub pins_content : (text : ℕ → List ℕ) (dumps : List Dump) (d : Dump) (serial at : ℕ) (ws : List FileRec) (pins : List Pin) (before content : List (List ℕ))
     → Contains dumps d → d.serial ≡ serial → at ≡ content_at d + length before → d.content ≡ before ++ content
     → ArePinned serial at ws pins → content_in pins ≡ Some content → All (PinsText text) pins → All (HasLen text) ws → All (HasContent text dumps) (pairs pins)

@@ -1,4 +1,5 @@
--- Places by stamp, behind each change of contents.
+-- Places by stamp, after each change of contents.
+-- serves: places_go_by_change (places, taken), CallLemmas, OpenedLemmas, PutLemmas, RoomLemmas, SetLemmas, StandLemmas, StillLemmas, UnjamLemmas, and 2 more
 use Rattle.std.proofs.Common.{◌≡◌, ◌≢◌, ℕ, ◌<◌, Bool, true, false, cond, List, [], ◌∷◌, get_or, Option, Some, None, is_some, unwrap_or, refl, sym, ◌∙◌, ap, arith, subst, inl, inr}
 use Rattle.std.specs.Prelude.{◌⊎◌, ◌==◌, ◌&&◌, T, All, Contains, filter, map, nat_lt, not, if◌then◌else◌}
 use Rattle.std.specs.Option.{option_map}
@@ -60,7 +61,7 @@ seek (f ∷ fs) q = by_first (cases_eq f.rec.stamp q) (seek fs q)
     by_first (inr isnt) (inl found) = inl (record { file = found.file; there = Contains-append_right (f ∷ []) fs found.file found.there; is = found.is })
     by_first (inr isnt) (inr none) = inr (All-cons (Isnt q) f fs (λ e. isnt (sym e)) none)
 
--- the same places, where each file has its own in the other map too, and no others have any
+-- the same places, if each file has its own in the other map too, and no others have any
 same_places : (files : List File) (m : FinMap nat_cmp Place) → AreDistinct files → ((f : File) → Contains files f → get m f.rec.stamp ≡ Some (place_of f))
     → ((q : ℕ) → All (Isnt q) files → get m q ≡ None) → places_of files ≡ m
 same_places files m distinct each none = same_map nat_cmp_total nat_cmp-IsAntisymmetric (places_of files) m (λ q. at q (seek files q))
@@ -133,7 +134,7 @@ itself_there files f = Contains-append_right (filter (below f.rec.number) files)
 abbrev Other : File → File → Type 0
 Other f g = f.rec.stamp ≢ g.rec.stamp
 
--- who has neither the number nor the stamp
+-- a file with neither the number nor the stamp
 none_of : (files : List File) (q number old : ℕ) → All (IsOfStamp number old) files → q ≢ old → ((g : File) → Contains files g → g.rec.number ≢ number → q ≢ g.rec.stamp) → All (Isnt q) files
 none_of files q number old of other each i d within = by_number (cases_eq g.rec.number number)
   where
@@ -328,7 +329,7 @@ get_waiting pins q =
     ap (λ es. get (from_entries {R = nat_cmp} es) q) (sym (map_of_map (with_value nat_cmp pin_blocks) (λ (p : Pin). (p.stamp, p)) pins))
     ∙ get_valued nat_cmp pin_blocks nat_cmp_total (keyed pin_stamp pins) q ∙ ap (option_map pin_blocks) (get-from_entries nat_cmp_total (keyed pin_stamp pins) q)
 
--- a pin's copy is the one that is put in
+-- a pin's copy is the one that is inserted
 copy_found : (pins : List Pin) (q : ℕ) (old : Option TapeCopy) → copy_of (pairs pins) q old ≡ unwrap_or (option_map (λ (p : Pin). Some p.copy) (find nat_cmp q (keyed pin_stamp pins))) old
 copy_found [] q old = refl
 copy_found (p ∷ ps) q old = at (cases_eq p.stamp q) (copy_found ps q old)

@@ -1,4 +1,5 @@
--- The step of a call that makes a new version.
+-- The step of a call that creates a new version.
+-- serves: CallLemmas
 use Rattle.std.proofs.Common.{◌≡◌, ◌≢◌, ℕ, ◌+◌, ◌<◌, ◌≤◌, true, false, List, [], ◌∷◌, get_or, length, Option, Some, None, is_some, unwrap_or, refl, sym, ◌∙◌, ap, arith, subst, inl, inr}
 use Rattle.std.specs.Prelude.{◌⊎◌, ◌==◌, All, AllPairs, Contains, if◌then◌else◌}
 use Rattle.std.specs.Ordering.{nat_cmp}
@@ -43,7 +44,7 @@ use Rattle.g_laws_store.specs.Calls.{IsAsked, IsVersionOf, version_made}
 use Rattle.g_laws_store.proofs.FileLemmas.{of_stamp, offline_rec, offline_recs, recs_with}
 use Rattle.g_laws_store.proofs.PartLemmas.{GoesBy, dumped_same, granted_tree, kept_without, opened_same, touched_with}
 
--- WHAT PUT AND APPEND make of a tree, of places and of users, by the name and the bytes of the version
+-- WHAT PUT AND APPEND change in the tree, in places and in users, by the name and the bytes of the version
 made_tree : (tree : Tree) (who : List ℕ) (call : StoreCall) (full : Full) (bytes : List ℕ) → version_made tree who call ≡ Some (full, bytes) → tree_after tree who call ≡ plain.with_version tree full bytes
 made_tree tree who (Put path given) full bytes is = ap (λ (p : Full × List ℕ). plain.with_version tree p.0 p.1) (same_Some _ (full, bytes) is)
 made_tree tree who (Append path given) full bytes is = ap (λ (p : Full × List ℕ). plain.with_version tree p.0 p.1) (same_Some _ (full, bytes) is)

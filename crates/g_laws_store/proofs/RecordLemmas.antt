@@ -1,4 +1,5 @@
--- Records that are gathered user by user keep the rules that they kept in order of number.
+-- Records that are gathered user by user satisfy the rules that they satisfied in order of number.
+-- serves: AdoptLemmas, CopyLemmas, ForgetLemmas, NeedsLemmas, OpenedLemmas, OpeningLemmas, OwnLemmas, PlaceLemmas, ReleaseLemmas, SetLemmas, and 3 more
 use Rattle.std.proofs.Common.{◌≡◌, ◌≢◌, ℕ, zero, suc, ◌+◌, ◌<◌, ◌≤◌, Bool, true, false, List, [], ◌∷◌, ◌++◌, get_or, length, refl, sym, ◌∙◌, ap, arith, subst, inl, inr}
 use Rattle.std.specs.Prelude.{◌⊎◌, ◌==◌, All, AllPairs, Contains, filter, map}
 use Rattle.std.specs.List.{flat_map}
@@ -50,7 +51,7 @@ apart_in {A} R turn xs apart x y (i, in_x, is_x) (j, in_y, is_y) other = by_orde
     by_order (inr (inl less)) = subst (λ (z : A). R z y) is_x (subst (λ (z : A). R (get_or xs i x) z) at_y (apart i j x less in_y))
     by_order (inr (inr less)) = turn y x (subst (λ (z : A). R z x) at_y (subst (λ (z : A). R (get_or xs j x) z) is_x (apart j i x less in_x)))
 
--- DIRECTORIES one behind the other
+-- directories one after another
 abbrev pub gathered_by : List UserRec → List FileRec → List FileRec
 gathered_by users files = flat_map (λ (u : UserRec). files_of u.number files) users
 
@@ -143,7 +144,7 @@ users_apart users are i j d less within same =
     let two = user_at users are j d within in
     (let no : ⊥ = omega (arith, less, same, one, two) in no)
 
--- WHAT DOESN'T GO BY NUMBERS
+-- WHAT DOESN'T DEPEND ON NUMBERS
 all_unmapped : {A : Type 0} (P : A → Type 0) (f : A → A) (xs : List A) → All P (map f xs) → All (λ x. P (f x)) xs
 all_unmapped P f [] all = All-nil (λ x. P (f x))
 all_unmapped P f (x ∷ xs) all = All-cons (λ y. P (f y)) x xs (All-head P (f x) (map f xs) all) (all_unmapped P f xs (All-tail P (f x) (map f xs) all))

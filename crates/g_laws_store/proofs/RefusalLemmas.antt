@@ -1,4 +1,5 @@
 -- Which calls get which refusal of room and devices.
+-- serves: refusals_go_by_calls
 use Rattle.std.proofs.Common.{◌≡◌, ℕ, ◌<◌, Bool, true, false, [], ◌∷◌, List, Option, Some, None, is_some, unwrap_or, refl, sym, ◌∙◌, ap, arith, subst, inl, inr}
 use Rattle.std.specs.Prelude.{◌⊎◌, ◌&&◌, ◌||◌, not, nat_lt, MatchOption, Result, Ok, Err}
 use Rattle.std.proofs.lemmas.Bool.{and_parts, ltb-true, not-true}
@@ -35,7 +36,7 @@ not_err reply f e = absurd (let no : ⊥ = cc in no)
 one_fault : (f g : StoreFault) → (let one : Result StoreReply StoreFault = Err f in one ≡ Err g) → f ≡ g
 one_fault f g e = cc
 
--- a refusal is before room is looked for, or behind
+-- a refusal occurs before room is computed, or after it
 refused : {P : Type 0} (Q : StoreFault → Type 0) (f : Option StoreFault) (fault : StoreFault) → MatchOption f P (λ g. (let one : Result StoreReply StoreFault = Err fault in one ≡ Err g) × Q g)
     → ((f ≡ None) × P) ⊎ ((f ≡ Some fault) × Q fault)
 refused Q None fault step = inl (refl, step)
@@ -93,7 +94,7 @@ cause_of s k who call o fault new step = by_early (refused (λ g. new ≡ s) (ea
     by_early (inr (some, e)) =
         at_early s k who call o fault (fault_of k.tree who call) (is_offline s k who call) (is_mounted s (reel_of s k who call)) (is_tape_read o) refl refl refl some
 
--- a fault of devices is none of the plain step's
+-- a device's fault is none of the plain step's
 never_plain : {A : Type 0} (tree : Tree) (who : List ℕ) (call : StoreCall) (fault : StoreFault) → is_plain fault ≡ false → fault_of tree who call ≡ Some fault → A
 never_plain tree who call fault isnt e =
     let is : is_plain fault ≡ true = own_fault tree who call fault fault (sym e) refl in

@@ -1,4 +1,5 @@
 -- Reels are released where one dump has all: what is gathered is gathered of that dump.
+-- serves: lib, releases_stay_up (none), crates above
 use Rattle.std.proofs.Common.{◌≡◌, ℕ, zero, suc, ◌≤◌, true, false, List, [], ◌∷◌, get_or, Option, Some, None, refl, sym, arith, subst, inl, inr}
 use Rattle.std.specs.Prelude.{◌⊎◌, ◌==◌, All, Contains, IfSome}
 use Rattle.std.specs.Option.{ForSome}
@@ -49,7 +50,7 @@ one_content d dumps there (Some c) t is = record {
 one_record : (d : Dump) (dumps : List Dump) → Contains dumps d → (t : List ℕ) (r : FileRec) → KeepsRecord t (d ∷ []) r → KeepsRecord t dumps r
 one_record d dumps there t r keeps = record { len = keeps.len; copy = one_content d dumps there r.tape t keeps.copy }
 
--- DUMPS of which one holds all directories, and none is newer
+-- dumps of which one holds all directories, and none is newer
 module _ (dumps : List Dump) (d : Dump) (there : Contains dumps d) (low : (e : Dump) → Contains dumps e → e.number ≤ d.number) (held : All (λ (u : UserRec). holds d.held u.number ≡ true) d.users) where
   holder : (u : UserRec) → Contains d.users u → HasDirectory dumps u.number d
   holder u in_users = record {
@@ -66,7 +67,7 @@ module _ (dumps : List Dump) (d : Dump) (there : Contains dumps d) (low : (e : D
   gathers : Gathers dumps d.users (gathered_by d.users d.files)
   gathers = gathers_of d.users (λ u in_users. in_users)
 
-  -- what they give is of it alone
+  -- what they give comes only from that dump
   module _ (apart : (e f : Dump) → Contains dumps e → Contains dumps f → e.number ≡ f.number → e ≡ f) where
     newest : (e : Dump) → Contains dumps e → d.number ≤ e.number → e ≡ d
     newest e in_dumps le = let most = low e in_dumps in apart e d in_dumps there (omega (arith, le, most))

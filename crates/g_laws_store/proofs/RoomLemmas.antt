@@ -1,4 +1,5 @@
 -- The room of a state by its files and pins.
+-- serves: room_goes_by_files, CallLemmas, NeedsLemmas, OpenedLemmas, PutLemmas, UnjamLemmas, WaitingLemmas, crates above
 use Rattle.std.proofs.Common.{◌≡◌, ◌≢◌, ℕ, ◌-◌, Bool, true, false, cond, List, [], ◌∷◌, get_or, length, Option, Some, None, unwrap_or, refl, sym, ◌∙◌, ap, arith}
 use Rattle.std.specs.Prelude.{◌==◌, ◌||◌, All, AllPairs, IfSome, map, not, sum_by, if◌then◌else◌}
 use Rattle.std.specs.List.{list_any}

@@ -1,4 +1,5 @@
 -- The step of a call that changes a file's record: its name, or its traps.
+-- serves: CallLemmas
 use Rattle.std.proofs.Common.{◌≡◌, ℕ, zero, suc, ◌-◌, ◌<◌, Bool, true, false, List, [], ◌∷◌, ◌++◌, get_or, length, Option, Some, None, unwrap_or, refl, sym, ◌∙◌, ap, arith, subst, inl, inr}
 use Rattle.std.specs.Prelude.{◌⊎◌, ◌==◌, bit_and, bit_or, All, AllPairs, Contains, filter, map, nat_lt, if◌then◌else◌}
 use Rattle.std.specs.Ordering.{nat_cmp}

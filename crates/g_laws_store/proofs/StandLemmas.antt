@@ -1,4 +1,5 @@
 -- What a start would adopt stays while the dump is open.
+-- serves: starts_adopt_what_is_noted
 use Rattle.std.proofs.Common.{◌≡◌, ◌≢◌, ℕ, ◌+◌, ◌-◌, ◌≤◌, Bool, true, false, List, [], ◌∷◌, Option, Some, None, is_some, unwrap_or, refl, sym, ◌∙◌, ap, arith, subst, inl, inr}
 use Rattle.std.specs.Prelude.{◌⊎◌, ◌&&◌, ◌||◌, MatchOption, Result, Ok, Err, is_none, nat_lt, not, if◌then◌else◌}
 use Rattle.std.specs.Option.{option_map}
@@ -29,7 +30,7 @@ use Rattle.g_laws_store.proofs.AdoptLemmas.{dumpable, stands}
 not_ok : {A : Type 0} (reply : StoreReply) (fault : StoreFault) → (let one : Result StoreReply StoreFault = Ok reply in one ≡ Err fault) → A
 not_ok reply fault e = absurd (let no : ⊥ = cc in no)
 
--- an answer that is Ok is behind all refusals
+-- an answer that is Ok has passed all refusals
 not_refused : {P : Type 0} (Q : StoreFault → Type 0) (f : Option StoreFault) (reply : StoreReply) → MatchOption f P (λ fault. (let one : Result StoreReply StoreFault = Ok reply in one ≡ Err fault) × Q fault) → (f ≡ None) × P
 not_refused Q None reply step = (refl, step)
 not_refused Q (Some fault) reply step = not_ok reply fault step.0
@@ -153,7 +154,7 @@ module _ (s : State) (k : Holding) (d : OpenDump) (who : List ℕ) (stand : Owns
       let grown : k.tree.next ≤ (plain_tree k.tree who call).next = plain_next call (fault_of k.tree who call) in
       stand.older stamp (omega (arith, grown, le))
 
-  -- behind the call, where that stands which the test leaves
+  -- after the call, if the outcome of the test holds
   stands_behind : (call : StoreCall) (until : ℕ) (b : Bool) → (writes call || brings_now s k who call) ≡ b
       → StandIn (if b then record (commits s (record (taken_offline until k) {
         tree = plain_tree k.tree who call;

@@ -1,4 +1,5 @@
 -- What belongs together has a state.
+-- serves: lib, ClosingLemmas, OpenedLemmas, OpeningLemmas, crates above
 use Rattle.std.proofs.Common.{◌≡◌, ℕ, true, false, List, [], ◌∷◌, ◌++◌, Option, Some, None, refl, sym, ◌∙◌, arith, subst}
 use Rattle.std.specs.Prelude.{Bool, ◌==◌, All, Contains, IfSome, is_some}
 use Rattle.std.specs.Option.{ForSome}
@@ -24,7 +25,7 @@ use Rattle.g_laws_store.proofs.PinLemmas.{both_told}
 use Rattle.g_laws_store.proofs.UpOneLemmas.{on_all, reel_named}
 use Rattle.g_store_meaning.proofs.ViewLemmas.{Stands, back}
 
--- THE DUMPED DIRECTORY, where there is a dump
+-- THE DUMPED DIRECTORY, if there is a dump
 abbrev pub dumped_in : (dumps : List Dump) → ((d : Dump) → Contains dumps d → DumpedDirectory dumps) → Option (DumpedDirectory dumps)
 dumped_in [] tree = None
 dumped_in (d ∷ ds) tree = Some (tree d (0, omega arith, refl))
@@ -80,7 +81,7 @@ devices_have size held reels contents are belongs =
     seen (Some c) (blocks, is, holds) =
         (blocks, is, holds, is_view held reels belongs.text belongs.shelf belongs.shelved belongs.rack None c (belongs.disc blocks c is holds))
 
--- PINS that are told give the content of the dump
+-- pins that are exposed give the content of the dump
 are_told : (a b : Option (List (List ℕ))) → is_some a ≡ true → is_some b ≡ true → is_some (both_told a b) ≡ true
 are_told (Some a) (Some b) is_a is_b = refl
 are_told (Some a) None is_a is_b = is_b

@@ -1,4 +1,5 @@
 -- A call that needs no block takes nothing off the disc.
+-- serves: AddLemmas, CallLemmas, SetLemmas
 use Rattle.std.proofs.Common.{◌≡◌, ℕ, ◌<◌, ◌≤◌, Bool, false, Option, Some, None, ◌∙◌, ap, arith, refl, inl, inr}
 use Rattle.std.specs.Prelude.{◌⊎◌, ◌&&◌, List, nat_lt, if◌then◌else◌}
 use Rattle.std.specs.Option.{option_map}

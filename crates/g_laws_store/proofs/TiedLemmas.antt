@@ -1,4 +1,6 @@
--- A store whose filestore is tied to its disc: its devices belong together, and what it keeps goes by parts of the filestore.
+-- A store whose filestore is tied to its disc: its devices belong together, and its invariant depends on parts of the
+-- filestore.
+-- serves: crates above
 use Rattle.std.proofs.Common.{◌≡◌, ℕ, Bool, true, false, List, Option, Some, None, sym, ◌∙◌, ap, subst, true≢false}
 use Rattle.std.specs.Prelude.{IfSome, not}
 use Rattle.std.specs.Option.{ForSome}
@@ -36,7 +38,7 @@ devices_belong text shelf reels o tied live shelved rack belongs = record {
   disc = λ blocks c held holds. subst (DiscBelongs text shelf reels) (holds_one blocks o.contents c (holds_now o tied live blocks held) holds) belongs;
 }
 
--- WHAT A STORE THAT IS UP KEEPS goes by contents, pins and the users who are marked alone
+-- the invariant of a store that is up depends only on contents, pins and the marked users
 ready_again : (text : ℕ → List ℕ) (shelf : ℕ → List Dump) (reels : List Reel) (o new : OnlineFacts) (d : Dump)
     → (let p : OnlineFacts = record o { contents = new.contents; pins = new.pins; changed = new.changed; touched = new.touched } in IsReady text shelf reels p d) → IsReady text shelf reels new d
 ready_again text shelf reels o new d is = record { rules = is.rules; rack = is.rack; disc = is.disc; opening = record { each = is.opening.each } }
@@ -67,7 +69,7 @@ moved text shelf s new e contents pins was =
       open_dump = open_again text shelf (told_reels s.rack) s.online new s.dump two.open_dump;
     }
 
--- A COMMIT that drops the intent, or keeps it
+-- A COMMIT that drops the intent, or preserves it
 pub committed_belongs : (text : ℕ → List ℕ) (shelf : ℕ → List Dump) (reels : List Reel) (b : Bool) (c : Contents) → IsQuiet shelf reels c → DiscBelongs text shelf reels c
     → DiscBelongs text shelf reels (committed b c)
 committed_belongs text shelf reels true c quiet belongs = belongs

@@ -1,4 +1,5 @@
 -- The tree of records that are gathered user by user.
+-- serves: dumped_tree_is, OpenedLemmas
 use Rattle.std.proofs.Common.{◌≡◌, ◌≢◌, ℕ, zero, suc, ◌<◌, List, [], ◌∷◌, ◌++◌, get_or, length, Option, Some, None, refl, sym, ◌∙◌, ap, arith, subst}
 use Rattle.std.specs.Prelude.{◌==◌, Contains, map}
 use Rattle.std.specs.Option.{option_map}

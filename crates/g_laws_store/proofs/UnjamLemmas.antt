@@ -1,4 +1,5 @@
 -- A plan of files that are taken off the disc is the step's.
+-- serves: unjamming_goes_by_plan, AdoptLemmas, CallLemmas, OpenedLemmas, PutLemmas, SetLemmas, crates above
 use Rattle.std.proofs.Common.{◌≡◌, ℕ, ◌+◌, ◌<◌, ◌≤◌, Bool, true, false, List, [], ◌∷◌, get_or, length, Option, Some, None, is_some, unwrap_or, refl, sym, ◌∙◌, ap, arith, subst, inl, inr}
 use Rattle.std.specs.Prelude.{◌⊎◌, ◌==◌, ◌&&◌, ◌||◌, AllPairs, Contains, map, nat_lt, sum_by, if◌then◌else◌}
 use Rattle.std.specs.List.{list_any}

@@ -1,4 +1,5 @@
--- A store that is up, and tells what it holds, stands for one state, an open dump with it.
+-- A store that is up and exposes its contents represents at most one state, including an open dump.
+-- serves: lib, one_state, ClosingLemmas, MoveLemmas, OpenedLemmas, OpeningLemmas, PartLemmas, ReleaseLemmas, StateLemmas, crates above
 use Rattle.std.proofs.Common.{◌≡◌, ℕ, zero, suc, ◌+◌, ◌≤◌, true, false, List, [], ◌∷◌, ◌++◌, get_or, Option, Some, None, refl, sym, ◌∙◌, ap, arith, subst, inl, inr}
 use Rattle.std.specs.Prelude.{◌⊎◌, Bool, ◌==◌, All, Contains, IfSome, map, is_some, if◌then◌else◌}
 use Rattle.std.specs.Option.{ForSome, option_map}
@@ -77,7 +78,7 @@ module _ (shelf : ℕ → List Dump) (reels : List Reel) (told : ReelsTold reels
       (λ reel are.
       subst (λ (n : ℕ). ends d ≤ end_of (shelf n)) (sym is ∙ same) (ends_within on.reel.serial reel 0 0 (shelf on.reel.serial) are.are d on.on))
 
-  -- with a dump behind those of its reel all are right still
+  -- after a dump is appended to those of its reel, all are still right
   pub right_with : (d : Dump) → IsDump d → d.place ≡ end_of (shelf d.serial) → AreRight (all_dumps (with_dump d shelf) reels)
   unfolding Apart
   right_with d is place = record {
@@ -101,7 +102,7 @@ module _ (shelf : ℕ → List Dump) (reels : List Reel) (told : ReelsTold reels
       both e f (inr is_e) (inl in_f) same = inr (inr (subst (λ (x : Dump). ends f ≤ x.place) is_e (before f in_f (sym same ∙ ap (λ (x : Dump). x.serial) (sym is_e)))))
       both e f (inr is_e) (inr is_f) same = inl (sym is_e ∙ is_f)
 
--- the intent's place is the end of its reel's dumps, where none is newer than the last one
+-- the intent's place is the end of its reel's dumps, if none is newer than the last one
 pub placed_at_end : (text : ℕ → List ℕ) (shelf : ℕ → List Dump) (reels : List Reel) (c : Contents) (i : Intent) → DiscBelongs text shelf reels c
     → ((d : Dump) → Contains (all_dumps shelf reels) d → d.number ≤ c.head.last_dump) → c.head.intent ≡ Some i → i.place ≡ end_of (shelf i.serial)
 placed_at_end text shelf reels c i disc quiet is =
@@ -192,7 +193,7 @@ some_of : {A : Type 0} (o : Option A) → is_some o ≡ true → (x : A) × (o �
 some_of None is = absurd (false≢true is)
 some_of (Some x) is = (x, refl)
 
--- what a store that is up and tells has on its disc
+-- what a store that is up and exposes its contents has on its disc
 holds_contents : (o : OnlineFacts) (blocks : List (List ℕ)) → IsTied o → o.live ≡ true → o.disc.held ≡ Some blocks → Holds blocks o.contents
 holds_contents o blocks tied live is = record {
   directory = o.layout.directory;

@@ -1,4 +1,5 @@
 -- The users who are kept and touched, by name and by number.
+-- serves: dumped_texts_stay, lib, AddLemmas, AdoptLemmas, NeedsLemmas, OpenedLemmas, PartLemmas, UnjamLemmas, crates above
 use Rattle.std.proofs.Common.{◌≡◌, ◌≢◌, ℕ, zero, suc, ◌<◌, Bool, true, false, cond, List, [], ◌∷◌, Option, Some, None, is_some, refl, sym, ◌∙◌, ap, arith, inl, inr}
 use Rattle.std.specs.Prelude.{◌⊎◌, ◌==◌, ◌||◌, All, Contains, filter, map, nat_lt, not}
 use Rattle.std.specs.List.{list_any}
@@ -71,7 +72,7 @@ has_new n numbers =
     ∙ ap (λ (b : Bool). list_any (λ k. k == n) (filter (λ k. nat_lt k n) numbers) || (b || list_any (λ k. k == n) (filter (λ k. nat_lt n k) numbers))) (eq-eqb n n refl)
     ∙ or_true (list_any (λ k. k == n) (filter (λ k. nat_lt k n) numbers))
 
--- WHAT A FILTER LEAVES of what passes a test
+-- what a filter leaves of the items that pass a test
 any_agree : {A : Type 0} (t p q : A → Bool) (xs : List A) → All (λ x. t x ≡ true → p x ≡ q x) xs → list_any t (filter p xs) ≡ list_any t (filter q xs)
 any_agree t p q [] all = refl
 any_agree t p q (x ∷ xs) all = by_test (cases_Bool (t x)) (any_agree t p q xs (All-tail (λ y. t y ≡ true → p y ≡ q y) x xs all))
@@ -130,7 +131,7 @@ same_names m n same = same_map text_total text_exact m n (λ q. one_of (get m q)
 pub is_called : (q : List ℕ) (u : UserRec) → called q u ≡ true → q ≡ u.user
 is_called q u e = tied_are text_total text_exact q u.user e
 
--- who is called so has the number, and the other way round
+-- the user of this name has the number, and conversely
 module _ (users : List UserRec) (numbers : List ℕ) (u : UserRec) (named : All (IsNamed u.number u.user) users) where
   of_number : (q : List ℕ) → called q u ≡ true → All (λ (v : UserRec). called q v ≡ true → v.number ≡ u.number) users
   of_number q is = All-weaker (IsNamed u.number u.user) (λ (v : UserRec). called q v ≡ true → v.number ≡ u.number) (λ v n e. n.1 (sym (is_called q v e) ∙ is_called q u is)) users named

@@ -1,4 +1,5 @@
 -- The versions that wait, by stamp: those of the plan are those of the state.
+-- serves: AdoptLemmas, CallLemmas, NeedsLemmas, OpenedLemmas, OwnLemmas, PutLemmas, SetLemmas, UnjamLemmas, crates above
 use Rattle.std.proofs.Common.{◌≡◌, ◌≢◌, ℕ, zero, suc, ◌+◌, ◌<◌, Bool, true, false, cond, List, [], ◌∷◌, get_or, length, Option, Some, None, unwrap_or, refl, sym, ◌∙◌, ap, arith, subst, inl, inr}
 use Rattle.std.specs.Prelude.{◌⊎◌, ◌==◌, ◌&&◌, All, Contains, filter, is_none, map, nat_lt}
 use Rattle.std.specs.Ordering.{nat_cmp, eq_by_cmp}
@@ -36,7 +37,7 @@ use Rattle.g_laws_store.specs.Rooms.{HasLength}
 use Rattle.g_laws_store.proofs.PlaceLemmas.{place_found}
 use Rattle.g_laws_store.proofs.RoomLemmas.{files_apart}
 
--- what is mapped is there, and comes from somewhere
+-- mapped items are there, and come from somewhere
 pub mapped_there : {A B : Type 0} (f : A → B) (xs : List A) (x : A) → Contains xs x → Contains (map f xs) (f x)
 mapped_there f [] x (i, within, is) = let no : ⊥ = omega (arith, within) in absurd no
 mapped_there f (y ∷ ys) x (zero, within, is) = (0, omega arith, ap f is)

@@ -1,5 +1,5 @@
--- WHAT A START WOULD ADOPT is what the closing of the dump would note: from the opening on, whatever is answered meanwhile. (The law of START
--- asks it of the state in which the last step of a dump is stopped: `OwnsNoted`.)
+-- What START would adopt is what the closing of the dump would note, from the opening on and for all answers in between.
+-- (The law of START requires it of the state in which the last step of a dump is stopped: `OwnsNoted`.)
 use Rattle.std.specs.Prelude.{◌≡◌, ℕ, ◌<◌, ◌≤◌, true, false, List, Option, Some, None, Ok}
 use Rattle.std.specs.FinMap.{get}
 use Rattle.g_name.specs.declared.full.Full.{Full}
@@ -17,18 +17,19 @@ use Rattle.g_store_meaning.specs.StoreInvariant.{StoreFacts}
 use Rattle.g_laws_store.specs.Rooms.{held_in}
 use Rattle.g_laws_store.specs.Opening.{IsOpening}
 
--- no two files have one stamp, each is older than the next one, and no version of a user who is kept waits
+-- No two files have the same stamp, each stamp is less than the next one, and no version of an unchanged user waits.
 pub record IsDumpable (k : Holding) : Type 0 where
   pub apart : (full other : Full) (row another : FileRow) → get k.tree.files full ≡ Some row → get k.tree.files other ≡ Some another → row.stamp ≡ another.stamp → full ≡ other
   pub dated : (full : Full) (row : FileRow) → get k.tree.files full ≡ Some row → row.stamp < k.tree.next
   pub kept : (full : Full) (row : FileRow) → get k.tree.files full ≡ Some row → is_in k.kept full.user ≡ true → waits k (full, row) ≡ false
 
--- the copies of the dump's own records are those that its waiting versions get, and it names no version that is made later
+-- The copies that the dump's own records name are those that its waiting versions get, and neither has a stamp that is
+-- assigned later.
 pub record OwnsStand (d : OpenDump) (k : Holding) : Type 0 where
   pub noted : OwnsNoted d k
   pub older : (stamp : ℕ) → k.tree.next ≤ stamp → (get d.own stamp ≡ None) × (get d.waiting stamp ≡ None)
 
--- so it is in a state with an open dump
+-- The state has an open dump, for which `OwnsStand` holds.
 pub record StandIn (s : State) : Type 0 where
   pub held : Holding
   pub holds : s.holding ≡ Some held
@@ -36,12 +37,13 @@ pub record StandIn (s : State) : Type 0 where
   pub is : s.open_dump ≡ Some dump
   pub stand : OwnsStand dump held
 
+-- A store that opens a dump satisfies `OwnsStand` afterwards, and calls, migrations and dump steps preserve it.
 pub record OwnsStay : Type 0 where
-  -- a store that opens a dump has what is asked
+  -- a store that opens a dump satisfies the premise
   pub dumpable : (v : View) (s : StoreFacts) (plan : Plan) (pins : List Pin) (content : List (List ℕ)) (opened : Opened) → IsOpening v s plan pins content opened
       → IsDumpable (held_in v s.online)
   pub opened : (s : State) (k : Holding) (serial : ℕ) (o : Outcome) (number : ℕ) (new : State) → IsDumpable k → OpenStep s k serial o (Ok number) new → StandIn new
-  -- calls, migrations and steps of the dump keep it
+  -- calls, migrations and steps of the dump preserve it
   pub called : (s : State) (k : Holding) (d : OpenDump) (who : List ℕ) (call : StoreCall) (o : Outcome) (reply : StoreReply) (new : State)
       → s.holding ≡ Some k → s.open_dump ≡ Some d → OwnsStand d k → CallStep s k who call o (Ok reply) new → StandIn new
   pub migrated : (s : State) (k : Holding) (d : OpenDump) (user : Option (List ℕ)) (full : Full) (o : Outcome) (answer : Full) (new : State)

@@ -1,5 +1,5 @@
--- A CALL'S STEP, put together: what its change makes of contents, and of the numbers of changed and touched users, is what the step makes of
--- the state.
+-- What a call's change makes of the contents, and of the numbers of changed and touched users, is what the step of the call
+-- makes of the state.
 use Rattle.std.specs.Prelude.{◌≡◌, ◌⊎◌, ℕ, ◌-◌, ◌<◌, ◌≤◌, ◌||◌, ◌++◌, true, false, List, [], ◌∷◌, All, Contains, Option, Some, None, IfSome, bit_and, bit_or, is_some, length, slice_set}
 use Rattle.g_name.specs.declared.full.Full.{Full}
 use Rattle.g_name.specs.declared.path.Path.{Path}
@@ -24,12 +24,14 @@ use Rattle.g_store_meaning.specs.StoreInvariant.{DumpFacts}
 use Rattle.g_laws_store.specs.Rooms.{ArePins, HasLength, held_in}
 use Rattle.g_laws_store.specs.UnjamPlan.{IsUnjamPlan}
 
--- what is known of a store where a call comes: its records keep their rules, and versions are pinned just where a dump is open
+-- What is known of a store when a call arrives: its records satisfy their rules, and versions are pinned if and only if a
+-- dump is open.
 pub record IsKnown (o : OnlineFacts) (dump : Option DumpFacts) : Type 0 where
   pub records : IsRecords o.contents.users (recs_in o.contents)
   pub pinned : is_some o.pins ≡ is_some dump
 
--- and, where it takes or brings bytes, of texts and pins; and no dump is newer than the next version
+-- For a call that adds bytes or brings them back, it is also known of texts and pins; and no dump's next stamp exceeds that
+-- of the filestore.
 pub record IsAsked (v : View) (o : OnlineFacts) (dump : Option DumpFacts) : Type 0 where
   pub records : IsRecords o.contents.users (recs_in o.contents)
   pub dated : StampsBelow o.contents.head.next_stamp (recs_in o.contents)
@@ -39,12 +41,12 @@ pub record IsAsked (v : View) (o : OnlineFacts) (dump : Option DumpFacts) : Type
   pub dumped : IfSome v.dumped (λ t. t.last.next ≤ o.contents.head.next_stamp)
   pub opened : IfSome v.opened (λ p. p.directory.last.next ≤ o.contents.head.next_stamp)
 
--- these users, too
+-- These users are added to the numbers.
 abbrev pub marked : List ℕ → List ℕ → List ℕ
 marked [] numbers = numbers
 marked (n ∷ ns) numbers = with_number n (marked ns numbers)
 
--- the filestore behind a change: these contents, and these users changed and, while versions are pinned, touched
+-- The filestore after a change: it has these contents, and these users are changed and, while versions are pinned, touched.
 pub record IsBehind (o : OnlineFacts) (e : Contents) (owners : List ℕ) (new : OnlineFacts) : Type 0 where
   pub size : new.disc.size ≡ o.disc.size
   pub contents : new.contents ≡ committed (is_some o.pins) e
@@ -52,13 +54,14 @@ pub record IsBehind (o : OnlineFacts) (e : Contents) (owners : List ℕ) (new : 
   pub changed : new.changed ≡ marked owners o.changed
   pub touched : is_some o.pins ≡ true → new.touched ≡ marked owners o.touched
 
--- the name and the bytes of a version that a call makes
+-- The name and the bytes of the version that a call creates.
 abbrev pub version_made : Tree → List ℕ → StoreCall → Option (Full × List ℕ)
 version_made tree who (Put path bytes) = Some (output_name tree who path, bytes)
 version_made tree who (Append path bytes) = Some (input_name tree who path, (file_row tree (input_name tree who path)).bytes ++ bytes)
 version_made tree who call = None
 
--- the record of a new version: it takes the place of the file of its name, whose traps it keeps, or is of a new file, which is its owner's alone
+-- The record of a new version. It replaces the record of the file of its name and preserves that file's traps, or it
+-- belongs to a new file, which only its owner may use.
 pub record IsVersionOf (o : OnlineFacts) (full : Full) (r : FileRec) : Type 0 where
   pub stamp : r.stamp ≡ o.contents.head.next_stamp
   pub tape : r.tape ≡ None
@@ -67,7 +70,7 @@ pub record IsVersionOf (o : OnlineFacts) (full : Full) (r : FileRec) : Type 0 wh
   pub place : ((old : FileRec) × Contains (recs_in o.contents) old × (old.number ≡ r.number) × (full_of o.contents.users old ≡ full) × (old.owner ≡ r.owner) × (old.traps ≡ r.traps))
       ⊎ ((number_of o.contents.users (recs_in o.contents) full ≡ None) × All (λ q. q.number ≡ r.number → ⊥) (recs_in o.contents) × (r.traps ≡ record { owner = 31; others = [] }))
 
--- another record of a file, of the same version
+-- Another record of a file, with the same version.
 pub record IsRecordOf (o : OnlineFacts) (old r : FileRec) : Type 0 where
   pub number : r.number ≡ old.number
   pub owner : r.owner ≡ old.owner
@@ -76,23 +79,25 @@ pub record IsRecordOf (o : OnlineFacts) (old r : FileRec) : Type 0 where
   pub tape : r.tape ≡ old.tape
   pub rules : IsRecords o.contents.users (records.with_file r (recs_in o.contents))
 
--- the path and the user of a call that opens or closes modes, and what the user has behind it
+-- The path and the user of a call that opens or closes modes, and the modes that the user has afterwards.
 abbrev pub trapped : StoreCall → Option (Path × List ℕ)
 trapped (TrapGo path user modes) = Some (path, user)
 trapped (TrapStop path user modes) = Some (path, user)
 trapped call = None
 
+-- The modes that the user has after the call, from those before it.
 abbrev pub modes_by : StoreCall → ℕ → ℕ
 modes_by (TrapGo path user modes) had = bit_or had modes
 modes_by (TrapStop path user modes) had = had - bit_and had modes
 modes_by call had = had
 
+-- For each kind of call, the state of the store after its change is the one that the call's step makes.
 pub record CallsGoByStep : Type 0 where
-  -- a call that neither writes nor brings a file back leaves the state
+  -- a call that neither writes nor brings a file back leaves the state unchanged
   pub tells : (v : View) (reels : List Reel) (o : OnlineFacts) (dump : Option DumpFacts) (who : List ℕ) (call : StoreCall) (until : ℕ)
       → (writes call || brings_now (state_up v reels o dump) (held_in v o) who call) ≡ false
       → state_up v reels o dump ≡ after_call (state_up v reels o dump) (held_in v o) who call until
-  -- a file that is brought back, with others taken off the disc for it
+  -- a file is brought back, and others are taken off the disc for it
   pub brings : (v : View) (reels : List Reel) (o new : OnlineFacts) (dump : Option DumpFacts) (who : List ℕ) (call : StoreCall) (f : File) (bytes : Option (List ℕ)) (take : List ℕ) (room : ℕ)
       → IsAsked v o dump → Contains o.contents.files f → version_read (held_in v o).tree who call ≡ Some (full_of o.contents.users f.rec)
       → fault_of (held_in v o).tree who call ≡ None → brings_now (state_up v reels o dump) (held_in v o) who call ≡ true
@@ -130,7 +135,8 @@ pub record CallsGoByStep : Type 0 where
       → fault_of (held_in v o).tree who (Budget user kind amount) ≡ None → IsUnjam (state_up v reels o dump) (held_in v o) who (Budget user kind amount) until
       → IsBehind o (record o.contents { users = slice_set o.contents.users u.number u }) [] new
       → state_up v reels new dump ≡ after_call (state_up v reels o dump) (held_in v o) who (Budget user kind amount) until
-  -- a new version, by Put or Append, with others taken off the disc for it; its text is the one of its stamp from then on
+  -- a new version, by Put or Append, for which others are taken off the disc; its text is the text of its stamp from then
+  -- on
   pub puts : (v : View) (reels : List Reel) (o new : OnlineFacts) (dump : Option DumpFacts) (who : List ℕ) (call : StoreCall) (full : Full) (bytes : List ℕ) (f : File) (take : List ℕ) (room : ℕ)
       → IsAsked v o dump → version_made (held_in v o).tree who call ≡ Some (full, bytes) → IsVersionOf o full f.rec → f.online ≡ true
       → fault_of (held_in v o).tree who call ≡ None

@@ -1,4 +1,5 @@
--- AN OPENING IS THE STEP'S: behind it the store stands for the state that the step of an opening makes of the one before.
+-- An opening takes the step of an opening: afterwards the store represents the state that the step makes of the previous
+-- one.
 use Rattle.std.specs.Prelude.{◌≡◌, ℕ, ◌+◌, ◌-◌, List, All, Contains, None, Some, Ok, map}
 use Rattle.g_store_model.specs.State.{end_of}
 use Rattle.g_store_model.specs.CallStep.{Plain}
@@ -12,8 +13,8 @@ use Rattle.g_store_meaning.specs.StoreInvariant.{ArePinned, IsUp, StoreFacts, co
 use Rattle.g_laws_store.specs.Dumping.{AreDumpable, IsPlanOf, PinsText, opened_with}
 use Rattle.g_laws_store.specs.Rooms.{held_in}
 
--- a dump is opened over devices that tell: its plan is that of the store's records, its pins have the texts of the versions that wait,
--- and the view has what it will leave
+-- A dump is opened on reels that expose their contents: its plan is that of the store's records, its pins have the texts of
+-- the versions that wait, and the view has what the completed dump will leave.
 pub record IsOpening (v : View) (s : StoreFacts) (plan : Plan) (pins : List Pin) (content : List (List ℕ)) (opened : Opened) : Type 0 where
   pub none : s.dump ≡ None
   pub told : ReelsTold (told_reels s.rack)
@@ -27,17 +28,18 @@ pub record IsOpening (v : View) (s : StoreFacts) (plan : Plan) (pins : List Pin)
   pub content_is : content_in pins ≡ Some content
   pub opens : OpensTo (told_reels s.rack) v plan content opened
 
+-- The places, the copies and the state after an opening are those of the step of an opening.
 pub record OpeningIsStep : Type 0 where
-  -- the places of the dumped versions are those of the step: at the copies that there were, and for each version that waits at one on
-  -- the reel, among the blocks of the dump's content
+  -- The places of the dumped versions are those of the step: the existing copies, and for each version that waits a place
+  -- on the reel, among the blocks of the dump's content.
   pub noted : (v : View) (s : StoreFacts) (plan : Plan) (pins : List Pin) (content : List (List ℕ)) (opened : Opened) → IsOpening v s plan pins content opened
       → (let k = held_in v s.online in
       let ends = end_of (state_up v (told_reels s.rack) s.online s.dump) plan.serial + dump_needs k - 1 in
       AreNoted plan.serial (ends - waiting_blocks (waiting k)) ends k (dumped_places (files_in opened.directory)))
-  -- the copies that its own records name are those of the files of users who aren't kept
+  -- the copies that its own records name are those of the files of changed users
   pub own : (v : View) (s : StoreFacts) (plan : Plan) (pins : List Pin) (content : List (List ℕ)) (opened : Opened) → IsOpening v s plan pins content opened
       → own_of opened.dump ≡ own_copies (held_in v s.online) (dumped_places (files_in opened.directory))
-  -- and so is the state as a whole
+  -- and the state as a whole is that of the step
   pub state : (v : View) (s : StoreFacts) (plan : Plan) (pins : List Pin) (content : List (List ℕ)) (opened : Opened) → IsOpening v s plan pins content opened
       → (let new = opened_with plan pins s in
       state_up v (told_reels new.rack) new.online new.dump

@@ -1,5 +1,5 @@
--- WHICH CALLS GET WHICH REFUSAL of room and of devices, by the calls and their paths alone. A refusal of a device speaks of a call
--- that the plain step grants, and of the file that the call's path names.
+-- Which calls can be refused for lack of room or by a device, by call and path only. A device's refusal implies that the
+-- plain step grants the call, and concerns the file that the call's path names.
 use Rattle.std.specs.Prelude.{◌≡◌, ℕ, ◌<◌, Bool, true, false, List, Option, Some, None, Err}
 use Rattle.g_name.specs.declared.full.Full.{Full}
 use Rattle.g_name.specs.declared.path.Path.{Path}
@@ -14,20 +14,20 @@ use Rattle.g_store_meaning.specs.Answers.{Answers, Belongs, Told}
 use Rattle.g_store_meaning.specs.Reading.{StandsForState}
 use Rattle.g_store_meaning.specs.StoreInvariant.{StoreFacts}
 
--- the calls that read a file, with its path
+-- The calls that read a file, with its path.
 abbrev pub path_read : StoreCall → Option Path
 path_read (Append path bytes) = Some path
 path_read (Fetch path mode) = Some path
 path_read (Retrieve path) = Some path
 path_read call = None
 
--- those that want its bytes, wherever they lie
+-- The calls that need the file's bytes, on disc or on tape.
 abbrev pub asks_bytes : StoreCall → Bool
 asks_bytes (Append path bytes) = true
 asks_bytes (Fetch path mode) = true
 asks_bytes call = false
 
--- those that may bring bytes to the disc
+-- The calls that may bring bytes to the disc.
 abbrev pub takes_room : StoreCall → Bool
 takes_room (Put path bytes) = true
 takes_room (Append path bytes) = true
@@ -35,24 +35,24 @@ takes_room (Fetch path mode) = true
 takes_room (Retrieve path) = true
 takes_room call = false
 
--- those that write nothing at all
+-- The calls that write nothing at all.
 abbrev pub only_tells : StoreCall → Bool
 only_tells (ListFiles user) = true
 only_tells (TrapCheck path user) = true
 only_tells call = false
 
--- a state that the store stood for, which is this one where the devices tell
+-- A state that the store represented before the call. If the devices expose their contents, it is `s`.
 pub record MetIn (old : StoreFacts) (s before : State) : Type 0 where
   pub stands : StandsForState old before
   pub told : Told old → before ≡ s
 
--- the plain step grants the call
+-- The plain step grants the call.
 pub record CallIsGranted (before : State) (who : List ℕ) (call : StoreCall) : Type 0 where
   pub held : Holding
   pub holds : before.holding ≡ Some held
   pub granted : fault_of held.tree who call ≡ None
 
--- and it reads this file, which isn't on the disc, and whose copy is on this reel
+-- The call reads this file, which isn't on the disc and whose copy is on this reel.
 pub record ReadsOffline (before : State) (who : List ℕ) (call : StoreCall) (full : Full) (serial : ℕ) : Type 0 where
   pub grants : CallIsGranted before who call
   pub path : Path
@@ -61,9 +61,10 @@ pub record ReadsOffline (before : State) (who : List ℕ) (call : StoreCall) (fu
   pub offline : (place_at grants.held.places (file_row grants.held.tree full).stamp).online ≡ false
   pub reel : (c : TapeCopy) → (place_at grants.held.places (file_row grants.held.tree full).stamp).copy ≡ Some c → c.serial ≡ serial
 
+-- For each refusal by a device or for lack of room, the calls to which it is returned, and the state in which it is.
 pub record RefusalsOfCalls : Type 0 where
-  -- a lost copy, a wait and a failed read of tape come to Append, Fetch and Retrieve alone, for the offline file of the path: the first
-  -- and the last with its reel mounted, the wait without
+  -- A lost copy, a wait and a failed read of tape are returned only to Append, Fetch and Retrieve, for the offline file of
+  -- the path: the first and the last if its reel is mounted, the wait if it isn't.
   pub lost : (old new : StoreFacts) (who : List ℕ) (call : StoreCall) (full : Full) (serial : ℕ) (s : State) → (Told old → Belongs old) → StandsForState old s
       → Answers old who call (Err (NoCopy full serial)) new
       → (before : State) × MetIn old s before × ReadsOffline before who call full serial × (is_mounted before serial ≡ true)
@@ -73,14 +74,14 @@ pub record RefusalsOfCalls : Type 0 where
   pub tape : (old new : StoreFacts) (who : List ℕ) (call : StoreCall) (s : State) → (Told old → Belongs old) → StandsForState old s
       → Answers old who call (Err TapeReadFault) new
       → (before : State) × (full : Full) × (serial : ℕ) × MetIn old s before × ReadsOffline before who call full serial × (is_mounted before serial ≡ true)
-  -- a failed read of the disc comes to Append and Fetch alone
+  -- a failed read of the disc is returned only to Append and Fetch
   pub disc : (old new : StoreFacts) (who : List ℕ) (call : StoreCall) (s : State) → (Told old → Belongs old) → StandsForState old s
       → Answers old who call (Err DiscReadFault) new
       → (before : State) × MetIn old s before × CallIsGranted before who call × (asks_bytes call ≡ true)
-  -- a full disc comes to calls that bring bytes to it, with a need that is more than the room
+  -- a full disc is returned only to calls that bring bytes to it, with a need that exceeds the room
   pub filled : (old new : StoreFacts) (who : List ℕ) (call : StoreCall) (need room : ℕ) (s : State) → (Told old → Belongs old) → StandsForState old s
       → Answers old who call (Err (DiscFull need room)) new
       → (before : State) × MetIn old s before × CallIsGranted before who call × (takes_room call ≡ true) × (room < need)
-  -- and a stop, where the devices tell, to any call but List and TrapCheck
+  -- `Stopped` is returned, if the devices expose their contents, to any call except List and TrapCheck
   pub stopped : (old new : StoreFacts) (who : List ℕ) (call : StoreCall) (s : State) → Told old → (Told old → Belongs old) → StandsForState old s
       → Answers old who call (Err Stopped) new → CallIsGranted s who call × (only_tells call ≡ false)

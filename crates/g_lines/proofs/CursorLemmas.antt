@@ -1,4 +1,5 @@
--- The place in a document behind the lines that were taken.
+-- The byte offset in a document after the lines that were taken.
+-- serves: has_line, left (lines, text), line, pass, take_line, crates above
 use Rattle.std.proofs.Common.{◌≡◌, ◌<◌, ◌≤◌, ◌+◌, ◌-◌, ℕ, List, [], ◌∷◌, ◌++◌, ⊎_elim, length, get_or, take, drop, take-add, take_all, le-ltb, lt-ltb, nat_lt, sym, ap, ◌∙◌, refl, arith}
 use Rattle.std.proofs.lemmas.Bool.{cases_lt}
 use Rattle.std.proofs.lemmas.List.{drop_at, drop-drop, drop_more, get_or-drop, length-append, length-drop, take-append-drop, take_more, take_rest}
@@ -7,7 +8,7 @@ use Rattle.g_lines.proofs.DocumentLemmas.{rest_back, text_more}
 use Rattle.g_lines.specs.Documents.{IsPlace}
 use Rattle.g_lines.specs.Lines.{ended, lines_of, text_of}
 
--- the lines in front and the others
+-- the text of the first n lines and that of the others
 pub text_cut : (lines : List (List ℕ)) (n : ℕ) → text_of lines ≡ text_of (take n lines) ++ text_of (drop n lines)
 text_cut lines n = ap text_of (sym (take-append-drop n lines)) ∙ flat_map-append ended (take n lines) (drop n lines)
 
@@ -35,7 +36,7 @@ place_next lines taken at line place inside is = record {
   bytes = omega (arith, place.bytes, bytes_more lines taken line inside is);
 }
 
--- the place behind some more lines
+-- the offset after some more lines
 pub place_pass : (lines : List (List ℕ)) (taken at count bytes : ℕ) → IsPlace lines taken at → count ≤ length (drop taken lines) → bytes ≡ length (text_of (take count (drop taken lines)))
     → IsPlace lines (taken + count) (at + bytes)
 place_pass lines taken at count bytes place within is =

@@ -1,4 +1,5 @@
 -- A text and its lines, each with its byte 10.
+-- serves: lacks_end (lacks, whole), pass, push (ok), take_line, CursorLemmas, crates above
 use Rattle.std.proofs.Common.{◌≡◌, ◌≢◌, ◌==◌, Bool, true, false, eqb, eqb-true, eq-eqb, ◌<◌, ◌≤◌, ◌+◌, ◌-◌, ℕ, List, [], ◌∷◌, ◌++◌, ◌⊎◌, inl, inr, length, get_or, take, not, suc, zero, All, if◌then◌else◌, sym, ap, subst, ◌∙◌, refl, arith}
 use Rattle.std.proofs.Common.{Err, Ok, Result}
 use Rattle.std.specs.List.{AllByRecursion}
@@ -34,7 +35,7 @@ one_left : (lines : List (List ℕ)) (more : List (List ℕ)) → AreOneLines (l
 one_left [] more are = are
 one_left (line ∷ lines) more are = one_left lines more are.1
 
--- lines in front of a text's other lines, and those behind them, are the lines of their text
+-- leading lines of a text are the lines of their own text
 pub front_back : (text : List ℕ) (lines more : List (List ℕ)) → lines_of text ≡ lines ++ more → lines_of (text_of lines) ≡ lines
 front_back text lines more e =
     text-lines lines (All-from_recursion (λ (line : List ℕ). All (λ b. b ≢ 10) line) lines (one_front lines more (subst AreOneLines e (lines_one text))))
@@ -43,7 +44,7 @@ pub rest_back : (text : List ℕ) (lines more : List (List ℕ)) → lines_of te
 rest_back text lines more e =
     text-lines more (All-from_recursion (λ (line : List ℕ). All (λ b. b ≢ 10) line) more (one_left lines more (subst AreOneLines e (lines_one text))))
 
--- THE TEXT OF A TEXT'S LINES: itself, or with the byte 10 that it lacks
+-- THE TEXT OF A TEXT'S LINES: the text itself, or the text with the missing last byte 10
 back_ended : (b : ℕ) (text : List ℕ) (lines : List (List ℕ)) → b ≡ 10 → (text_of lines ≡ text) ⊎ (text_of lines ≡ ended text)
     → (text_of ([] ∷ lines) ≡ b ∷ text) ⊎ (text_of ([] ∷ lines) ≡ ended (b ∷ text))
 back_ended b text lines is (inl e) = inl (ap (λ (bs : List ℕ). 10 ∷ bs) e ∙ ap (λ (c : ℕ). c ∷ text) (sym is))
@@ -128,7 +129,7 @@ lacks_end text some is = lacks text some (eqb-false (get_or text (length text - 
 pub has_end : (text : List ℕ) → 0 < length text → not (eqb (get_or text (length text - 1) 0) 10) ≡ false → IsWhole text
 has_end text some is = whole text some (eqb-true (get_or text (length text - 1) 0) 10 (not_false (eqb (get_or text (length text - 1) 0) 10) is))
 
--- THE FIRST LINES OF A TEXT, whose last line may lack its byte 10, stand at its front with their bytes 10, where one more is behind them
+-- THE FIRST LINES OF A TEXT, with their bytes 10, are a prefix of it, if another line follows (the text's last line may have no byte 10)
 pub lines_in_front : (text : List ℕ) (lines more : List (List ℕ)) (line : List ℕ) → lines_of text ≡ lines ++ line ∷ more
     → (length (text_of lines) ≤ length text) × (take (length (text_of lines)) text ≡ text_of lines)
 lines_in_front text lines more line e = front text (text_of (lines_of text)) (text_of lines) (text_of (line ∷ more)) (text_back text) cut longer
@@ -149,7 +150,7 @@ lines_in_front text lines more line e = front text (text_of (lines_of text)) (te
         let short : length lines ≤ length text = omega (arith, ap length more, ap length both, length-append lines rest, length-append text (10 ∷ []), some) in
         (short, sym (take-append-le (length lines) text (10 ∷ []) short) ∙ ap (take (length lines)) (sym more ∙ both) ∙ take_at lines rest (length lines) refl)
 
--- so a copy of the front has these lines
+-- a copy of that prefix has these lines
 pub front_lines : (text : List ℕ) (lines more : List (List ℕ)) (line : List ℕ) → lines_of text ≡ lines ++ line ∷ more → lines_of (take (length (text_of lines)) text) ≡ lines
 front_lines text lines more line e = ap lines_of (lines_in_front text lines more line e).1 ∙ front_back text lines (line ∷ more) e
 
@@ -163,7 +164,7 @@ pub front_long : (text : List ℕ) (lines more : List (List ℕ)) → lines_of t
 front_long text lines more e =
     omega (arith, back_long text, ap length (ap text_of e ∙ flat_map-append ended lines more), length-append (text_of lines) (text_of more))
 
--- A LINE IS PUT BEHIND A TEXT whose lines have their bytes 10: it is the last of its lines, with its byte 10
+-- A LINE IS APPENDED TO A TEXT whose lines have their bytes 10: it becomes the last line, with its byte 10
 pub line_behind : (text line : List ℕ) → IsWhole text → IsOneLine line → (lines_of (text ++ ended line) ≡ lines_of text ++ line ∷ []) × IsWhole (text ++ ended line)
 line_behind text line whole one =
     let lines = lines_of text in
@@ -181,7 +182,7 @@ line_behind text line whole one =
     one_behind [] line are one = (one, tt)
     one_behind (l ∷ lines) line are one = (are.0, one_behind lines line are.1 one)
 
--- what a text is that a line was put behind, or that stayed as it was
+-- the text after a line was appended, or unchanged
 pub pushed_whole : {A E : Type 0} (r : Result A E) (text line bytes new : List ℕ) → IsWhole text → IsOneLine line → bytes ≡ ended line → OnOk r (new ≡ text ++ bytes) → OnErr r (new ≡ text) → IsWhole new
 pushed_whole (Ok x) text line bytes new whole one is ok err = subst IsWhole (sym (ok ∙ ap (λ (t : List ℕ). text ++ t) is)) (line_behind text line whole one).1
 pushed_whole (Err e) text line bytes new whole one is ok err = subst IsWhole (sym err) whole

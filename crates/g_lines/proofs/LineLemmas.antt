@@ -1,4 +1,5 @@
 -- Lines and the bytes 10 between them.
+-- serves: end_last (whole), is_empty, lines_are_those_of_their_text, split_line, DocumentLemmas, crates above
 use Rattle.std.proofs.Common.{◌≡◌, ◌≢◌, ◌↔◌, ◌==◌, Bool, true, eqb, eqb-true, ◌<◌, ℕ, List, [], ◌∷◌, ◌++◌, append_assoc, length, All, sym, ap, ◌∙◌, refl, arith}
 use Rattle.std.specs.List.{AllByRecursion}
 use Rattle.std.proofs.lemmas.Bool.{ne_eqb, cond_both, false≢true}
@@ -18,7 +19,7 @@ pub lines_of-last : (b : ℕ) (line : List ℕ) → HasNoEnd (b ∷ line) → li
 lines_of-last b [] one = rw (ne_eqb b 10 one.0) refl
 lines_of-last b (c ∷ line) one = rw (ne_eqb b 10 one.0, lines_of-last c line one.1) refl
 
--- what `split_line` answers where there is a byte 10, and where there is none
+-- what `split_line` returns if the text has a byte 10, and if it has none
 pub lines_of-split : (text line rest : List ℕ) → text ≡ line ++ 10 ∷ rest → All (λ b. b ≢ 10) line → lines_of text ≡ line ∷ lines_of rest
 lines_of-split text line rest e one = ap lines_of e ∙ lines_of-line line rest (recursion_from_All _ line one)
 
@@ -34,7 +35,7 @@ pub lines_of_some : (b : ℕ) (text : List ℕ) → lines_of (b ∷ text) ≡ []
 lines_of_some b text e =
     cond_both (eqb b 10) ([] ∷ lines_of text) (onto_first b (lines_of text)) (λ (ls : List (List ℕ)). ls ≡ [] → ⊥) (λ is f. cc) (λ is f. onto_first_some b (lines_of text) f) e
 
--- a text has no lines where it is empty
+-- a text has no lines if and only if it is empty
 pub no_lines : (text : List ℕ) (lines : List (List ℕ)) (empty : Bool) → empty ≡ eqb (length text) 0 → lines_of text ≡ lines → (empty ≡ true) ↔ (lines ≡ [])
 no_lines [] lines empty is same = ((λ e. sym same), (λ e. is))
 no_lines (b ∷ text) lines empty is same =
@@ -66,7 +67,7 @@ lines-text (b ∷ text) =
     (λ is. ap (λ (bs : List ℕ). 10 ∷ bs) (lines-text text) ∙ ap (λ (c : ℕ). c ∷ ended text) (sym (eqb-true b 10 is)))
     (λ other. onto_text b (lines_of (ended text)) (ended_some text) ∙ ap (λ (bs : List ℕ). b ∷ bs) (lines-text text))
 
--- the last byte 10 may lack
+-- the last byte 10 may be missing
 pub lines-last : (text : List ℕ) (last : ℕ) → last ≢ 10 → lines_of (ended (text ++ last ∷ [])) ≡ lines_of (text ++ last ∷ [])
 lines-last [] last other = rw (ne_eqb last 10 other) refl
 lines-last (b ∷ text) last other = ap (λ (ls : List (List ℕ)). if b == 10 then [] ∷ ls else onto_first b ls) (lines-last text last other)

@@ -1,4 +1,5 @@
--- Numbers as they are written.
+-- Decimal numbers in texts.
+-- serves: number, crates above
 use Rattle.std.proofs.Common.{Err, List, true, le-leb, leb-true, None, Ok, Option, Result, Some, ap, arith, get_or, length, refl, subst, suc, sym, zero, ℕ, ◌<◌, ◌≢◌, ◌≤◌, ◌^◌, ◌∙◌, ◌≡◌}
 use Rattle.std.specs.Fmt.{decimal}
 use Rattle.std.specs.Str.{IsUtf8}
@@ -21,7 +22,7 @@ same_text-refl t = (bytes_eq-Decides t t).1 refl
 pub same_text-eq : (a b : List ℕ) → same_text a b ≡ true → a ≡ b
 same_text-eq a b is = (bytes_eq-Decides a b).0 is
 
--- what is read is what is written
+-- the number read is the number written
 pub number-sound : (most n : ℕ) (digits : List ℕ) → number_read most digits ≡ Some n → (n ≤ most) × (digits ≡ decimal n)
 number-sound most n digits is =
     let v = digits_value 10 digits in

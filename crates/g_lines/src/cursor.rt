@@ -1,4 +1,4 @@
-//! The lines of a document, taken one after the other.
+//! The lines of a document, taken in order.
 ghost use Rattle.std.specs.Prelude.{◌≡◌, ◌<◌, ◌≤◌, ◌+◌, [], length, nat_lt, slice_index_or, take, OnErr, OnOk};
 ghost use Rattle.g_lines.specs.Documents.{IsOneLine, lines_left, untaken, with_line, with_taken};
 ghost use Rattle.g_lines.specs.Lines.{lines_of, text_of};
@@ -9,7 +9,7 @@ use g_base::NoMemory;
 use g_name::Text;
 use std::marker::Model;
 
-/// A document of which lines are taken. Contracts see the lines, and how many of them were taken.
+/// A document whose lines are taken in order. Contracts see the lines, and how many of them were taken.
 #[derive(Drop)]
 pub struct Cursor {
     document: Document,
@@ -32,7 +32,7 @@ impl Model for Cursor {
 }
 
 impl Cursor {
-    /// A document of which no line was taken.
+    /// A cursor at the first line of a document.
     pub fn new(document: Document) -> Cursor
         ensures { result ≡ untaken document }
     {
@@ -86,7 +86,7 @@ impl Cursor {
         self.taken += 1;
     }
 
-    /// Counts so many lines more as taken, which have so many bytes with their bytes 10.
+    /// Takes this many more lines, which have this many bytes with their bytes 10.
     pub fn pass(&mut self, lines: usize, bytes: usize)
         requires within { lines ≤ length (lines_left self.old) }
         requires bytes { bytes ≡ length (text_of (take lines (lines_left self.old))) }
@@ -97,7 +97,7 @@ impl Cursor {
         self.taken += lines;
     }
 
-    /// Counts so many lines as taken, and no others; they have so many bytes with their bytes 10.
+    /// Takes this many lines from the first on; they have this many bytes with their bytes 10.
     pub fn go_to(&mut self, lines: usize, bytes: usize)
         requires within { lines ≤ length self.old.lines }
         requires bytes { bytes ≡ length (text_of (take lines self.old.lines)) }
@@ -107,7 +107,7 @@ impl Cursor {
         self.at = bytes;
     }
 
-    /// Puts a line behind the others; without memory nothing changes.
+    /// Appends a line; without memory nothing changes.
     pub fn add_line(&mut self, line: Text) -> Result<(), NoMemory>
         requires { IsOneLine line }
         ensures ok { OnOk result (self.new ≡ with_line line self.old) }

@@ -1,4 +1,4 @@
-//! Lines one behind the other in one text.
+//! Consecutive lines in one text.
 ghost use Rattle.std.specs.Prelude.{◌≡◌, ◌∷◌, ◌++◌, [], IfOk, OnErr, OnOk, IsTrue, IsFalse};
 ghost use Rattle.g_lines.specs.Documents.{IsOneLine, IsWhole};
 ghost use Rattle.g_lines.specs.Lines.{ended, lines_of, text_of};
@@ -8,7 +8,7 @@ use g_name::Text;
 use std::alloc::Global;
 use std::marker::Model;
 
-/// Lines that stand one behind the other in one text, each with its byte 10. Contracts see the list of the lines, without their bytes 10.
+/// Consecutive lines in one text, each with its byte 10. Contracts see the list of the lines, without their bytes 10.
 #[derive(Drop)]
 pub struct Document {
     text: Text,
@@ -27,7 +27,7 @@ impl Model for Document {
 }
 
 impl Document {
-    /// No lines, which takes no memory yet.
+    /// No lines; allocates nothing.
     pub fn new(alloc: Global) -> Document
         ensures { result ≡ [] }
     {
@@ -46,7 +46,7 @@ impl Document {
         Ok(Document { text: copy })
     }
 
-    /// Puts a line behind the others; without memory the document stays as it was.
+    /// Appends a line; without memory the document is unchanged.
     pub fn push(&mut self, line: Text) -> Result<(), NoMemory>
         requires { IsOneLine line }
         ensures ok { OnOk result (self.new ≡ self.old ++ line ∷ []) }
@@ -66,7 +66,7 @@ impl Document {
     }
 }
 
-/// Puts a byte 10 behind a text whose last line lacks it.
+/// Appends a byte 10 to a text whose last line has none.
 fn end_last(text: &mut Text) -> Result<(), NoMemory>
     ensures whole { OnOk result (IsWhole text.new) }
     ensures lines { OnOk result (lines_of text.new ≡ lines_of text.old) }
@@ -77,7 +77,7 @@ fn end_last(text: &mut Text) -> Result<(), NoMemory>
     Ok(())
 }
 
-/// Whether the last line lacks its byte 10.
+/// Whether the last line is missing its byte 10.
 fn lacks_end(text: &[u8]) -> bool
     ensures lacks { IsTrue result → lines_of (ended text.now) ≡ lines_of text.now }
     ensures whole { IsFalse result → IsWhole text.now }

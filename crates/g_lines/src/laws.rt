@@ -2,8 +2,7 @@
 ghost use Rattle.std.specs.Prelude.{◌≡◌, ◌≢◌, ◌++◌, ◌∷◌, ℕ, List, [], All};
 ghost use Rattle.g_lines.specs.Lines.{ended, lines_of, text_of};
 
-/// Lines go into a text and back. A text gives its lines and comes back from them, but for the byte 10 of its last
-/// line, which it may lack.
+/// Lines are preserved by the text made of them, and a text by its lines, except for the byte 10 that its last line may be missing.
 pub fn lines_are_those_of_their_text()
     ensures lines { (lines : List (List ℕ)) → All (λ line. All (λ byte. byte ≢ 10) line) lines
         → lines_of (text_of lines) ≡ lines }

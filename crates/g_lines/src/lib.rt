@@ -1,4 +1,4 @@
-//! The lines of texts, documents and lists of texts that own them, and numbers as texts write them (docs/DEFINITIONS.md, "The script", *Lines*).
+//! The lines of texts, documents and lists of texts that own them, and numbers as texts write them (docs/DEFINITIONS.md, "g_lines", *Lines*).
 #![tactic(auto)]
 
 mod cursor;

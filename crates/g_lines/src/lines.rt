@@ -5,7 +5,7 @@ ghost use Rattle.g_lines.specs.Lines.{lines_of};
 use memchr::memchr;
 use std::marker::Model;
 
-/// The lines of a text that are still to come, without their bytes 10.
+/// The lines of a text that haven't been taken yet, without their bytes 10.
 #[derive(Drop)]
 pub struct Lines<'a> {
     rest: &'a [u8],
@@ -35,7 +35,7 @@ impl<'a> Lines<'a> {
         self.rest.is_empty()
     }
 
-    /// The text that is still to come.
+    /// The part of the text that hasn't been taken yet.
     pub fn rest(&self) -> &'a [u8]
         ensures { lines_of result.now ≡ self.now }
     {
@@ -57,7 +57,7 @@ impl<'a> Lines<'a> {
     }
 }
 
-/// The first line of a text, and what comes behind its byte 10.
+/// The first line of a text, and the bytes after its byte 10.
 pub(crate) fn split_line(text: &[u8]) -> (&[u8], &[u8])
     requires { 0 < length text.now }
     ensures { lines_of text.now ≡ result.0.now ∷ lines_of result.1.now }
@@ -68,7 +68,7 @@ pub(crate) fn split_line(text: &[u8]) -> (&[u8], &[u8])
     }
 }
 
-/// What stands before and behind the first byte of that value.
+/// The bytes before and after the first byte of that value.
 pub fn split_at_byte(text: &[u8], byte: u8) -> Option<(&[u8], &[u8])>
     ensures split { MatchOption result
         (All (λ b. b ≢ byte) text.now)

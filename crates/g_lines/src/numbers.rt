@@ -1,4 +1,4 @@
-//! Numbers as they are written: decimal, without a sign and without leading zeros.
+//! Numbers in texts: decimal, without a sign and without leading zeros.
 ghost use Rattle.std.specs.Fmt.{decimal};
 ghost use Rattle.std.specs.Prelude.{◌≡◌, ◌++◌, ◌↔◌, IsTrue, OnErr, OnOk};
 ghost use Rattle.g_lines.specs.Numbers.{BeginsPlainly, number_read};
@@ -8,7 +8,7 @@ use g_name::Text;
 use itoa::Buffer;
 use std::str;
 
-/// The number that these digits are, from 0 to the most. None where they are none, or have a sign or leading zeros.
+/// The number of these digits, from 0 to `most`. None if they aren't digits, or have a sign or leading zeros.
 pub fn number(digits: &[u8], most: u64) -> Option<u64>
     ensures { result ≡ number_read most digits.now }
 {
@@ -24,7 +24,7 @@ pub fn number(digits: &[u8], most: u64) -> Option<u64>
     if number <= most { Some(number) } else { None }
 }
 
-/// Whether the first byte is a digit, and the only one if it is 0.
+/// Whether the first byte is a digit, and the only byte if it is 0.
 pub fn begins_plainly(digits: &[u8]) -> bool
     ensures { IsTrue result ↔ BeginsPlainly digits.now }
 {
@@ -35,7 +35,7 @@ pub fn begins_plainly(digits: &[u8]) -> bool
     }
 }
 
-/// Puts a number's digits behind the text; without memory the text stays as it was.
+/// Appends the decimal digits of a number to the text; without memory the text is unchanged.
 pub fn push_decimal(text: &mut Text, number: u64) -> Result<(), NoMemory>
     ensures ok { OnOk result (text.new ≡ text.old ++ decimal number) }
     ensures err { OnErr result (text.new ≡ text.old) }

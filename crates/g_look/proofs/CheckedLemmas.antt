@@ -1,4 +1,5 @@
--- What a check answers, of what was seen of disc and rack.
+-- The result of a check, from what was read of disc and rack.
+-- serves: check (filestore, right), dumps (text)
 use Rattle.std.proofs.Common.{◌≡◌, ◌↔◌, ℕ, Bool, true, List, [], ◌∷◌, ◌++◌, Option, Some, None, refl, sym, ◌∙◌, ap, subst, All, IsTrue}
 use Rattle.std.specs.Prelude.{is_some}
 use Rattle.std.proofs.lemmas.List.Elements.{All-map}
@@ -63,13 +64,13 @@ holds_so blocks (Some f) is = (λ yes. (directory_in f.1, is.0), λ other. refl)
 pub holds_filestore : (size : ℕ) (held : Option (List (List ℕ))) (s : Standing) (blocks : List (List ℕ)) → IsStanding size held s → held ≡ Some blocks → IsTrue (is_some s.dirs) ↔ ((d : Directory) × StandsFor blocks d)
 holds_filestore size held s blocks standing told = holds_so blocks s.dirs (standing.found blocks told)
 
--- reels that are mounted are so when they were read
+-- reels that are mounted now were mounted when they were read
 pub mounted_told : (old new : Rack) → OnlyReads old new → All (λ r. r.mounted ≡ true) old.reels → All (λ r. r.mounted ≡ true) (told_reels new)
 mounted_told old new only all =
     subst (All (λ (r : Reel). r.mounted ≡ true)) (sym only.reels)
     (All-map (λ (r : Reel). r.mounted ≡ true) unread old.reels (λ k d within. all k d within))
 
--- the same by what was read before
+-- the same, from what was read before
 pub checked_at : (size size_1 : ℕ) (held held_1 : Option (List (List ℕ))) (reels reels_1 reels_2 : List Reel) (items slice slice_2 slice_3 : List Found) (s : Standing) (verdict : Option Broken) (missing : Option ℕ) (text : List ℕ)
     → size_1 ≡ size → held_1 ≡ held → reels_1 ≡ reels → reels_2 ≡ reels_1 → slice ≡ items → slice_2 ≡ items → slice_3 ≡ items → AreSeen reels items → IsStanding size held s
     → (AreSeen reels_1 slice → AllTold held_1 reels_1 → IsVerdict held_1 reels_1 verdict) → ((dumps : List Dump) → AreKnown slice_2 dumps → NamesMissing dumps missing)
@@ -88,7 +89,7 @@ checked_at size size_1 held held_1 reels reels_1 reels_2 items slice slice_2 sli
     (subst (λ (rs : List Reel). text ≡ text_of (disc_lines size_1 s.side (all_dumps shelf rs) (found_in s.dirs) ++ rack_lines shelf rs ++ verdict_line (is_some s.dirs) verdict missing ∷ [])) (same_reels_2 ∙ same_reels)
     (is shelf (subst (IsSeen reels_2 shelf) (sym is_slice_3) (subst (λ (rs : List Reel). IsSeen rs shelf items) (sym (same_reels_2 ∙ same_reels)) here)))))
 
--- the text of a rack alone
+-- the text of a rack without a disc
 pub dumps_text : (reels reels_1 : List Reel) (items slice : List Found) (old text : List ℕ) → reels_1 ≡ reels → slice ≡ items → old ≡ [] → AreSeen reels items
     → ((shelf : ℕ → List Dump) → IsSeen reels_1 shelf slice → text ≡ old ++ text_of (rack_lines shelf reels_1)) → ReelsTold reels → (shelf : ℕ → List Dump) → AreShelved shelf reels
     → text ≡ text_of (rack_lines shelf reels)

@@ -1,4 +1,5 @@
--- What is read and compared of a version.
+-- The texts of a version that are read and compared.
+-- serves: compare_file (none, some), compare_files, compare_texts (none, some), judge_disc, tape, tape_text (read, text), text_in, CopyLemmas
 use Rattle.std.proofs.Common.{◌≡◌, ◌⊎◌, inl, inr, ℕ, zero, suc, ◌+◌, ◌-◌, ◌<◌, ◌≤◌, Bool, true, false, cond, List, [], ◌∷◌, ◌++◌, length, map, min, take, drop, Option, Some, None, Result, Ok, Err, refl, sym, ◌∙◌, ap, arith, subst, All}
 use Rattle.std.specs.Prelude.{◌==◌, Contains, IfNone, IfOk, IfSome, get_or}
 use Rattle.std.specs.Option.{ForSome}
@@ -43,7 +44,7 @@ other_fault is = cc
 no_blocks : (bs : List (List ℕ)) → (let none : Option (List (List ℕ)) = None in none ≡ Some bs) → ⊥
 no_blocks bs is = cc
 
--- where the reel isn't there, or no block so far behind
+-- the reel isn't in the rack, or has no block at the place
 pub tape_text_none : (rack : Rack) → AreReels rack.reels → (copy : TapeCopy) (len : ℕ) (text : List ℕ) → refuses_unmount (reel copy.serial rack.reels) ≡ Some tape.NoTape → IsTapeText (told_reels rack) copy len text
 tape_text_none rack are copy len text refused r there on blocks told low =
     absurd (no_tape (reel copy.serial rack.reels) refused (blocks_there rack copy.serial r (told_apart rack are) there on ∙ told))
@@ -122,7 +123,7 @@ pub text_next : (len i : ℕ) (blocks : List (List ℕ)) (other bytes new : List
 text_next len i blocks other bytes new inside so is =
     text_step len i blocks (get_or blocks i other) bytes new inside (get_or_default blocks i other (get_or blocks i other) inside) so is
 
--- TEXTS AT HAND
+-- TEXTS IN MEMORY
 if_place : (P : TapeCopy → List Reel → Type 0) (old mid : List Reel) (o : Option TapeCopy) → mid ≡ old → IfSome o (λ c. P c mid) → IfSome o (λ c. P c old)
 if_place P old mid o same is = subst (λ (rs : List Reel). IfSome o (λ c. P c rs)) same is
 
@@ -157,7 +158,7 @@ differ_at old mid len there first second x y same read_x read_y p differ = recor
     read_at (Tape copy) t (inr (at, t_is)) =
         (inr at, subst (λ (z : List ℕ). IsTapeText old copy len z) (sym t_is) (text_of_place second copy y at (if_place (λ c rs. IsTapeText rs c len y) old mid second same read_y)))
 
--- OF A FILE
+-- FOR A FILE
 module _ (held : Option (List (List ℕ))) (size : ℕ) (dirs : Dirs) (sound : IsSound size dirs) (dumped : List FileRec) (r : FileRec) (in_files : Contains dirs.files.items r) where
   compared : (there : Option (List ℕ)) (place second : Option TapeCopy) → IsDiscText held (copy_at dirs.online.items r.number) there
       → IfSome there (λ bytes. (c : DiscCopy) × (copy_at dirs.online.items r.number ≡ Some c) × (length bytes ≡ c.len)) → IsDumpedPlace dumped r.stamp place → IsSecond r.tape place second
@@ -190,7 +191,7 @@ owners_in size dirs sound files users files_are users_are =
     subst (λ (us : List UserRec). All (λ (r : FileRec). r.owner < length us) files) (sym users_are)
     (subst (All (λ (s : FileRec). s.owner < length dirs.users.items)) (sym files_are) (owners_there size dirs sound))
 
--- THE ANSWER OF A COMPARISON
+-- THE RESULT OF A COMPARISON
 module _ (held : Option (List (List ℕ))) (size : ℕ) (dirs : Dirs) (sound : IsSound size dirs) (dumped : List FileRec) (r : FileRec) (in_files : Contains dirs.files.items r) (reels : List Reel)
     (there : Option (List ℕ)) (place second : Option TapeCopy) (online : List (ℕ × DiscCopy)) (online_is : online ≡ dirs.online.items) (text : IsDiscText held (copy_at online r.number) there)
     (long : IfSome there (λ bytes. (c : DiscCopy) × (copy_at online r.number ≡ Some c) × (length bytes ≡ c.len))) (named : IsDumpedPlace dumped r.stamp place) (is : IsSecond r.tape place second) where

@@ -1,4 +1,5 @@
--- What a copy on tape was read to hold is what the completed dumps of the rack hold there.
+-- The bytes read at a copy on tape are those that the completed dumps of the rack hold there.
+-- serves: copy_text (bytes, lost), file_bytes (bytes), taped_text (lost)
 use Rattle.std.proofs.Common.{◌≡◌, ℕ, ◌<◌, true, List, length, Option, Some, None, Result, Ok, Err, IfOk, refl, sym, ◌∙◌, ap, subst}
 use Rattle.std.specs.Prelude.{Contains, is_some}
 use Rattle.std.specs.Option.{ForSome}
@@ -25,7 +26,7 @@ use Rattle.g_look.proofs.CompareLemmas.{not_unmounted}
 use Rattle.g_look.proofs.HeadLemmas.{blocks_there, is_reel, no_reel, told_blocks, isnt_there}
 use Rattle.g_look.proofs.SeenLemmas.{told_apart}
 
--- a reel that can be read is there
+-- a reel that can be read is in the rack
 mounted_reel : (rack : Rack) (s : ℕ) → refuses_unmount (reel s rack.reels) ≡ None → (r : Reel) × Contains (told_reels rack) r × (r.serial ≡ s)
 mounted_reel rack s free = by_reel (reel s rack.reels) refl free
   where
@@ -54,7 +55,7 @@ held_at rack copy len text are free long some told shelf shelved =
           (some bs blocks (shelf copy.serial) completed filled);
     }
 
--- OR THAT NOTHING IS HELD THERE
+-- OR NOTHING IS HELD THERE
 pub held_nowhere : (rack : Rack) (copy : TapeCopy) (len : ℕ) → AreReels rack.reels
     → ForSome (blocks_of copy.serial rack) (λ blocks. (dumps : List Dump) → AreCompleted copy.serial blocks dumps → (text : List ℕ) → length text ≡ len → IsContent dumps copy text → ⊥)
     → OfDumps rack (λ dumps. IsHeldNowhere dumps copy len)
@@ -67,7 +68,7 @@ held_nowhere rack copy len are none told shelf shelved text long is =
     none bs (blocks_there rack copy.serial on.reel (told_apart rack are) on.there same ∙ tells) (shelf copy.serial) completed text long
     (record { dump = is.dump; there = subst (λ (n : ℕ). Contains (shelf n) is.dump) same on.on; reel = is.reel; from = is.from; to = is.to; text_is = is.text_is })
 
--- where the reel isn't in the rack
+-- the reel isn't in the rack
 pub no_tape : (rack : Rack) (copy : TapeCopy) (len : ℕ) → refuses_unmount (reel copy.serial rack.reels) ≡ Some tape.NoTape → OfDumps rack (λ dumps. IsHeldNowhere dumps copy len)
 no_tape rack copy len refuses told shelf shelved text long is =
     let reels : List Reel = told_reels rack in
@@ -75,12 +76,12 @@ no_tape rack copy len refuses told shelf shelved text long is =
     let same : on.reel.serial ≡ copy.serial = sym (is_shelved shelf reels told shelved is.dump on.reel on.there on.on).0 ∙ is.reel in
     no_reel rack copy.serial tape.NoTape (isnt_there (reel copy.serial rack.reels) refuses) on.reel on.there same
 
--- and none that is mounted isn't
+-- every mounted reel is in the rack
 pub not_mounted : (rack : Rack) (copy : TapeCopy) (len : ℕ) → refuses_unmount (reel copy.serial rack.reels) ≡ Some tape.NotMounted → AreMounted rack → OfDumps rack (λ dumps. IsHeldNowhere dumps copy len)
 not_mounted rack copy len refuses mounted =
     not_unmounted rack copy.serial (All-map (λ (r : Reel). r.mounted ≡ true) unread rack.reels (λ k d within. mounted k d within)) refuses
 
--- OF A FILE: its copy, if it has one
+-- FOR A FILE: its copy, if it has one
 same_copy : (a b : TapeCopy) → Some a ≡ Some b → a ≡ b
 same_copy a b is = cc
 
@@ -88,7 +89,7 @@ pub nowhere_at : (rack : Rack) (r : FileRec) (copy : TapeCopy) (len : ℕ) → r
 nowhere_at rack r copy len at is_len none told shelf shelved other is text long content =
     none told shelf shelved text (long ∙ sym is_len) (subst (λ (c : TapeCopy). IsContent (all_dumps shelf (told_reels rack)) c text) (same_copy other copy (sym is ∙ at)) content)
 
--- OF A FILE WITH ITS COPY ON THE DISC
+-- FOR A FILE WITH ITS COPY ON THE DISC
 pub disc_bytes : (held : Option (List (List ℕ))) (rack : Rack) (r : FileRec) (o : Option DiscCopy) (text : List ℕ) → IsDiscText held o (Some text) → (c : DiscCopy) × (o ≡ Some c) × (length text ≡ c.len) → AreBytesAt held rack r o text
 disc_bytes held rack r None text is (c, none, long) = let no : ⊥ = cc in absurd no
 disc_bytes held rack r (Some copy) text is some = λ blocks told. same_bytes text (bytes_at copy.blocks copy.len blocks) (is blocks told)

@@ -1,4 +1,5 @@
 -- The files of a disc, by the records that were read.
+-- serves: compare_file, list, see_disc (standing), see_format (format), show, CompareLemmas, NamedLemmas, ReadLemmas, RecLemmas, ShowLemmas
 use Rattle.std.proofs.Common.{◌≡◌, ◌⊎◌, inl, inr, ℕ, zero, suc, ◌<◌, List, [], ◌∷◌, length, map, Option, Some, None, refl, sym, ◌∙◌, ap, arith, subst, All}
 use Rattle.std.specs.Prelude.{◌==◌, Contains, find, IfSome, slice_get}
 use Rattle.std.specs.Option.{ForSome, option_map}
@@ -71,7 +72,7 @@ module _ (held : Option (List (List ℕ))) (dirs : Dirs) where
         All-contains (IsItsCopy held dirs.online.items size) files_there (file_by held dirs.online.items r)
         (copies_are held dirs.online.items size dirs.files.items sound.rules.lies sound.rules.area sound.rules.apart) (file_there r there)
 
-    -- the copy of a file that is there
+    -- the copy of an existing file
     pub is_copy : (r : FileRec) → Contains dirs.files.items r → (copy : DiscCopy) → copy_at dirs.online.items r.number ≡ Some copy → IsCopy size copy
     is_copy r there copy is = (its r there).copy copy (ap (λ (q : FileRec). copy_at dirs.online.items q.number) (rec_of_file held r (copy_at dirs.online.items r.number)) ∙ is)
 
@@ -80,7 +81,7 @@ module _ (held : Option (List (List ℕ))) (dirs : Dirs) where
         (its r there).len copy (ap (λ (q : FileRec). copy_at dirs.online.items q.number) (rec_of_file held r (copy_at dirs.online.items r.number)) ∙ is)
         ∙ ap (λ (q : FileRec). q.len) (rec_of_file held r (copy_at dirs.online.items r.number))
 
--- owners of files are there
+-- the owners of files exist
 pub recs_back : (files : List FileRec) (online : List (ℕ × DiscCopy)) → recs (entries_of files online) ≡ files
 recs_back [] online = refl
 recs_back (r ∷ rs) online = ap (λ (xs : List FileRec). r ∷ xs) (recs_back rs online)
@@ -91,7 +92,7 @@ files_keep size dirs sound = subst (AreFiles (length dirs.users.items)) (recs_ba
 pub owners_there : (size : ℕ) (dirs : Dirs) → IsSound size dirs → All (λ r. r.owner < length dirs.users.items) dirs.files.items
 owners_there size dirs sound = (files_keep size dirs sound).owners
 
--- a copy that is there, if there is one
+-- a copy, if there is one
 pub copy_if : (o : Option DiscCopy) (P : DiscCopy → Type 0) → ((copy : DiscCopy) → o ≡ Some copy → P copy) → IfSome o P
 copy_if None P is = tt
 copy_if (Some copy) P is = is copy refl
@@ -115,7 +116,7 @@ module _ (held : Option (List (List ℕ))) (block : List ℕ) (side : Side) (gat
       by_format One at = refl
       by_format Two at = absurd (none d.head is.records.head at)
 
--- WHAT WAS SEEN of a disc
+-- WHAT WAS READ of a disc
 pub standing_some : (size size_1 : ℕ) (held held_1 held_2 : Option (List (List ℕ))) (side slots : Side) (format : Format) (dirs : Dirs) → held_1 ≡ held → held_2 ≡ held_1 → size_1 ≡ size → side ≡ slots → GateNames slots held
     → ForSome held_1 (λ blocks. StandsFor blocks (directory_in dirs)) → ForSome held_2 (λ blocks. (d : Directory) → (is : StandsFor blocks d) → is.format ≡ format) → AreCopies dirs.files.items dirs.online.items
     → AreRecords Two (directory_in dirs) → IsDirectory size_1 (directory_in dirs) → IsStanding size held (record { side = side; dirs = Some (format, dirs) })

@@ -1,5 +1,5 @@
 -- The greatest number that no dump has, above a number and below that of a dump; and the newest dump that holds all directories.
--- serves: `newest_gap`, `newest_whole`, `holds_all`.
+-- serves: holds_all, newest_gap, newest_whole
 use Rattle.std.proofs.Common.{◌≡◌, ◌≢◌, Bool, true, false, ◌⊎◌, inl, inr, ℕ, ◌+◌, ◌-◌, ◌<◌, ◌≤◌, List, length, get_or, Option, Some, None, refl, sym, ◌∙◌, ap, arith, subst}
 use Rattle.std.specs.Prelude.{◌↔◌, Contains, IsTrue, max}
 use Rattle.std.specs.List.Sorted.{IsNonDecreasingBy}
@@ -63,7 +63,7 @@ module _ (dumps : List DumpAt) (from : ℕ) where
     pub below : at < i
     pub is : (d : DumpAt) → (get_or dumps at d).number ≡ n
 
-  -- what is known of the gap behind the first i dumps, whose greatest number is this, or that from which the gaps are looked for
+  -- the gap after the first i dumps, whose greatest number is this, or the number above which gaps are searched
   abbrev pub GapSoFar : ℕ → ℕ → Option ℕ → Type 0
   GapSoFar i reached None = (n : ℕ) → from < n → n ≤ reached → IsAmong i n
   GapSoFar i reached (Some g) =
@@ -96,7 +96,7 @@ module _ (dumps : List DumpAt) (from : ℕ) where
       among_last : (n : ℕ) → n ≡ x.number → IsAmong (i + 1) n
       among_last n is = record { at = i; below = omega arith; is = λ d. here d ∙ sym is }
 
-      -- the number isn't below that of any dump before
+      -- the number is at least that of each dump before
       above_all : (n : ℕ) → IsAmong i n → n ≤ x.number
       above_all n is =
           let below = is.below in
@@ -155,7 +155,7 @@ module _ (dumps : List DumpAt) (from : ℕ) where
                 among g all,
               )
 
-      -- a number was passed over
+      -- a number was skipped
       pub walked_over : (reached : ℕ) (gap : Option ℕ) → HasWalked i reached gap → reached + 1 < x.number → HasWalked (i + 1) x.number (Some (x.number - 1))
       walked_over reached gap walked over = record {
         least = let old = walked.least in omega (arith, old, over);
@@ -169,7 +169,7 @@ module _ (dumps : List DumpAt) (from : ℕ) where
         );
       }
 
-      -- one dump further
+      -- one more dump
       pub walked_more : (reached top : ℕ) (gap new : Option ℕ) → top ≡ max reached x.number → (reached + 1 < x.number → new ≡ Some (x.number - 1)) → (x.number ≤ reached + 1 → new ≡ gap)
           → HasWalked i reached gap → HasWalked (i + 1) top new
       walked_more reached top gap new is over near walked = by_number (either_way x.number (reached + 1))

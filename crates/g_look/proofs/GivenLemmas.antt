@@ -1,4 +1,5 @@
--- What is printed as restorable is what the completed dumps give.
+-- The files printed as restorable are those that the completed dumps give.
+-- serves: given_by (text)
 use Rattle.std.proofs.Common.{◌≡◌, Bool, true, false, List, ◌++◌, Option, Result, Ok, Err, IfOk, sym, ◌∙◌, ap, subst, ℕ}
 use Rattle.g_entry.specs.declared.file_rec.FileRec.{FileRec}
 use Rattle.g_entry.specs.declared.user_rec.UserRec.{UserRec}

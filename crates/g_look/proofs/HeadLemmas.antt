@@ -1,4 +1,5 @@
--- The rules 5 to 9, of dumps that are in memory, and of the dumps themselves.
+-- The rules 5 to 9, for the dumps in memory and for the dumps themselves.
+-- serves: capacity_of, end_upto, judge_head (none, some), judge_intent (none, some), length_of, CheckedLemmas, CompareLemmas, CopyLemmas, and 6 more
 use Rattle.std.proofs.Common.{◌≡◌, ◌≢◌, ◌⊎◌, inl, inr, ℕ, zero, suc, ◌+◌, ◌<◌, ◌≤◌, Bool, true, false, cond, ◌&&◌, List, [], ◌∷◌, ◌++◌, length, filter, map, take, Option, Some, None, Result, Ok, Err, refl, sym, ◌∙◌, ap, arith, subst, All}
 use Rattle.std.specs.Prelude.{◌==◌, AllPairs, Contains, IfNone, IfSome, get_or, if◌then◌else◌, is_some, nat_le}
 use Rattle.std.proofs.lemmas.Bool.{cases_eq, cond-false, cond-true, eq-eqb, ne_eqb}
@@ -104,7 +105,7 @@ upto_known serial last end (f ∷ fs) = upto_known serial last (end_with serial 
 abbrev pub up_to : ℕ → Dump → Bool
 up_to last d = nat_le d.number last
 
--- what is taken of those of a serial up to a number
+-- the end, from the dumps of a serial up to a number
 one_end : (serial last end : ℕ) (d : Dump) (ks : List Known) (on : List Dump) → ((e : ℕ) → known_upto serial last e ks ≡ end_behind e (filter (up_to last) on))
     → (a b : Bool) → nat_le d.number last ≡ b
     → known_upto serial last (cond (a && b) (known_end (known_of d)) end) ks ≡ end_behind end (filter (up_to last) (cond a (d ∷ on) on))
@@ -184,7 +185,7 @@ module _ (reels : List Reel) (shelf : ℕ → List Dump) (found : List Found) (s
   abbrev Stamps7 : Type 0
   Stamps7 = (f : Found) → Contains found f → f.dir.note.next_stamp ≤ head.next_stamp
 
-  -- the intent is of the number behind the last one
+  -- the intent has the number after the last one
   named_next : (i : Intent) → head.intent ≡ Some i → i.number ≡ head.last_dump + 1
   named_next i is = (subst (λ (o : Option Intent). IfSome o (IsIntent head.last_dump)) is is_head.intent).number
 
@@ -243,7 +244,7 @@ module _ (reels : List Reel) (shelf : ℕ → List Dump) (found : List Found) (s
       let d = dump_of found dumps seen.known has.one has.there in
       (d.dump, d.there, ap (λ (k : Known). k.note.number) (sym d.same) ∙ has.number_is)
 
-  -- WHAT BREAKS
+  -- WHAT BREAKS A RULE
   module _ (c : Contents) (here : c.head ≡ head) where
     first5 : (b : Broken) → IsTooNew found head b → IsFirstOfDisc shelf reels c b
     first5 (TooNew a last) (f, in_f, told, last_is, new) =
@@ -426,7 +427,7 @@ module _ (reels : List Reel) (shelf : ℕ → List Dump) (found : List Found) (s
   pub fits_placed : Known5 → (0 < head.last_dump → HasNumber found head.last_dump) → Stamps7 → (i : Intent) → head.intent ≡ Some i → IsIntentPlaced found reels i head.last_dump → HeadFits shelf reels head
   fits_placed known5 has low i is at = head_fits known5 has low (subst (λ (o : Option Intent). IfSome o (IsPlaced shelf reels head.last_dump)) (sym is) (placed i is at))
 
-  -- WHAT IS, of each of them
+  -- THE FACT behind each of them
   pub breaks5 : (b : Broken) → IsTooNew found head b → IsFirstOfHead shelf reels head b
   breaks5 b is c here = first5 c here b is
 
@@ -440,7 +441,7 @@ module _ (reels : List Reel) (shelf : ℕ → List Dump) (found : List Found) (s
       → IsFirstOfHead shelf reels head b
   breaks8 known5 has low i is b broken c here = first8 c here (numbers5 known5) (λ some. last6 (has some)) (stamps7 low) i is b broken
 
--- what the laws of the records want of a head
+-- what the laws of the records require of a head
 module _ (reels : List Reel) (shelf : ℕ → List Dump) (c : Contents) (fits : HeadFits shelf reels c.head) where
   abbrev dumps_of : List Dump
   dumps_of = all_dumps shelf reels
@@ -475,7 +476,7 @@ off_place found reels i last end (Misplaced serial place at) (serial_is, place_i
     (serial_is, place_is, there, at_is ∙ is, λ same. other (same ∙ at_is))
 off_place found reels i last end other never is there = absurd never
 
--- what the rack tells of a serial
+-- the rack's answer for a serial
 not_ok : (e : TapeFault) (n : ℕ) → (let r : Result ℕ TapeFault = Err e in r ≡ Ok n) → ⊥
 not_ok e n is = cc
 
@@ -523,7 +524,7 @@ no_number number rack serial e is r there on =
 pub no_reel : (rack : Rack) (serial : ℕ) (e : TapeFault) → Err e ≡ told_of (λ r. r.len) (reel serial rack.reels) → (r : Reel) → Contains (told_reels rack) r → r.serial ≡ serial → ⊥
 no_reel rack serial e is r there on = no_number (λ q. q.len) rack serial e is r there on
 
--- a reel that can't be unmounted since it isn't there
+-- a reel that can't be unmounted because it isn't in the rack
 pub isnt_there : (o : Option Reel) → refuses_unmount o ≡ Some tape.NoTape → Err tape.NoTape ≡ told_of (λ r. r.len) o
 isnt_there None is = refl
 isnt_there (Some q) is = absurd (by_mount q.mounted is)
@@ -537,7 +538,7 @@ is_reel rack serial n is =
     let (q, there, on) = told_some rack.reels serial n is in
     (unread q, there_unread rack.reels q there, on)
 
--- the blocks of a reel that is there
+-- the blocks of a reel in the rack
 blocks_at : (serial : ℕ) (r : Reel) → r.serial ≡ serial → (rs : List Reel) → AllPairs OtherSerial (map unread rs) → Contains (map unread rs) r → blocks_in (reel serial rs) ≡ r.blocks
 blocks_at serial r on [] apart (i, inside, at) = absurd (let no : ⊥ = omega (arith, inside) in no)
 blocks_at serial r on (q ∷ qs) apart there =
@@ -553,7 +554,7 @@ blocks_at serial r on (q ∷ qs) apart there =
 pub blocks_there : (rack : Rack) (serial : ℕ) (r : Reel) → AllPairs OtherSerial (told_reels rack) → Contains (told_reels rack) r → r.serial ≡ serial → blocks_of serial rack ≡ r.blocks
 blocks_there rack serial r apart there on = blocks_at serial r on rack.reels apart there
 
--- and so is what it tells of it
+-- and so is the rack's answer
 module _ (number : Reel → ℕ) (same : (q : Reel) → number (unread q) ≡ number q) where
   number_at : (serial n : ℕ) (r : Reel) → r.serial ≡ serial → (rs : List Reel) → AllPairs OtherSerial (map unread rs) → Contains (map unread rs) r → Ok n ≡ told_of number (reel serial rs) → n ≡ number r
   number_at serial n r on [] apart (i, inside, at) is = absurd (let no : ⊥ = omega (arith, inside) in no)
@@ -571,7 +572,7 @@ module _ (number : Reel → ℕ) (same : (q : Reel) → number (unread q) ≡ nu
   pub number_there : (rack : Rack) (serial n : ℕ) → AllPairs OtherSerial (told_reels rack) → Ok n ≡ told_of number (reel serial rack.reels) → (r : Reel) → Contains (told_reels rack) r → r.serial ≡ serial → n ≡ number r
   number_there rack serial n apart is r there on = number_at serial n r on rack.reels apart there is
 
--- THE ANSWERS of the parts, put together
+-- THE RESULTS of the parts, combined
 pub intent_some : (found : List Found) (reels : List Reel) (i : Intent) (last end : ℕ) (o : Option Broken) → (All EndsLow found → end ≡ end_upto i.serial last 0 found)
     → (r : Reel) × Contains reels r × (r.serial ≡ i.serial) → IfSome o (IsOff i end) → IfSome o (λ b. All EndsLow found → IsIntentBroken found reels i last b)
 intent_some found reels i last end None is there off = tt

@@ -1,4 +1,5 @@
--- The verdict, of what was found broken and of what was not.
+-- The verdict, from the rules that were found broken and those that weren't.
+-- serves: judge (right), judge_disc (judged)
 use Rattle.std.proofs.Common.{Global, ◌≡◌, ◌⊎◌, inl, inr, ℕ, ◌≤◌, List, Option, Some, None, Result, Ok, Err, refl, sym, ◌∙◌, arith, subst}
 use Rattle.std.specs.Prelude.{Contains, IfNone, IfOk, IfSome, Vec}
 use Rattle.std.proofs.lemmas.Option.{same_Some}
@@ -35,7 +36,7 @@ use Rattle.g_look.proofs.HeadLemmas.{told_blocks}
 use Rattle.g_look.proofs.RecLemmas.{first12, fits_all}
 use Rattle.g_look.proofs.VerdictLemmas.{rack_has_none}
 
--- rules of the rack stand before those of the disc
+-- rules of the rack precede those of the disc
 rack_low : (dumps : List Dump) (b : Broken) → BreaksRack dumps b → rule_of b ≤ 4
 rack_low dumps (Twice a b) is = omega arith
 rack_low dumps (Falls a b) is = omega arith
@@ -69,12 +70,12 @@ module _ (held : Option (List (List ℕ))) (reels : List Reel) (found : List Fou
       by_part e shelf shelved (inl rack) low = (where_seen reels shelf (seen.seen told.each shelf shelved)).first e rack
       by_part e shelf shelved (inr on) low = let high = disc_high shelf reels on.contents e on.breaks in omega (arith, low, high)
 
-  -- A RACK OF WHICH NO RULE IS BROKEN
+  -- A RACK without a broken rule
   module _ (dumped : List FileRec) (passed : WhereSeen found (λ rs shelf. IsRackPassed (all_dumps shelf rs) dumped)) where
     passed_here : (shelf : ℕ → List Dump) → AreShelved shelf reels → IsRackPassed (all_dumps shelf reels) dumped
     passed_here shelf shelved = passed reels shelf (seen.seen told.each shelf shelved)
 
-    -- beside a disc that holds nothing
+    -- next to a disc without a filestore
     pub verdict_nothing : (blocks : List (List ℕ)) → held ≡ Some blocks → ((d : Directory) → StandsFor blocks d → ⊥) → IsVerdict held reels None
     verdict_nothing blocks is none =
         let (shelf, shelved) = seen.shelf told.each in
@@ -89,7 +90,7 @@ module _ (held : Option (List (List ℕ))) (reels : List Reel) (found : List Fou
           first = tt;
         }
 
-    -- beside one that holds a directory
+    -- next to a disc that holds a directory
     module _ (blocks : List (List ℕ)) (is : held ≡ Some blocks) (dirs : Dirs) (stands : StandsFor blocks (directory_in dirs)) where
       abbrev c : Contents
       c = contents_of (Some blocks) (directory_in dirs)
@@ -121,7 +122,7 @@ module _ (held : Option (List (List ℕ))) (reels : List Reel) (found : List Fou
               let here : IsFirstOfDisc shelf reels c b = judged shelf blocks (seen.seen told.each shelf shelved) (passed_here shelf shelved) is in
               here.first e (subst (λ (k : Contents). BreaksDisc shelf reels k e) same on.breaks)
 
--- OF WHAT WAS SEEN of the disc
+-- FROM WHAT WAS READ of the disc
 module _ (held : Option (List (List ℕ))) (reels : List Reel) (found : List Found) (seen : AreSeen reels found) (told : AllTold held reels) (dumped : List FileRec)
     (passed : WhereSeen found (λ rs shelf. IsRackPassed (all_dumps shelf rs) dumped)) (size : ℕ) (s : Standing) (standing : IsStanding size held s) where
   pub right_nothing : s.dirs ≡ None → IsVerdict held reels None
@@ -135,7 +136,7 @@ module _ (held : Option (List (List ℕ))) (reels : List Reel) (found : List Fou
       let stands = subst (λ (o : Option (Format × Dirs)). IsFoundOn blocks (found_in o)) some (standing.found blocks is) in
       verdict_disc held reels found seen told dumped passed blocks is f.1 stands.0 verdict judged
 
--- THE LAST RULE, and none
+-- THE LAST RULE is broken, or none is
 pub judged_bytes : (held : Option (List (List ℕ))) (reels : List Reel) (found : List Found) (dirs : Dirs) (dumped : List FileRec)
     → ((shelf : ℕ → List Dump) → IsSeen reels shelf found → HeadFits shelf reels dirs.head)
     → ((r : FileRec) → Contains dirs.files.items r → IsHeld found r) → ((r : FileRec) → Contains dirs.files.items r → HasSameLengths dumped r) → (verdict : Option Broken)
@@ -156,7 +157,7 @@ pub judged_ok : (held : Option (List (List ℕ))) (reels : List Reel) (found : L
 judged_ok held reels found dirs dumped head are_held are_long (Ok verdict) some none = judged_bytes held reels found dirs dumped head are_held are_long verdict some none
 judged_ok held reels found dirs dumped head are_held are_long (Err e) some none = tt
 
--- OF WHAT THE RACK was found to be
+-- FROM WHAT WAS FOUND of the rack
 module _ (held : Option (List (List ℕ))) (reels : List Reel) (found : List Found) (seen : AreSeen reels found) (told : AllTold held reels) (j : Judged)
     (judged : WhereSeen found (λ rs shelf. IsJudged (all_dumps shelf rs) j)) where
   pub right_breaks : (b : Broken) → j ≡ BreaksOne b → IsVerdict held reels (Some b)

@@ -1,4 +1,5 @@
--- Loops over a list: what holds of each element that was seen, and of each one behind the last.
+-- Loops over a list: a property of each element visited so far, and of all elements after the last step.
+-- serves: compare_texts (none, some), other_length (none), NamedLemmas, ReadLemmas
 use Rattle.std.proofs.Common.{◌≡◌, ℕ, zero, suc, ◌+◌, ◌<◌, ◌≤◌, ◌⊎◌, inl, inr, List, length, get_or, Option, Some, None, sym, ◌∙◌, ap, arith, subst}
 use Rattle.std.specs.Prelude.{Contains, IfNone, IfSome}
 use Rattle.std.proofs.lemmas.List.{get_or_default}
@@ -23,7 +24,7 @@ module _ {X : Type 0} (P : X → Type 0) (xs : List X) where
   pub all_seen : (n : ℕ) → length xs ≤ n → ((k : ℕ) (d : X) → k < n → P (get_or xs k d)) → (x : X) → Contains xs x → P x
   all_seen n le so x (k, within, at) = subst P at (so k x (omega (arith, within, le)))
 
--- WHAT HOLDS OF AN ANSWER
+-- CONSEQUENCES for an option
 pub if_some : {X : Type 0} (P Q : X → Type 0) (o : Option X) → ((x : X) → P x → Q x) → IfSome o P → IfSome o Q
 if_some P Q None change is = tt
 if_some P Q (Some x) change is = change x is

@@ -1,4 +1,5 @@
--- Of the two refusals that name what is lost one alone comes: where a copy is lost all directories go together.
+-- Of the two refusals that name what is lost, only one can occur: if a copy is lost, all directories go together.
+-- serves: RackLemmas
 use Rattle.std.proofs.Common.{◌≡◌, ℕ, ◌+◌, ◌<◌, List, ◌++◌, length, take, drop, sym, ◌∙◌, ap, arith, subst}
 use Rattle.std.proofs.lemmas.List.{take-append-drop}
 use Rattle.g_entry.specs.declared.user_rec.UserRec.{UserRec}
@@ -11,7 +12,7 @@ use Rattle.g_store_meaning.specs.Meaning.{Gathers}
 use Rattle.g_store_meaning.proofs.GatheredLemmas.{all_front, files_front, gathers_front}
 use Rattle.g_restore.specs.Losses.{AreApart, GoTogether, IsFirstLost, IsLostDirectory}
 
--- where all directories go together, those of the first users do
+-- if all directories go together, so do those of the first users
 go_front : (dumps : List Dump) (last : Dump) (users : List UserRec) → GoTogether dumps last users → (k : ℕ) → GoTogether dumps last (take k users)
 go_front dumps last users all k =
     let part = gathers_front dumps (take k users) (drop k users) all.files

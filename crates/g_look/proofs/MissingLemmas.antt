@@ -1,5 +1,5 @@
 -- The gap in the numbers of the dumps in memory is the missing dump.
--- serves: `missing`.
+-- serves: missing
 use Rattle.std.proofs.Common.{◌≡◌, ◌≢◌, ◌⊎◌, inl, inr, ℕ, ◌<◌, ◌≤◌, List, map, Option, Some, None, sym, ◌∙◌, ap, arith, subst}
 use Rattle.std.specs.Prelude.{Contains, IsPermutation}
 use Rattle.g_incr.specs.Layout.{Dump}
@@ -22,7 +22,7 @@ module _ (found : List Found) (ats : List DumpAt) (moved : IsPermutation (map at
       let f = found_of found dumps are d in_d in
       (at_found f.one, printed found dumps are ats moved f.one f.there, number_of f.one d f.same)
 
-  -- none that is newer than the newest whole one is whole
+  -- no dump newer than the newest whole one is whole
   not_whole : (d : Dump) → Contains dumps d → from < d.number → HoldsAll d.users d.held → ⊥
   not_whole d in_d above all =
       let f = found_of found dumps are d in_d in

@@ -1,4 +1,5 @@
--- A check that finds nothing broken has read each block that disc and dumps name.
+-- A check that finds no rule broken has read each block that disc and dumps name.
+-- serves: check (read), judge (read)
 use Rattle.std.proofs.Common.{Global, ◌≡◌, ◌≢◌, ℕ, ◌+◌, ◌<◌, ◌≤◌, List, [], Option, Some, None, Result, Ok, Err, IfOk, refl, sym, ◌∙◌, ap, arith, subst, All}
 use Rattle.std.specs.Prelude.{AllPairs, Contains, IfNone, IfSome, Vec, get_or}
 use Rattle.std.proofs.lemmas.List.Elements.{All-contains, All-map, Contains-get_or}
@@ -62,14 +63,14 @@ module _ (held : Option (List (List ℕ))) (old new : Rack) (are : AreReels old.
       let places : All (HasPlace (all_dumps shelf reels)) dumped = subst (All (HasPlace (all_dumps shelf reels))) same (is.fits.places t) in
       subst (All (WasRead old new)) (sym same) (dumped_read old new are told.each shelf shelved files dumped read apart (lengths shelf shelved t) places)
 
-  -- beside a disc that holds nothing
+  -- next to a disc without a filestore
   pub nothing_read : (blocks : List (List ℕ)) → held ≡ Some blocks → ((d : Directory) → StandsFor blocks d → ⊥) → AreRead old new [] dumped → AreNamedRead held old new
   nothing_read blocks is none read = record {
     dumped = tree_read [] read (λ shelf shelved t r of in_files. absurd (none_in r in_files));
     named = λ bs at c holds. absurd (none holds.directory (subst (λ (xs : List (List ℕ)). StandsFor xs holds.directory) (same_Some bs blocks (sym at ∙ is)) holds.stands));
   }
 
-  -- beside one that holds a directory
+  -- next to a disc that holds a directory
   module _ (blocks : List (List ℕ)) (is : held ≡ Some blocks) (dirs : Dirs) (stands : StandsFor blocks (directory_in dirs)) (read : AreRead old new dirs.files.items dumped) (judged : IsDiscJudged held reels found dirs dumped None) where
     abbrev c : Contents
     c = contents_of (Some blocks) (directory_in dirs)
@@ -109,7 +110,7 @@ module _ (held : Option (List (List ℕ))) (old new : Rack) (are : AreReels old.
           (All-map (WasRead old new) (λ (f : File). f.rec) c.files (λ i d inside. each_named shelf shelved (get_or c.files i d) (Contains-get_or c.files i d inside)));
     }
 
--- OF WHAT WAS SEEN of disc and rack
+-- FROM WHAT WAS READ of disc and rack
 module _ (held : Option (List (List ℕ))) (old new : Rack) (are : AreReels old.reels) (told : AllTold held (told_reels old)) (found : List Found) (seen : AreSeen (told_reels old) found) (j : Judged)
     (judged : WhereSeen found (λ rs shelf. IsJudged (all_dumps shelf rs) j)) (files : Vec FileRec Global) (fits : j ≡ Fits files) (dumped : List FileRec) (same : dumped ≡ files.items)
     (size : ℕ) (s : Standing) (standing : IsStanding size held s) where
@@ -132,7 +133,7 @@ module _ (held : Option (List (List ℕ))) (old new : Rack) (are : AreReels old.
       let stands = subst (λ (o : Option (Format × Dirs)). IsFoundOn blocks (found_in o)) some (standing.found blocks is) in
       disc_read held old new are told found seen dumped passed blocks is f.1 stands.0 read on
 
--- AND BEFORE THAT other reads
+-- WITH other reads before
 was_before : (old mid new : Rack) → OnlyReads old mid → (r : FileRec) → WasRead mid new r → WasRead old new r
 was_before old mid new only r is = by_tape r.tape is
   where

@@ -1,4 +1,5 @@
--- A list goes over the files by number, in the order of their names.
+-- A list visits the files by number, in the order of their names.
+-- serves: add_numbers, all_numbers, asked_user (name, no_user, user), directory_text (text), lines_of (text), list (text), push_numbered, tree_text
 use Rattle.std.proofs.Common.{◌≡◌, ℕ, suc, ◌+◌, ◌<◌, Bool, true, false, cond, List, [], ◌∷◌, ◌++◌, length, map, filter, drop, Option, Some, None, Result, Ok, Err, IfOk, refl, sym, ◌∙◌, ap, arith, subst, unwrap_or}
 use Rattle.std.specs.Prelude.{IfSome, codes, get_or}
 use Rattle.std.specs.List.{AllByRecursion, flat_map}
@@ -110,7 +111,7 @@ module _ (users : List UserRec) (files : List FileRec) (is : IsRecords users fil
       let both : Some u ≡ None = sym found ∙ ap (get (users_by_name users)) named ∙ none in
       cc
 
-  -- ONE USER FURTHER
+  -- ONE MORE USER
   pub user_added : (old new whole : List ℕ) (i : ℕ) (u : UserRec) → i < length users → u ≡ get_or users i u
       → old ++ flat_map (λ v. numbers_named users files v.user) (drop i users) ≡ whole → new ≡ old ++ numbers_named users files (name_of users u.number)
       → new ++ flat_map (λ v. numbers_named users files v.user) (drop (i + 1) users) ≡ whole
@@ -171,13 +172,13 @@ module _ (users : List UserRec) (files : List FileRec) (is : IsRecords users fil
         ap (λ (ls : List (List ℕ)). ls ++ told (codes "LISTED ") (length (asked_numbers users files only)) ∷ []) (lines_here only)
         ∙ ap (λ (n : ℕ). file_lines d only ++ told (codes "LISTED ") n ∷ []) (long_here only)
 
-  -- AND OF WHAT A RESTORE GIVES
+  -- AND THE LINES of the files that a restore gives
   pub dumped_are : (number : ℕ) → lines_dumped users files number (all_numbers users files) ≡ dumped_lines users files number
   dumped_are number =
       ap (λ (ls : List (List ℕ)). ls ++ told (codes "RESTORABLE FROM DUMP ") number ∷ [])
       (all_named (dumped_line users) (λ e. dumped_file_line e.0 users e.1) (λ e named. ap (λ (f : Full). dumped_file_line f users e.1) named) users)
 
--- THE NUMBERS of one user more
+-- THE NUMBERS of one more user
 pub numbers_added : (users : List UserRec) (files : List FileRec) (user : List ℕ) (list slice old new : List ℕ) → ForTree users files (λ t. list ≡ listed users files user t) → slice ≡ list → new ≡ old ++ slice
     → new ≡ old ++ numbers_named users files user
 numbers_added users files user list slice old new is is_slice more = more ∙ ap (λ (ns : List ℕ). old ++ ns) (is_slice ∙ is zeros 0 ∙ listed_numbers users files zeros 0 user)
@@ -188,12 +189,12 @@ pub user_added_in : (users : List UserRec) (files : List FileRec) → IsRecords 
 user_added_in users files is old new whole i u slice is_slice within at so_far more =
     user_added users files is old new whole i u (subst (λ (us : List UserRec). i < length us) is_slice within) (at ∙ ap (λ (us : List UserRec). get_or us i u) is_slice) so_far more
 
--- the owner of a file that is found is there
+-- the owner of a file that is found exists
 pub owner_found : (users slice : List UserRec) (files : List FileRec) (number : ℕ) (r : FileRec) → IsRecords users files → Some r ≡ get (by_number files) number → slice ≡ users → r.owner < length slice
 owner_found users slice files number r is got is_slice =
     subst (λ (us : List UserRec). r.owner < length us) (sym is_slice) (owner_used users files is r (numbered_there users files is number r (sym got)).0)
 
--- A LAST LINE behind some lines
+-- A LAST LINE after some lines
 pub last_line : (lines : List (List ℕ)) (line t0 t1 t2 t3 : List ℕ) → t0 ≡ [] → t1 ≡ t0 ++ text_of lines → t2 ≡ t1 ++ line → t3 ≡ t2 ++ 10 ∷ [] → t3 ≡ text_of (lines ++ line ∷ [])
 last_line lines line t0 t1 t2 t3 is0 is1 is2 is3 =
     is3
@@ -221,7 +222,7 @@ dumped_text_is users us files fs number last text is same_users same_files text_
     ∙ ap (λ (gs : List FileRec). text_of (lines_dumped users gs number (all_numbers users gs)) ++ last) same_files
     ∙ ap (λ (ls : List (List ℕ)). text_of ls ++ last) (dumped_are users files is number)
 
--- the text of a list, of what the disc stands for
+-- the text of a list, for the directory that the disc represents
 pub listed_ok : (blocks : List (List ℕ)) (only : Option (List ℕ)) (d : Directory) → StandsFor blocks d → (result : Result (List ℕ) LookFault) → IfOk result (λ text. text ≡ text_of (list_lines d only))
     → IfOk result (λ text. IfSome only (HasUser d.users)) → IfOk result (IsListed blocks only)
 listed_ok blocks only d stands (Err e) text user = tt

@@ -1,5 +1,5 @@
--- Dumps in rising number: two that break a rule of pairs have neighbours that break it.
--- serves: `twice` (`none`), `falling` (`some`, `none`).
+-- Dumps in rising order of number: if two break a rule of pairs, two neighbours do.
+-- serves: falling (none, some), twice (none), GapLemmas, MissingLemmas, RackLemmas
 use Rattle.std.proofs.Common.{◌≡◌, ◌⊎◌, inl, inr, ℕ, zero, suc, ◌+◌, ◌-◌, ◌<◌, ◌≤◌, List, length, get_or, sym, ◌∙◌, ap, arith, subst}
 use Rattle.std.specs.Prelude.{Contains}
 use Rattle.std.specs.List.Sorted.{IsNonDecreasingBy}
@@ -97,7 +97,7 @@ module _ (dumps : List DumpAt) where
     pub in_place : (i : ℕ) (z : DumpAt) → i < length dumps → Contains dumps (get_or dumps i z)
     in_place i z inside = (i, inside, get_or_default dumps i (get_or dumps i z) z inside)
 
-    -- TWO NEIGHBOURS, of which the later one has the lower next stamp
+    -- TWO NEIGHBOURS, the later of which has the lower next stamp
     pub lower_at : (i : ℕ) (z : DumpAt) → 1 ≤ i → i < length dumps → (get_or dumps i z).next_stamp < (get_or dumps (i - 1) z).next_stamp
         → IsLower dumps (get_or dumps (i - 1) z) (get_or dumps i z)
     lower_at i z first inside falls = record { number = order (i - 1) i z (omega arith) inside; next = falls; neighbours = neighbours }

@@ -1,4 +1,5 @@
--- One text behind another.
+-- One text after another.
+-- serves: push_dump, push_falls, push_lengths, push_line, push_too_far, push_too_new, push_twice, push_unbroken, ShownLemmas
 use Rattle.std.proofs.Common.{◌≡◌, ℕ, List, ◌++◌, Result, Ok, Err, ◌∙◌, ap}
 use Rattle.std.specs.Prelude.{OnOk}
 use Rattle.std.proofs.lemmas.List.{append_assoc}

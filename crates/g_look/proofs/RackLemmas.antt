@@ -1,4 +1,5 @@
--- The rules of the rack, of dumps that are in memory, and of the dumps themselves.
+-- The rules of the rack, for the dumps in memory and for the dumps themselves.
+-- serves: judge_rack (judged), missing, HeadLemmas, MissingLemmas
 use Rattle.std.proofs.Common.{◌≡◌, ◌⊎◌, inl, inr, ℕ, ◌<◌, ◌≤◌, List, [], length, map, Result, Err, sym, ◌∙◌, ap, arith, subst, All}
 use Rattle.std.specs.Prelude.{Contains, IsPermutation}
 use Rattle.std.proofs.lemmas.List.{get_or-map, length-map}
@@ -26,7 +27,7 @@ use Rattle.g_look.proofs.FitLemmas.{same_files}
 use Rattle.g_look.proofs.LostLemmas.{not_both}
 use Rattle.g_look.proofs.PairLemmas.{le_cases}
 
--- what is in memory of a dump tells its place
+-- the place of a dump in memory
 at_known : Known → DumpAt
 at_known k = record { number = k.note.number; serial = k.serial; place = k.note.place; next_stamp = k.note.next_stamp }
 
@@ -35,7 +36,7 @@ unfolding at_known
 told_at f d same = ap at_known (sym same)
 
 module _ (found : List Found) (dumps : List Dump) (are : AreKnown found dumps) where
-  -- the dump of what is in memory, and what is in memory of a dump
+  -- the dump of a record in memory, and the record in memory of a dump
   pub record HasDump (f : Found) : Type 0 where
     pub dump : Dump
     pub there : Contains dumps dump
@@ -59,7 +60,7 @@ module _ (found : List Found) (dumps : List Dump) (are : AreKnown found dumps) w
   pub is_at : (f : Found) (a : DumpAt) (has : HasDump f) → at_found f ≡ a → IsDumpAt dumps a has.dump
   is_at f a has told = record { there = has.there; told = told_at f has.dump has.same ∙ told }
 
-  -- OF THOSE THAT ARE PRINTED, in any order
+  -- FOR THE DUMPS THAT ARE PRINTED, in any order
   module _ (ats : List DumpAt) (moved : IsPermutation (map at_found found) ats) where
     pub found_at : (a : DumpAt) → Contains ats a → (f : Found) × Contains found f × (at_found f ≡ a)
     found_at a in_a =

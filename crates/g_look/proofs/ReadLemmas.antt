@@ -1,4 +1,5 @@
--- Each block that disc and dumps name is read by a check that finds nothing broken.
+-- Each block that disc and dumps name is read by a check that finds no rule broken.
+-- serves: compare_file (read), compare_files, compare_texts (first, second), judge (read), judge_bytes (read), read_others, tape_text (read), NamedLemmas
 use Rattle.std.proofs.Common.{◌≡◌, ◌≢◌, ◌⊎◌, inl, inr, ℕ, zero, suc, ◌+◌, ◌<◌, ◌≤◌, Bool, true, false, List, [], length, Option, Some, None, Result, Ok, Err, IfOk, refl, sym, ◌∙◌, ap, arith, subst, All}
 use Rattle.std.specs.Prelude.{◌==◌, AllPairs, Contains, IfSome, get_or, is_some}
 use Rattle.std.specs.Option.{ForSome}
@@ -44,7 +45,7 @@ pub record ComparedSoFar (disc now : DiscState) (old new : Rack) (online : List 
   pub tape_reads : ReadsRackByCause ⊥ old new
   pub agree : (k : ℕ) (d : FileRec) → k < i → FileAgrees disc.held (told_reels old) online dumped (get_or files k d)
 
--- MORE READS, behind and before
+-- MORE READS, before and after
 pub read_at_then : (old mid new : Rack) (place : Option TapeCopy) (len : ℕ) → IsReadAt old mid place len → OnlyReads mid new → IsReadAt old new place len
 read_at_then old mid new None len is only = tt
 read_at_then old mid new (Some c) len is only = λ k from to there. read_then c.serial k old mid new (is k from to there) only
@@ -87,7 +88,7 @@ blocks_read old new copy len items are read fewer k from to (r, there, on, insid
     by_order (inl less) = read k from less
     by_order (inr more) = read k from (by_reel (reel copy.serial old.reels) refl (omega (arith, more, to)))
 
--- behind the last block that a reel may have
+-- past the last block that a reel may have
 pub far_read : (old new : Rack) (copy : TapeCopy) (len : ℕ) → AreReels old.reels → 65536 < copy.first → IsReadFrom old new copy len
 far_read old new copy len are far k from to (r, there, on, inside) =
     let (q, in_reels, same) = contained_map unread old.reels r there in
@@ -129,7 +130,7 @@ all_read old mid new files dumped before only own others = record {
   others = λ of there none. then_read_at old mid new of.tape of.len before (others of there none);
 }
 
--- WHAT IS HELD HAS BLOCKS
+-- EVERYTHING HELD HAS BLOCKS
 module _ (old new : Rack) (are : AreReels old.reels) (told : ReelsTold (told_reels old)) (shelf : ℕ → List Dump) (shelved : AreShelved shelf (told_reels old)) where
   abbrev dumps : List Dump
   dumps = all_dumps shelf (told_reels old)
@@ -154,7 +155,7 @@ module _ (old new : Rack) (are : AreReels old.reels) (told : ReelsTold (told_ree
       let (text, long, content) = subst (λ (o : Option TapeCopy). IfSome o (λ e. (text : List ℕ) × (length text ≡ r.len) × IsContent dumps e text)) is place in
       content_blocks c text k content (subst (λ (n : ℕ). k < c.first + blocks_for n) (sym long) to)
 
-  -- and so they were read
+  -- and therefore they were read
   pub own_read : (r : FileRec) → HasPlace dumps r → IsReadAt old new r.tape r.len → WasRead old new r
   own_read r place is = by_tape r.tape refl
     where
@@ -193,14 +194,14 @@ module _ (old new : Rack) (are : AreReels old.reels) (told : ReelsTold (told_ree
         let there : Contains dumped of = Contains-get_or dumped k d within_it in
         own_read of (places k d within_it) (dumped_at of there)
 
--- where no file has a stamp
+-- if no file has a stamp
 none_in : (r : FileRec) → (let none : List FileRec = [] in Contains none r) → ⊥
 none_in r (k, inside, at) = let no : ⊥ = omega (arith, inside) in no
 
 pub others_read : (old new : Rack) (dumped : List FileRec) → ((of : FileRec) → Contains dumped of → IsOtherRead old new [] of) → AreRead old new [] dumped
 others_read old new dumped others = record { own = λ r there. absurd (none_in r there); others = others }
 
--- ONE FILE FURTHER, of what was compared
+-- ONE MORE FILE that was compared
 pub ok_not_err : {A : Type 0} (x : A) (e : LookFault) → Ok x ≡ Err e → ⊥
 ok_not_err x e is = cc
 

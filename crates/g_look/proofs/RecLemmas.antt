@@ -1,4 +1,5 @@
--- The rules 10 to 12, of records and texts that were read, and of the files of the disc.
+-- The rules 10 to 12, for the records and texts that were read, and for the files of the disc.
+-- serves: judge_disc (judged), JudgeLemmas, ReadLemmas
 use Rattle.std.proofs.Common.{◌≡◌, ◌≢◌, ◌⊎◌, inl, inr, ℕ, ◌≤◌, List, length, Option, Some, None, refl, sym, ◌∙◌, ap, arith, subst}
 use Rattle.std.specs.Prelude.{AllPairs, Contains, IfSome, get_or}
 use Rattle.std.specs.Option.{option_map}
@@ -38,7 +39,7 @@ use Rattle.g_look.proofs.DiscLemmas.{file_by, file_there, rec_of_file, rec_there
 use Rattle.g_look.proofs.HeadLemmas.{none_of_head}
 use Rattle.g_look.proofs.TextLemmas.{text_at}
 
--- the bytes of a file that is on a disc that tells
+-- the bytes of a file on a disc that exposes its blocks
 bytes_there : (blocks : List (List ℕ)) (r : FileRec) (o : Option DiscCopy) → (file_of (Some blocks) (r, o)).bytes ≡ option_map (λ c. bytes_at c.blocks c.len blocks) o
 bytes_there blocks r None = refl
 bytes_there blocks r (Some copy) = refl
@@ -55,7 +56,7 @@ not_some copy is = cc
 same_text : (x y : List ℕ) → Some x ≡ Some y → x ≡ y
 same_text x y is = cc
 
--- of files whose stamps are apart there is one of a stamp
+-- among files with distinct stamps only one has a stamp
 pub one_of_stamp : (files : List FileRec) → AllPairs (λ r s. r.stamp ≢ s.stamp) files → (a b : FileRec) → Contains files a → Contains files b → a.stamp ≡ b.stamp → a ≡ b
 one_of_stamp files apart a b in_a in_b same = one_of_key (λ r. r.stamp) files a b apart in_a in_b same
 
@@ -299,7 +300,7 @@ module _ (reels : List Reel) (shelf : ℕ → List Dump) (found : List Found) (s
           subst (FileFits dumps) of.is (file_fits of.rec of.there (agree of.rec of.there));
     }
 
--- of the same lists by another name
+-- for the same lists under another name
 pub gone_as : (found : List Found) (users us : List UserRec) (files fs : List FileRec) (b : Broken) → users ≡ us → files ≡ fs → IsCopyGone found users files b → IsCopyGone found us fs b
 gone_as found users us files fs b same_users same_files is =
     subst (λ (x : List UserRec). IsCopyGone found x fs b) same_users (subst (λ (x : List FileRec). IsCopyGone found users x b) same_files is)

@@ -1,4 +1,5 @@
--- What is seen of a rack whose dumps were read.
+-- The dumps read from a rack are those of its reels.
+-- serves: capacity_of, length_of, see_rack (few, known, seen), CompareLemmas, CopyLemmas, ReadLemmas
 use Rattle.std.proofs.Common.{◌≡◌, ◌<◌, List, length, get_or, map, sym, ◌∙◌, ap, arith, subst, All}
 use Rattle.std.specs.Prelude.{AllPairs}
 use Rattle.std.specs.List.Sorted.{IsStrictlyIncreasing}

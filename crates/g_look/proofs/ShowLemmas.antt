@@ -1,4 +1,5 @@
 -- The file that is shown is the one that the path names, and its bytes are those of disc or tape.
+-- serves: list (no_filestore), show (bytes, no_copy, no_file, no_filestore)
 use Rattle.std.proofs.Common.{◌≡◌, ℕ, false, List, Option, Some, None, Result, Ok, Err, IfOk, sym, ◌∙◌, ap, arith, subst}
 use Rattle.std.specs.Prelude.{Contains, codes}
 use Rattle.std.specs.Option.{ForSome}
@@ -64,7 +65,7 @@ module _ (users : List UserRec) (files : List FileRec) (is : IsRecords users fil
       let both : None ≡ Some r = none ∙ numbered_is users files full number is e ∙ got in
       cc
 
--- THE ANSWERS of a look at one file
+-- THE RESULTS of a look at one file
 module _ (held : Option (List (List ℕ))) (rack : Rack) (blocks : List (List ℕ)) (is_told : held ≡ Some blocks) (told : ReelsTold (told_reels rack)) (shelf : ℕ → List Dump) (shelved : AreShelved shelf (told_reels rack)) where
   bytes_of : (r : FileRec) (o : Option DiscCopy) (text : List ℕ) → LiesSomewhere (r, o) → AreBytesAt held rack r o text → AreBytesOf blocks (all_dumps shelf (told_reels rack)) (r, o) text
   bytes_of r (Some copy) text lies bytes = bytes blocks is_told
@@ -148,6 +149,6 @@ no_file size dirs sound path users files is_users is_files none held stands bloc
       (subst (λ (us : List UserRec). ForTree us files (λ t. false ≡ has_file t (input_name t (name_of us 0) path))) is_users none)));
 }
 
--- a fault is one fault, whatever else might have been the answer
+-- a result has only one fault
 pub same_fault : (x y : LookFault) → (let answer : Result (List ℕ) LookFault = Err x in answer ≡ Err y) → x ≡ y
 same_fault x y is = cc

@@ -1,4 +1,5 @@
--- The lines that are shown of what is in memory are those of the dumps and of the disc.
+-- The lines printed for the dumps and the directory in memory are those of the dumps and of the disc.
+-- serves: check_text, count_on, file_text, push_dirs, push_disc, push_named, push_rack, push_reel, used_blocks
 use Rattle.std.proofs.Common.{◌≡◌, ℕ, zero, suc, ◌+◌, ◌-◌, ◌*◌, ◌<◌, ◌≤◌, Bool, true, false, cond, ◌&&◌, ◌||◌, List, [], ◌∷◌, ◌++◌, length, map, filter, take, Option, Some, None, Result, Ok, Err, refl, sym, ◌∙◌, ap, arith, subst, All}
 use Rattle.std.specs.Prelude.{◌==◌, Contains, codes, get_or, nat_le, slice_get, OnOk}
 use Rattle.std.specs.List.{flat_map, list_any}
@@ -189,7 +190,7 @@ intent_shown dumps i there old one two three four is_one is_two is_three is_ther
     ∙ ap (λ (b : Bool). old ++ (front ++ ended (state_text b))) is_there_is
     ∙ ap (λ (xs : List ℕ). old ++ xs) (sym (append_assoc front (state_text (is_there dumps i)) (10 ∷ [])) ∙ sym (append-nil (ended (front ++ state_text (is_there dumps i)))))
 
--- THE DIRECTORY behind the front of the first line
+-- THE DIRECTORY after the beginning of the first line
 pub dirs_shown : (size : ℕ) (format : Format) (dumps : List Dump) (dirs : Dirs) (old one two three four : List ℕ) → one ≡ old ++ ended (told (codes " FORMAT ") (format_number format))
     → two ≡ one ++ counts_text size dirs → three ≡ two ++ ended (told (codes "LAST DUMP ") dirs.head.last_dump) → four ≡ three ++ text_of (intent_lines dumps dirs.head.intent)
     → four ≡ old ++ dirs_text size format dumps dirs
@@ -268,7 +269,7 @@ pub count_so_far : (serial : ℕ) (found : List Found) (i count more : ℕ) (f :
 count_so_far serial found i count more f inside at (is, most) is_more low =
     (ap (λ (n : ℕ). n + more) is ∙ ap (λ (n : ℕ). count_on serial (take i found) + n) is_more ∙ sym (count_more serial found i f inside at), omega (arith, most, low))
 
--- of answers
+-- results
 pub intent_ok : (found : List Found) (i : Intent) (there : Bool) (result : Result (Unit {0}) NoMemory) (old one two three four : List ℕ) → one ≡ old ++ told (codes "INTENT DUMP ") i.number
     → two ≡ one ++ told (codes " TAPE ") i.serial → three ≡ two ++ told (codes " AT ") i.place → there ≡ list_any (names_found i) found → OnOk result (four ≡ three ++ ended (state_text there))
     → OnOk result ((dumps : List Dump) → AreKnown found dumps → four ≡ old ++ text_of (intent_lines dumps (Some i)))

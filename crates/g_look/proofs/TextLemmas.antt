@@ -1,4 +1,5 @@
--- What was read at a place on tape is what the dumps hold there.
+-- The bytes read at a place on tape are those that the dumps hold there.
+-- serves: RecLemmas
 use Rattle.std.proofs.Common.{◌≡◌, ℕ, ◌+◌, ◌-◌, ◌≤◌, true, List, length, take, drop, sym, ◌∙◌, ap, arith, subst}
 use Rattle.std.specs.Prelude.{is_some}
 use Rattle.std.proofs.lemmas.List.{length-drop}

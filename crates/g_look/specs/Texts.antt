@@ -1,4 +1,4 @@
--- THE TEXTS OF A VERSION, at the disc and at up to two places on tape.
+-- THE TEXTS OF A VERSION, on the disc and at up to two places on tape.
 use Rattle.std.specs.Prelude.{◌≡◌, ◌≢◌, ◌⊎◌, ℕ, ◌≤◌, List, length, take, drop, Contains, Option, Some, None, IfSome}
 use Rattle.std.specs.Option.{ForSome, option_map}
 use Rattle.g_base.specs.Block.{blocks_for}
@@ -16,25 +16,25 @@ use Rattle.g_look.specs.declared.broken.Broken.TheVariants.{Bytes}
 use Rattle.g_look.specs.declared.broken.Lie.{Lie}
 use Rattle.g_look.specs.declared.broken.Lie.TheVariants.{Disc, Tape}
 
--- the text stands at the place, on the reel of that serial, where there is one that tells and has so many blocks as a reel may have
+-- The `len` bytes from the place on, on the reel of that serial, if there is one, it exposes its blocks, and the place isn't past the longest reel.
 abbrev pub IsTapeText : List Reel → TapeCopy → ℕ → List ℕ → Type 0
 IsTapeText reels copy len text = (r : Reel) → Contains reels r → r.serial ≡ copy.serial → ForSome r.blocks (λ blocks. copy.first ≤ 65536
     → text ≡ take len (joined (take (blocks_for len) (drop copy.first blocks))))
 
--- what lies on the disc of a file of this number, where the disc tells
+-- The bytes of this copy on the disc, if the disc exposes its blocks.
 abbrev pub IsDiscText : Option (List (List ℕ)) → Option DiscCopy → Option (List ℕ) → Type 0
 IsDiscText held copy text = ForSome held (λ blocks. text ≡ option_map (λ c. bytes_at c.blocks c.len blocks) copy)
 
--- the place of a dumped record of this stamp
+-- The place of a dumped record of this stamp, or none if these records have none.
 abbrev pub IsDumpedPlace : List FileRec → ℕ → Option TapeCopy → Type 0
 IsDumpedPlace dumped stamp None = (of : FileRec) → Contains dumped of → of.stamp ≡ stamp → of.tape ≡ None
 IsDumpedPlace dumped stamp (Some copy) = (of : FileRec) × Contains dumped of × (of.stamp ≡ stamp) × (of.tape ≡ Some copy)
 
--- the second place is the dumped record's, where that is another one than the first
+-- The second place is the dumped record's, unless that is the first one as well.
 abbrev pub IsSecond : Option TapeCopy → Option TapeCopy → Option TapeCopy → Type 0
 IsSecond tape place second = (second ≡ place) ⊎ ((second ≡ None) × (place ≡ tape))
 
--- ALL TEXTS AGREE
+-- ALL TEXTS of a version AGREE, as far as there are any.
 pub record AgreeAt (reels : List Reel) (len : ℕ) (there : Option (List ℕ)) (first second : Option TapeCopy) : Type 0 where
   pub x : List ℕ
   pub y : List ℕ
@@ -44,12 +44,12 @@ pub record AgreeAt (reels : List Reel) (len : ℕ) (there : Option (List ℕ)) (
   pub disc_second : IfSome there (λ b. IfSome second (λ c. b ≡ y))
   pub both : IfSome first (λ c. IfSome second (λ e. x ≡ y))
 
--- what was read at a place of them
+-- The text that was read at one of the places.
 abbrev pub WasReadAt : List Reel → ℕ → Option (List ℕ) → Option TapeCopy → Option TapeCopy → Lie → List ℕ → Type 0
 WasReadAt reels len there first second Disc text = there ≡ Some text
 WasReadAt reels len there first second (Tape copy) text = ((first ≡ Some copy) ⊎ (second ≡ Some copy)) × IsTapeText reels copy len text
 
--- OR TWO DON'T
+-- TWO TEXTS of a version DIFFER.
 pub record DifferAt (reels : List Reel) (len : ℕ) (there : Option (List ℕ)) (first second : Option TapeCopy) (one other : Lie) : Type 0 where
   pub x : List ℕ
   pub y : List ℕ
@@ -57,16 +57,18 @@ pub record DifferAt (reels : List Reel) (len : ℕ) (there : Option (List ℕ)) 
   pub other_is : WasReadAt reels len there first second other y
   pub differ : x ≢ y
 
--- the same of texts at hand
+-- All texts in memory agree, as far as there are any.
 pub record AllAgree (there : Option (List ℕ)) (first : Option TapeCopy) (x : List ℕ) (second : Option TapeCopy) (y : List ℕ) : Type 0 where
   pub disc_first : IfSome there (λ b. IfSome first (λ c. b ≡ x))
   pub disc_second : IfSome there (λ b. IfSome second (λ c. b ≡ y))
   pub both : IfSome first (λ c. IfSome second (λ e. x ≡ y))
 
+-- The text in memory of one of the places.
 abbrev pub LiesHere : Option (List ℕ) → Option TapeCopy → List ℕ → Option TapeCopy → List ℕ → Lie → List ℕ → Type 0
 LiesHere there first x second y Disc text = there ≡ Some text
 LiesHere there first x second y (Tape copy) text = ((first ≡ Some copy) × (text ≡ x)) ⊎ ((second ≡ Some copy) × (text ≡ y))
 
+-- The texts in memory of two places differ.
 pub record TwoDiffer (there : Option (List ℕ)) (first : Option TapeCopy) (x : List ℕ) (second : Option TapeCopy) (y : List ℕ) (one other : Lie) : Type 0 where
   pub s : List ℕ
   pub t : List ℕ
@@ -74,7 +76,7 @@ pub record TwoDiffer (there : Option (List ℕ)) (first : Option TapeCopy) (x : 
   pub other_is : LiesHere there first x second y other t
   pub differ : s ≢ t
 
--- what was compared of a file
+-- The texts of a file that were compared.
 pub record AreCompared (held : Option (List (List ℕ))) (online : List (ℕ × DiscCopy)) (dumped : List FileRec) (r : FileRec) (there : Option (List ℕ)) (second : Option TapeCopy) : Type 0 where
   pub there_is : IsDiscText held (copy_at online r.number) there
   pub long : IfSome there (λ bytes. length bytes ≡ r.len)
@@ -82,18 +84,21 @@ pub record AreCompared (held : Option (List (List ℕ))) (online : List (ℕ × 
   pub place_is : IsDumpedPlace dumped r.stamp place
   pub second_is : IsSecond r.tape place second
 
+-- All texts of a file's version agree.
 pub record FileAgrees (held : Option (List (List ℕ))) (reels : List Reel) (online : List (ℕ × DiscCopy)) (dumped : List FileRec) (r : FileRec) : Type 0 where
   pub there : Option (List ℕ)
   pub second : Option TapeCopy
   pub compared : AreCompared held online dumped r there second
   pub agree : AgreeAt reels r.len there r.tape second
 
+-- The texts of a file's version at two places differ.
 pub record FileDiffers (held : Option (List (List ℕ))) (reels : List Reel) (online : List (ℕ × DiscCopy)) (dumped : List FileRec) (r : FileRec) (one other : Lie) : Type 0 where
   pub there : Option (List ℕ)
   pub second : Option TapeCopy
   pub compared : AreCompared held online dumped r there second
   pub differ : DifferAt reels r.len there r.tape second one other
 
+-- Rule 12 is broken by this file, at two of its places.
 abbrev pub AreBytesOther : Option (List (List ℕ)) → List Reel → List (ℕ × DiscCopy) → List FileRec → List UserRec → List FileRec → Broken → Type 0
 AreBytesOther held reels online dumped users files (Bytes full stamp one other) =
     (r : FileRec) × Contains files r × (full_of users r ≡ full) × (r.stamp ≡ stamp) × FileDiffers held reels online dumped r one other

@@ -20,7 +20,7 @@ pub(crate) fn push_verdict(text: &mut Text, holds: bool, verdict: &Verdict) -> R
     }
 }
 
-/// Appends the line of a missing dump to the text, or else that disc and rack belong together, without a byte 10.
+/// Appends the line of a missing dump, or otherwise that disc and rack belong together, without a byte 10.
 fn push_unbroken(text: &mut Text, holds: bool, missing: Option<u64>) -> Result<(), NoMemory>
     ensures { OnOk result (text.new ≡ text.old ++ verdict_line holds None missing) }
 {

@@ -1,4 +1,4 @@
-//! The rule about the bytes of a version, which lie at up to three places.
+//! The rule about the bytes of a version, which may be at up to three places.
 ghost use Rattle.std.specs.List.{list_any};
 ghost use Rattle.std.specs.Prelude.{◌≡◌, ◌≢◌, ◌==◌, ◌⊎◌, ℕ, ◌<◌, All, Contains, Err, IfErr, IfNone, IfOk, IfSome, List, OnErr, length, None, Some, true};
 ghost use Rattle.g_copy.specs.Copy.{IsCopy};
@@ -23,8 +23,8 @@ use g_tape::Tapes;
 use g_tree::full_of;
 use std::alloc::Global;
 
-/// Rule 12: a version whose bytes are others at two of its places. Each place that a file of the disc, or a dumped record
-/// of its stamp, names is read. `DiscUnread`, `TapeUnread`, `NoMemory`.
+/// Rule 12: a version whose bytes differ at two of its places. Each place that a file of the disc, or a dumped record of its stamp, names is read.
+/// `DiscUnread`, `TapeUnread`, `NoMemory`.
 pub(crate) fn judge_bytes<D: Disc, T: Tapes>(
     alloc: Global,
     disc: &mut D,
@@ -55,7 +55,7 @@ pub(crate) fn judge_bytes<D: Disc, T: Tapes>(
     }
 }
 
-/// The first file whose bytes are others at two of its places.
+/// The first file whose bytes differ at two of its places.
 fn compare_files<D: Disc, T: Tapes>(
     alloc: Global,
     disc: &mut D,
@@ -93,7 +93,7 @@ fn compare_files<D: Disc, T: Tapes>(
     Ok(None)
 }
 
-/// Two places of the file's version at which the bytes are others.
+/// Two places of the file's version at which the bytes differ.
 fn compare_file<D: Disc, T: Tapes>(
     alloc: Global,
     disc: &mut D,
@@ -136,14 +136,14 @@ fn dumped_place(dumped: &[FileRec], stamp: u64) -> Option<TapeCopy>
     None
 }
 
-/// The dumped record's place, where it is another one than the file's.
+/// The dumped record's place, if it isn't the file's.
 fn second_place(tape: Option<TapeCopy>, place: Option<TapeCopy>) -> Option<TapeCopy>
     ensures { IsSecond tape place result }
 {
     if place == tape { None } else { place }
 }
 
-/// The bytes of the file of this number, where it is on the disc.
+/// The bytes of the file of this number, if it is on the disc.
 pub(crate) fn file_text<D: Disc>(
     alloc: Global,
     disc: &mut D,
@@ -181,7 +181,7 @@ pub fn copy_at(online: &[FileCopy], number: u16) -> Option<DiscCopy>
     None
 }
 
-/// Two places with other bytes, among the disc, which has these bytes if it has any, and two on tape.
+/// Two places with different bytes, among the disc, which has these bytes if it has any, and two on tape.
 fn compare_texts<T: Tapes>(
     alloc: Global,
     tapes: &mut T,
@@ -228,7 +228,7 @@ fn place_text<T: Tapes>(
     }
 }
 
-/// Two of the places whose bytes are others: the disc, where it has any, and two on tape, where they are places.
+/// Two of the places whose bytes differ: the disc, if it has any, and two on tape, if they are given.
 fn differing(
     there: &Option<Text>,
     first: Option<TapeCopy>,
@@ -253,7 +253,7 @@ fn differing(
     }
 }
 
-/// The place on tape, if it is one, the disc has bytes, and they are others.
+/// The place on tape, if it is given, the disc has bytes, and they differ.
 fn against_disc(there: &Option<Text>, place: Option<TapeCopy>, text: &Text) -> Option<TapeCopy>
     ensures place { IfSome result (λ c. place ≡ Some c) }
     ensures differ { IfSome result (λ c. (bytes : List ℕ) × (there.now ≡ Some bytes) × (bytes ≢ text.now)) }
@@ -274,7 +274,7 @@ fn against_disc(there: &Option<Text>, place: Option<TapeCopy>, text: &Text) -> O
     }
 }
 
-/// Two places on tape, if they are both and have other bytes.
+/// Two places on tape, if both are given and their bytes differ.
 fn against_tape(
     first: Option<TapeCopy>,
     x: &Text,
@@ -300,7 +300,7 @@ fn against_tape(
     }
 }
 
-/// Reads the copies of the dumped records whose stamp no file has, so that a block that can't be read is told.
+/// Reads the copies of the dumped records whose stamp no file has, so that an unreadable block is reported.
 pub(crate) fn read_others<T: Tapes>(
     alloc: Global,
     tapes: &mut T,

@@ -1,4 +1,4 @@
-//! The check: whether disc and rack belong together, and what it says.
+//! The check whether disc and rack belong together, and its text.
 ghost use Rattle.std.specs.Prelude.{◌≡◌, ◌⊎◌, ◌↔◌, ◌<◌, All, Err, IfErr, IfNone, IfOk, IsTrue, true};
 ghost use Rattle.std.specs.Option.{ForSome};
 ghost use Rattle.g_disc.specs.Disc.{ReadsByCause};
@@ -31,8 +31,8 @@ use g_restore::Found;
 use g_tape::Tapes;
 use std::alloc::Global;
 
-/// What a check found: whether the disc holds a filestore, which rule disc and rack break, and the text of the check, each
-/// line with its byte 10.
+/// The result of a check: whether the disc holds a filestore, the rule that disc and rack break, and the text of the check, each line with its byte
+/// 10.
 #[derive(Drop)]
 pub struct Checked {
     pub filestore: bool,
@@ -40,9 +40,9 @@ pub struct Checked {
     pub text: Text,
 }
 
-/// Whether disc and rack belong together (docs/MANUAL.md, "The rules of a check"). All reels have to be mounted. Both
-/// are only read: of the disc its gate, the current slot, its head twice, and the blocks of files; of each reel the
-/// records of the completed dumps, and each copy that a file names, once. `DiscUnread`, `TapeUnread`, `NoMemory`.
+/// Checks whether disc and rack belong together (docs/MANUAL.md, "The rules of a check"). All reels have to be mounted. Both devices are only read:
+/// on the disc the gate, the current slot, its head twice, and the blocks of files; on each reel the records of the completed dumps, and each copy
+/// that a file names, once. `DiscUnread`, `TapeUnread`, `NoMemory`.
 pub fn check<D: Disc, T: Tapes>(
     alloc: Global,
     disc: &mut D,
@@ -122,7 +122,7 @@ fn judge<D: Disc, T: Tapes>(
     }
 }
 
-/// The first rule of the disc that is broken, over a rack of which none is.
+/// The first rule of the disc that is broken, if the rack breaks none.
 fn judge_disc<D: Disc, T: Tapes>(
     alloc: Global,
     disc: &mut D,

@@ -1,4 +1,4 @@
-//! What a disc stands for.
+//! The directory that a disc represents.
 ghost use Rattle.std.specs.Prelude.{◌≡◌, ◌⊎◌, ◌<◌, Err, IfErr, IfOk, OnErr};
 ghost use Rattle.std.specs.Option.{ForSome};
 ghost use Rattle.g_disc.specs.Disc.{ReadsByCause};
@@ -14,14 +14,14 @@ use g_entry::{Format, decode_head_in};
 use g_slots::{Side, Slots};
 use std::alloc::Global;
 
-/// The slot that is current, and the directory there with its format, if the disc stands for one.
+/// The current slot, and the directory there with its format, if the disc represents one.
 #[derive(Drop)]
 pub struct Standing {
     pub side: Side,
     pub dirs: Option<(Format, Dirs)>,
 }
 
-/// What the disc stands for. `DiscUnread`, `NoMemory`.
+/// Reads the directory that the disc represents. `DiscUnread`, `NoMemory`.
 pub fn see_disc<D: Disc>(alloc: Global, disc: &mut D) -> Result<Standing, LookFault>
     requires size { 2177 < (D.state disc.old).size }
     ensures standing { IfOk result (IsStanding (D.state disc.old).size (D.state disc.old).held) }
@@ -69,7 +69,7 @@ fn see_format<D: Disc>(disc: &mut D, slots: &Slots) -> Result<Format, LookFault>
     }
 }
 
-/// The directory that the disc stands for. `NoFilestore` comes where it stands for none; `DiscUnread`, `NoMemory`.
+/// The directory that the disc represents. `NoFilestore` if it represents none; `DiscUnread`, `NoMemory`.
 pub(crate) fn see_directory<D: Disc>(alloc: Global, disc: &mut D) -> Result<Dirs, LookFault>
     requires size { 2177 < (D.state disc.old).size }
     ensures stands { IfOk result (λ dirs. ForSome (D.state disc.old).held (λ blocks. StandsFor blocks (directory_in dirs))) }

@@ -19,7 +19,7 @@ use g_name::Text;
 use g_restore::Found;
 use g_slots::Side;
 
-/// Puts the lines of the disc behind the text.
+/// Appends the lines of the disc.
 pub(crate) fn push_disc(
     text: &mut Text,
     size: u32,
@@ -37,7 +37,7 @@ pub(crate) fn push_disc(
     }
 }
 
-/// Puts the front of the disc's first line behind the text.
+/// Appends the beginning of the disc's first line.
 fn push_front(text: &mut Text, size: u32, side: Side) -> Result<(), NoMemory>
     ensures { OnOk result (text.new ≡ text.old ++ disc_front size side) }
 {
@@ -56,7 +56,7 @@ fn side_text(side: Side) -> &'static [u8]
     }
 }
 
-/// Puts what a directory says behind the first line's front.
+/// Appends the text of a directory after the beginning of the first line.
 fn push_dirs(
     text: &mut Text,
     size: u32,
@@ -74,7 +74,7 @@ fn push_dirs(
     push_intent(text, &dirs.head.intent, found)
 }
 
-/// Puts the line of counts behind the text.
+/// Appends the line of counts.
 fn push_counts(text: &mut Text, size: u32, dirs: &Dirs) -> Result<(), NoMemory>
     requires { IsSound size dirs.now }
     ensures { OnOk result (text.new ≡ text.old ++ counts_text size dirs.now) }
@@ -92,7 +92,7 @@ fn push_counts(text: &mut Text, size: u32, dirs: &Dirs) -> Result<(), NoMemory>
     text.push(b'\n')
 }
 
-/// How many blocks the files have on the disc.
+/// The number of blocks of the files on the disc.
 fn used_blocks(files: &[FileRec], online: &[FileCopy]) -> u64
     requires { length files.now ≤ 1024 }
     ensures { result ≡ used_by files.now online.now }
@@ -104,7 +104,7 @@ fn used_blocks(files: &[FileRec], online: &[FileCopy]) -> u64
     used
 }
 
-/// How many blocks the file of this number has on the disc.
+/// The number of blocks of the file of this number on the disc.
 fn blocks_of(online: &[FileCopy], number: u16) -> u32
     ensures exact { result ≡ length (copy_blocks (copy_at online.now number)) }
 {
@@ -114,7 +114,7 @@ fn blocks_of(online: &[FileCopy], number: u16) -> u32
     }
 }
 
-/// Puts the line of an intent, if there is one, behind the text.
+/// Appends the line of an intent, if there is one.
 fn push_intent(text: &mut Text, intent: &Option<Intent>, found: &[Found]) -> Result<(), NoMemory>
     ensures { OnOk result ((dumps : List Dump) → AreKnown found.now dumps
         → text.new ≡ text.old ++ text_of (intent_lines dumps intent.now)) }
@@ -125,7 +125,7 @@ fn push_intent(text: &mut Text, intent: &Option<Intent>, found: &[Found]) -> Res
     }
 }
 
-/// Puts the line of an intent behind the text.
+/// Appends the line of an intent.
 fn push_named(text: &mut Text, at: &Intent, found: &[Found]) -> Result<(), NoMemory>
     ensures { OnOk result ((dumps : List Dump) → AreKnown found.now dumps
         → text.new ≡ text.old ++ text_of (intent_lines dumps (Some at.now))) }
@@ -136,7 +136,7 @@ fn push_named(text: &mut Text, at: &Intent, found: &[Found]) -> Result<(), NoMem
     push_state(text, is_there(found, at))
 }
 
-/// Puts the end of that line behind the text.
+/// Appends the end of that line.
 fn push_state(text: &mut Text, there: bool) -> Result<(), NoMemory>
     ensures { OnOk result (text.new ≡ text.old ++ ended (state_text there)) }
 {

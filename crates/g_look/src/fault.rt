@@ -1,7 +1,7 @@
-//! Why a look answers nothing.
+//! The faults of a look.
 use thiserror::Error;
 
-/// Why a look tells nothing. No fault changes what disc or reels hold.
+/// Why a look has no result. No fault changes what disc or reels hold.
 #[derive(Clone, Copy, Debug, PartialEq, Eq, Error)]
 pub enum LookFault {
     /// A block of the disc couldn't be read, and its count of failed reads rose.
@@ -19,10 +19,10 @@ pub enum LookFault {
     /// No file has this name.
     #[error("no such file")]
     NoFile,
-    /// The bytes of the file are nowhere.
+    /// No device holds the bytes of the file.
     #[error("the copy is not held")]
     NoCopy,
-    /// The memory was refused.
+    /// Memory ran out.
     #[error("out of memory")]
     NoMemory,
 }

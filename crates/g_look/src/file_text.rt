@@ -13,7 +13,7 @@ use g_monitor::push_full;
 use g_name::{Full, Text};
 use g_trap::{Mode, Modes};
 
-/// Puts the front of a file's line behind the text: its full name, length, stamp and traps.
+/// Appends the beginning of a file's line: its full name, length, stamp and traps.
 pub(crate) fn push_file(
     text: &mut Text,
     full: &Full,
@@ -30,7 +30,7 @@ pub(crate) fn push_file(
     push_others(text, users, file.traps.others())
 }
 
-/// Puts the other users with their modes behind the text.
+/// Appends the other users with their modes.
 fn push_others(text: &mut Text, users: &[UserRec], others: &[(u8, Modes)]) -> Result<(), NoMemory>
     ensures { OnOk result (text.new ≡ text.old ++ flat_map (trap_text users.now) others.now) }
 {
@@ -43,7 +43,7 @@ fn push_others(text: &mut Text, users: &[UserRec], others: &[(u8, Modes)]) -> Re
     Ok(())
 }
 
-/// Puts a user and the user's modes behind the text.
+/// Appends a user and the user's modes.
 fn push_trap(text: &mut Text, users: &[UserRec], number: u8, modes: Modes) -> Result<(), NoMemory>
     ensures { OnOk result (text.new ≡ text.old ++ trap_text users.now (number, modes)) }
 {
@@ -52,7 +52,7 @@ fn push_trap(text: &mut Text, users: &[UserRec], number: u8, modes: Modes) -> Re
     push_modes(text, modes)
 }
 
-/// Puts `RWAXE` behind the text, with a dot for each mode that is closed.
+/// Appends `RWAXE`, with a dot for each mode that is closed.
 #[tactic(auto, using(crate::proofs::ShownLemmas::modes_are))]
 fn push_modes(text: &mut Text, modes: Modes) -> Result<(), NoMemory>
     ensures { OnOk result (text.new ≡ text.old ++ modes_text modes) }
@@ -66,14 +66,14 @@ fn push_modes(text: &mut Text, modes: Modes) -> Result<(), NoMemory>
     ])
 }
 
-/// The mode's letter, or a dot where it is closed.
+/// The mode's letter, or a dot if the mode is closed.
 fn shown_mode(modes: Modes, mode: Mode, letter: u8) -> u8
     ensures { result ≡ shown_mode modes mode letter }
 {
     if modes.contains(mode) { letter } else { b'.' }
 }
 
-/// Puts where the file lies on the disc behind the text, if it does.
+/// Appends the file's blocks on the disc, if it is there.
 pub(crate) fn push_blocks(text: &mut Text, copy: &Option<DiscCopy>) -> Result<(), NoMemory>
     ensures { OnOk result (text.new ≡ text.old ++ blocks_text copy.now) }
 {
@@ -86,7 +86,7 @@ pub(crate) fn push_blocks(text: &mut Text, copy: &Option<DiscCopy>) -> Result<()
     }
 }
 
-/// Puts numbers of blocks behind the text.
+/// Appends block numbers.
 fn push_places(text: &mut Text, places: &[u32]) -> Result<(), NoMemory>
     ensures { OnOk result (text.new ≡ text.old ++ flat_map place_text places.now) }
 {
@@ -99,7 +99,7 @@ fn push_places(text: &mut Text, places: &[u32]) -> Result<(), NoMemory>
     Ok(())
 }
 
-/// Puts where the file lies on tape behind the text, if it does.
+/// Appends the file's place on tape, if it has one.
 pub(crate) fn push_taped(text: &mut Text, copy: &Option<TapeCopy>) -> Result<(), NoMemory>
     ensures { OnOk result (text.new ≡ text.old ++ taped_text copy.now) }
 {

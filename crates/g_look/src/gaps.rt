@@ -11,8 +11,8 @@ use g_base::NoMemory;
 use g_restore::Found;
 use std::alloc::Global;
 
-/// The greatest number of a dump that isn't there although a later one is, and which no later one replaces by holding the
-/// directories of all its users. `NoMemory`.
+/// The greatest number of a dump that is missing although a later one exists, and which no later one replaces by holding the directories of all its
+/// users. `NoMemory`.
 pub(crate) fn missing(alloc: Global, found: &[Found]) -> Result<Option<u64>, NoMemory>
     ensures { IfOk result (λ number. (dumps : List Dump) → AreKnown found.now dumps → NamesMissing dumps number) }
 {
@@ -31,7 +31,7 @@ fn newest_whole(found: &[Found]) -> u64
     newest
 }
 
-/// The dump's number, if it is above that one and the dump holds the directories of all its users, or else that one.
+/// The dump's number, if it is above `newest` and the dump holds the directories of all its users; otherwise `newest`.
 fn newer_whole(newest: u64, one: &Found) -> u64
     ensures least { newest ≤ result }
     ensures whole { HoldsAll one.now.dir.users.items one.now.dir.held.items → one.now.dir.note.number ≤ result }
@@ -78,7 +78,7 @@ fn newest_gap(dumps: &[DumpAt], from: u64) -> Option<u64>
     gap
 }
 
-/// The number before this one, if it is above those reached so far, or else the gap so far.
+/// The number before this one, if it is above those reached so far; otherwise the gap so far.
 fn gap_with(gap: Option<u64>, reached: u64, number: u64) -> Option<u64>
     ensures skipped { reached + 1 < number → result ≡ Some (number - 1) }
     ensures near { number ≤ reached + 1 → result ≡ gap }

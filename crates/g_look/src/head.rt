@@ -74,7 +74,7 @@ pub(crate) fn is_intended(one: &Found, intent: &Option<Intent>) -> bool
     }
 }
 
-/// Rule 6: the last dump, where there was one and no dump has its number.
+/// Rule 6: the number of the last dump, if there was one and no dump has its number.
 fn missing_last(found: &[Found], last: u64) -> Option<u64>
     ensures some { IfSome result (λ n. (n ≡ last) × (0 < last) × (HasNumber found.now last → ⊥)) }
     ensures none { IfNone result (0 < last → HasNumber found.now last) }
@@ -125,7 +125,7 @@ fn is_past(one: &Found, next: u64) -> bool
     next < one.dir.note.next_stamp
 }
 
-/// Rules 8 and 9: the reel of the intent is there, and its place is the end of the reel's dumps up to the last one.
+/// Rules 8 and 9: the reel of the intent is in the rack, and its place is the end of the reel's dumps up to the last one.
 fn judge_intent<T: Tapes>(found: &[Found], intent: &Intent, last: u64, tapes: &T) -> Option<Broken>
     ensures some { IfSome result (λ b. All EndsLow found.now → IsIntentBroken found.now (told_reels (T.rack tapes.now)) intent.now last b) }
     ensures none { IfNone result (All EndsLow found.now → IsIntentPlaced found.now (told_reels (T.rack tapes.now)) intent.now last) }
@@ -153,7 +153,7 @@ fn misplaced(intent: &Intent, end: u32) -> Option<Broken>
     }
 }
 
-/// The block behind the dumps of the reel up to the one of this number.
+/// The block after the dumps of the reel up to the one of this number.
 pub(crate) fn end_upto(found: &[Found], serial: u32, last: u64) -> u32
     ensures { All EndsLow found.now → result ≡ end_upto serial last 0 found.now }
 {
@@ -164,7 +164,7 @@ pub(crate) fn end_upto(found: &[Found], serial: u32, last: u64) -> u32
     end
 }
 
-/// The block behind the dump, if it is one of the reel up to the one of this number, else what it was.
+/// The block after the dump, if it is on the reel and isn't later than the one of this number; otherwise `end`.
 fn end_with(end: u32, one: &Found, serial: u32, last: u64) -> u32
     ensures { EndsLow one.now → result ≡ end_with serial last end one.now }
 {
@@ -175,7 +175,7 @@ fn end_with(end: u32, one: &Found, serial: u32, last: u64) -> u32
     }
 }
 
-/// The block behind the dump. Sums are of 64 bits, since of a reel that doesn't tell what it holds nothing bounds them.
+/// The block after the dump. The sum has 64 bits, since nothing bounds it for a reel that doesn't expose its blocks.
 pub(crate) fn end_of(one: &Found) -> u32
     ensures { EndsLow one.now → result ≡ found_ends one.now }
 {

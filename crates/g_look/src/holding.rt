@@ -1,4 +1,4 @@
-//! What a rack holds.
+//! The contents of a rack.
 ghost use Rattle.std.specs.Prelude.{◌≡◌, ◌⊎◌, Err, ℕ, All, IfErr, IfOk, List, true};
 ghost use Rattle.g_incr.specs.Layout.{Dump};
 ghost use Rattle.g_lines.specs.Lines.{text_of};
@@ -15,8 +15,7 @@ use g_name::Text;
 use g_tape::Tapes;
 use std::alloc::Global;
 
-/// The lines of the rack: each reel, and behind it its completed dumps. All reels have to be mounted; they are only read.
-/// `TapeUnread`, `NoMemory`.
+/// The lines of the rack: each reel, followed by its completed dumps. All reels have to be mounted; they are only read. `TapeUnread`, `NoMemory`.
 pub fn dumps<T: Tapes>(alloc: Global, tapes: &mut T) -> Result<Text, LookFault>
     requires mounted { All (λ r. r.mounted ≡ true) (T.rack tapes.old).reels }
     ensures text { ReelsTold (told_reels (T.rack tapes.old)) → (shelf : ℕ → List Dump) → AreShelved shelf (told_reels (T.rack tapes.old))

@@ -1,5 +1,4 @@
-//! A look at a disc and a rack: do they belong together, what is on them, and what a restore of the rack would give. Nothing is
-//! written.
+//! A look at a disc and a rack: whether they belong together, what is on them, and what a restore of the rack would give. Nothing is written.
 #![tactic(auto)]
 
 mod broken;
@@ -39,18 +38,18 @@ pub use rack::see_rack;
 pub use restoring::{Given, restorable};
 pub use showing::show;
 
-/// A rule that is found broken is really broken: disc and rack don't belong together then.
+/// If a rule is found broken, disc and rack don't belong together.
 pub fn broken_is_not()
     ensures broken { BrokenIsNot }
 {}
 
-/// Where no rule is broken disc and rack belong together.
+/// If no rule is broken, disc and rack belong together.
 #[tactic(auto, using(crate::proofs::FitLemmas::fits_belong))]
 pub fn fits_belong()
     ensures fits { FitsBelong }
 {}
 
-/// A rack of which no rule is broken has no breach, and a verdict says exactly whether disc and rack belong together.
+/// If no rule of the rack is broken, it has no breach; and a verdict says exactly whether disc and rack belong together.
 pub fn verdicts()
     ensures rack { RackHasNone }
     ensures right { VerdictIsRight }

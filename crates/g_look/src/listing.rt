@@ -1,4 +1,4 @@
-//! What is on a disc.
+//! The list of a disc's files.
 ghost use Rattle.std.specs.Prelude.{◌≡◌, ◌⊎◌, ◌<◌, ◌++◌, Err, IfErr, IfOk, IfSome, OnOk, option_copied};
 ghost use Rattle.std.specs.List.{flat_map};
 ghost use Rattle.std.specs.Option.{ForSome, option_map};
@@ -28,9 +28,8 @@ use g_name::{Full, Text, User};
 use g_tree::{Tree, full_of};
 use std::alloc::Global;
 
-/// A line for each file of the disc, or of this user: users by number, the files of a user by full name; and how many were
-/// listed. The disc is only read. `NoFilestore`: it stands for no filestore; `NoUser`: nor is there such a user;
-/// `DiscUnread`, `NoMemory`.
+/// A line for each file of the disc, or of this user: users by number, the files of a user by full name; and the number of files listed. The disc is
+/// only read. `NoFilestore`: it represents no filestore; `NoUser`: the filestore has no such user; `DiscUnread`, `NoMemory`.
 pub fn list<D: Disc>(alloc: Global, disc: &mut D, user: Option<&User>) -> Result<Text, LookFault>
     requires size { 2177 < (D.state disc.old).size }
     ensures text { ForSome (D.state disc.old).held (λ blocks. IfOk result (IsListed blocks (option_copied user.entry))) }
@@ -69,7 +68,7 @@ fn directory_text(alloc: Global, dirs: Dirs, user: Option<&User>) -> Result<Text
     }
 }
 
-/// The number of the user that is asked for, if one is. `NoUser`.
+/// The number of the requested user, if one is requested. `NoUser`.
 fn asked_user(tree: &Tree, user: Option<&User>) -> Result<Option<u8>, LookFault>
     ensures name { IfOk result (λ only. option_map (name_of tree.now.users) only ≡ option_copied user.entry) }
     ensures user { IfOk result (λ only. IfSome (option_copied user.entry) (HasUser tree.now.users)) }
@@ -85,7 +84,7 @@ fn asked_user(tree: &Tree, user: Option<&User>) -> Result<Option<u8>, LookFault>
     }
 }
 
-/// The records of a directory as a tree, and where its files lie on the disc.
+/// The records of a directory as a tree, and the places of its files on the disc.
 pub(crate) fn tree_of(alloc: Global, dirs: Dirs) -> Result<(Tree, Vec<FileCopy>), NoMemory>
     requires records { IsRecords dirs.users.items dirs.files.items }
     ensures users { IfOk result (λ made. made.0.users ≡ dirs.users.items) }
@@ -122,7 +121,7 @@ fn list_text(
     Ok(text)
 }
 
-/// Puts the lines of the files of these numbers behind the text.
+/// Appends the lines of the files of these numbers.
 fn push_lines(
     text: &mut Text,
     tree: &Tree,
@@ -141,7 +140,7 @@ fn push_lines(
     Ok(())
 }
 
-/// Puts the line of the file of this number behind the text, if there is one.
+/// Appends the line of the file of this number, if there is one.
 fn push_numbered(
     text: &mut Text,
     tree: &Tree,
@@ -166,7 +165,7 @@ fn push_numbered(
     }
 }
 
-/// Puts the line of a file behind the text.
+/// Appends the line of a file.
 fn push_line(
     text: &mut Text,
     full: &Full,

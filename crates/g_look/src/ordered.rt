@@ -50,7 +50,7 @@ fn user_numbers(alloc: Global, tree: &Tree, user: u8) -> Result<Vec<u16>, NoMemo
     }
 }
 
-/// Puts the numbers of a user's files behind these.
+/// Appends the numbers of a user's files.
 fn add_numbers(alloc: Global, numbers: &mut Vec<u16>, tree: &Tree, user: u8) -> Result<(), NoMemory>
     ensures { OnOk result (numbers.new.items ≡ numbers.old.items
         ++ numbers_named tree.now.users tree.now.files (name_of tree.now.users user)) }

@@ -1,4 +1,4 @@
-//! The rules about pairs of dumps. In rising number it is enough to compare neighbours.
+//! The rules about pairs of dumps. In rising order of number it is enough to compare neighbours.
 ghost use Rattle.std.specs.Prelude.{◌≡◌, IfNone, IfOk, IfSome, IsPermutation, IsTrue, map};
 ghost use Rattle.std.specs.List.Sorted.{IsNonDecreasingBy};
 ghost use Rattle.g_look.specs.SeenDumps.{HaveNoTwins, IsFalling, IsTwice, IsTwin, NoneFalls, SamePlace, at_found};
@@ -8,7 +8,7 @@ use g_base::NoMemory;
 use g_restore::Found;
 use std::alloc::Global;
 
-/// What is printed of these dumps, in rising number; those of one number stay in their order. `NoMemory`.
+/// The numbers by which these dumps are printed, in rising order; those of the same number stay in their order. `NoMemory`.
 pub(crate) fn by_number(alloc: Global, found: &[Found]) -> Result<Vec<DumpAt>, NoMemory>
     ensures same { IfOk result (λ dumps. IsPermutation (map at_found found.now) dumps.items) }
     ensures order { IfOk result (λ dumps. IsNonDecreasingBy (λ d. d.number) dumps.items) }
@@ -18,7 +18,7 @@ pub(crate) fn by_number(alloc: Global, found: &[Found]) -> Result<Vec<DumpAt>, N
     Ok(dumps)
 }
 
-/// What is printed of each of these dumps, in their order.
+/// The numbers by which each of these dumps is printed, in their order.
 fn all_at(alloc: Global, found: &[Found]) -> Result<Vec<DumpAt>, NoMemory>
     ensures { IfOk result (λ dumps. dumps.items ≡ map at_found found.now) }
 {
@@ -29,7 +29,7 @@ fn all_at(alloc: Global, found: &[Found]) -> Result<Vec<DumpAt>, NoMemory>
     Ok(dumps)
 }
 
-/// Rule 1: two dumps of one number, at two places. They are neighbours.
+/// Rule 1: two dumps of the same number, at two places. They are neighbours.
 pub(crate) fn twice(dumps: &[DumpAt]) -> Option<Broken>
     requires { IsNonDecreasingBy (λ d. d.number) dumps.now }
     ensures some { IfSome result (IsTwice dumps.now) }
@@ -44,7 +44,7 @@ pub(crate) fn twice(dumps: &[DumpAt]) -> Option<Broken>
     None
 }
 
-/// Whether the other dump has the number of this one and lies at another place.
+/// Whether the other dump has the number of this one and is at another place.
 fn is_twin(one: &DumpAt, other: &DumpAt) -> bool
     ensures twin { IsTrue result → IsTwin one.now other.now }
     ensures apart { (IsTrue result → ⊥) → other.now.number ≡ one.now.number → SamePlace one.now other.now }
@@ -52,7 +52,7 @@ fn is_twin(one: &DumpAt, other: &DumpAt) -> bool
     one.number == other.number && !(one.serial == other.serial && one.place == other.place)
 }
 
-/// Rule 2: two dumps of which the later one has the lower next stamp. They are neighbours.
+/// Rule 2: two dumps, the later of which has the lower next stamp. They are neighbours.
 pub(crate) fn falling(dumps: &[DumpAt]) -> Option<Broken>
     requires { IsNonDecreasingBy (λ d. d.number) dumps.now }
     ensures some { IfSome result (IsFalling dumps.now) }
@@ -67,7 +67,7 @@ pub(crate) fn falling(dumps: &[DumpAt]) -> Option<Broken>
     None
 }
 
-/// What is printed of a dump.
+/// The numbers by which a dump is printed.
 pub(crate) fn at_of(one: &Found) -> DumpAt
     ensures { result ≡ at_found one.now }
 {

@@ -10,7 +10,7 @@ use g_entry::TapeCopy;
 use g_lines::push_decimal;
 use g_name::Text;
 
-/// Puts words and a number behind the text.
+/// Appends words and a number.
 pub fn push_told(text: &mut Text, words: &[u8], number: u64) -> Result<(), NoMemory>
     ensures { OnOk result (text.new ≡ text.old ++ told words.now number) }
 {
@@ -18,7 +18,7 @@ pub fn push_told(text: &mut Text, words: &[u8], number: u64) -> Result<(), NoMem
     push_decimal(text, number)
 }
 
-/// Puts words and a number behind the text, as a line.
+/// Appends words and a number, as a line.
 pub(crate) fn push_told_line(text: &mut Text, words: &[u8], number: u64) -> Result<(), NoMemory>
     ensures { OnOk result (text.new ≡ text.old ++ ended (told words.now number)) }
 {
@@ -26,7 +26,7 @@ pub(crate) fn push_told_line(text: &mut Text, words: &[u8], number: u64) -> Resu
     text.push(b'\n')
 }
 
-/// Puts a place on tape behind the text.
+/// Appends a place on tape.
 pub fn push_copy(text: &mut Text, copy: &TapeCopy) -> Result<(), NoMemory>
     ensures { OnOk result (text.new ≡ text.old ++ copy_text copy.now) }
 {
@@ -34,7 +34,7 @@ pub fn push_copy(text: &mut Text, copy: &TapeCopy) -> Result<(), NoMemory>
     push_told(text, b" AT ", u64::from(copy.first))
 }
 
-/// Puts the place of a dump behind the text.
+/// Appends the place of a dump.
 pub(crate) fn push_at(text: &mut Text, at: &DumpAt) -> Result<(), NoMemory>
     ensures { OnOk result (text.new ≡ text.old ++ at_text at.now) }
 {
@@ -42,7 +42,7 @@ pub(crate) fn push_at(text: &mut Text, at: &DumpAt) -> Result<(), NoMemory>
     push_told(text, b" AT ", u64::from(at.place))
 }
 
-/// Puts a place of a version behind the text.
+/// Appends a place of a version.
 pub fn push_lie(text: &mut Text, lie: &Lie) -> Result<(), NoMemory>
     ensures { OnOk result (text.new ≡ text.old ++ lie_text lie.now) }
 {

@@ -1,4 +1,4 @@
-//! The completed dumps of a rack, and the rules that they keep among themselves.
+//! The completed dumps of a rack, and the rules between them.
 ghost use Rattle.std.specs.Prelude.{◌≡◌, ◌⊎◌, All, Err, IfErr, IfOk, List, OnErr, true};
 ghost use Rattle.g_incr.specs.Layout.{Dump};
 ghost use Rattle.g_shelf.specs.CompletedDumps.{all_dumps};
@@ -33,14 +33,14 @@ pub fn see_rack<T: Tapes>(alloc: Global, tapes: &mut T) -> Result<Vec<Found>, Lo
     }
 }
 
-/// A rack of which no rule is broken, with the files of its dumped directory, or the first rule that is.
+/// A rack that breaks no rule, with the files of its dumped directory; or the first rule that it breaks.
 #[derive(Drop)]
 pub(crate) enum Judged {
     Fits(Vec<FileRec>),
     Breaks(Broken),
 }
 
-/// Which rule of the rack is broken first, or the files of the directory that the dumps give.
+/// The first rule that the rack breaks, or the files of the directory that the dumps give.
 pub(crate) fn judge_rack(alloc: Global, found: &[Found]) -> Result<Judged, LookFault>
     requires few { All HasFew found.now }
     ensures judged { IfOk result (λ judged. WhereSeen found.now (λ reels shelf. IsJudged (all_dumps shelf reels) judged)) }

@@ -19,7 +19,7 @@ use g_name::Text;
 use g_restore::Found;
 use g_tape::Tapes;
 
-/// Puts the lines of the rack behind the text: of each reel, and behind it those of its dumps.
+/// Appends the lines of the rack: of each reel, followed by those of its dumps.
 pub(crate) fn push_rack<T: Tapes>(
     text: &mut Text,
     tapes: &T,
@@ -38,7 +38,7 @@ pub(crate) fn push_rack<T: Tapes>(
     Ok(())
 }
 
-/// Puts the lines of a reel behind the text.
+/// Appends the lines of a reel.
 fn push_reel<T: Tapes>(
     text: &mut Text,
     tapes: &T,
@@ -57,7 +57,7 @@ fn push_reel<T: Tapes>(
     push_dumps(text, serial, found)
 }
 
-/// How many blocks the reel of this serial can hold, 0 without one.
+/// The capacity in blocks of the reel of this serial, 0 without one.
 fn capacity_of<T: Tapes>(tapes: &T, serial: u32) -> u32
     ensures { (r : Reel) → Contains (told_reels (T.rack tapes.now)) r → r.serial ≡ serial → result ≡ r.capacity }
 {
@@ -67,7 +67,7 @@ fn capacity_of<T: Tapes>(tapes: &T, serial: u32) -> u32
     }
 }
 
-/// How many blocks the reel of this serial holds, 0 without one.
+/// The length in blocks of the reel of this serial, 0 without one.
 fn length_of<T: Tapes>(tapes: &T, serial: u32) -> u32
     ensures { (r : Reel) → Contains (told_reels (T.rack tapes.now)) r → r.serial ≡ serial → result ≡ r.len }
 {
@@ -97,7 +97,7 @@ fn ones(one: &Found, serial: u32) -> u64
     if one.serial == serial { 1 } else { 0 }
 }
 
-/// Puts the line of a reel behind the text.
+/// Appends the line of a reel.
 fn push_tape(
     text: &mut Text,
     serial: u32,
@@ -115,7 +115,7 @@ fn push_tape(
     text.push(b'\n')
 }
 
-/// Puts the lines of the reel's dumps behind the text.
+/// Appends the lines of the reel's dumps.
 fn push_dumps(text: &mut Text, serial: u32, found: &[Found]) -> Result<(), NoMemory>
     ensures { OnOk result (text.new ≡ text.old ++ text_of (lines_on serial found.now)) }
 {
@@ -128,7 +128,7 @@ fn push_dumps(text: &mut Text, serial: u32, found: &[Found]) -> Result<(), NoMem
     Ok(())
 }
 
-/// Puts the line of the dump behind the text, if it is on the reel.
+/// Appends the line of the dump, if it is on the reel.
 fn push_if_on(text: &mut Text, serial: u32, one: &Found) -> Result<(), NoMemory>
     ensures { OnOk result (text.new ≡ text.old ++ text_of (lines_on serial (one.now ∷ []))) }
 {
@@ -139,7 +139,7 @@ fn push_if_on(text: &mut Text, serial: u32, one: &Found) -> Result<(), NoMemory>
     }
 }
 
-/// Puts the line of a dump behind the text.
+/// Appends the line of a dump.
 fn push_dump(text: &mut Text, one: &Found) -> Result<(), NoMemory>
     ensures { OnOk result (text.new ≡ text.old ++ ended (known_line (known one.now))) }
 {
@@ -159,7 +159,7 @@ fn push_dump(text: &mut Text, one: &Found) -> Result<(), NoMemory>
     text.push(b'\n')
 }
 
-/// Puts the users of these numbers behind the text.
+/// Appends the users of these numbers.
 fn push_holders(text: &mut Text, users: &[UserRec], held: &[u8]) -> Result<(), NoMemory>
     ensures { OnOk result (text.new ≡ text.old ++ flat_map (holder_text users.now) held.now) }
 {
@@ -172,7 +172,7 @@ fn push_holders(text: &mut Text, users: &[UserRec], held: &[u8]) -> Result<(), N
     Ok(())
 }
 
-/// Puts the user of this number behind the text.
+/// Appends the user of this number.
 pub(crate) fn push_holder(text: &mut Text, users: &[UserRec], number: u8) -> Result<(), NoMemory>
     ensures { OnOk result (text.new ≡ text.old ++ holder_text users.now number) }
 {

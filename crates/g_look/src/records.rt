@@ -44,7 +44,7 @@ fn lost_copy(found: &[Found], file: &FileRec) -> Option<TapeCopy>
     }
 }
 
-/// Rule 11: a file and the dumped one of the same stamp that have other lengths.
+/// Rule 11: a file and the dumped one of the same stamp that have different lengths.
 pub(crate) fn other_length(
     users: &[UserRec],
     files: &[FileRec],
@@ -70,7 +70,7 @@ pub(crate) fn other_length(
     None
 }
 
-/// The length of a dumped record of the file's stamp, where it is another than the file's.
+/// The length of a dumped record of the file's stamp, if it isn't the file's.
 fn length_in(dumped: &[FileRec], file: &FileRec) -> Option<u32>
     ensures some { IfSome result (HasOtherLength dumped.now file.now) }
     ensures none { IfNone result (HasSameLengths dumped.now file.now) }

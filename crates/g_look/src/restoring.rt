@@ -1,4 +1,4 @@
-//! What a restore of the rack would give.
+//! The tree that a restore of the rack would give.
 ghost use Rattle.std.specs.Prelude.{◌≡◌, ◌⊎◌, ◌++◌, All, Err, IfErr, IfOk, List, OnOk, false, true};
 ghost use Rattle.std.specs.List.{flat_map};
 ghost use Rattle.g_incr.specs.Layout.{Dump};
@@ -28,8 +28,8 @@ use g_tape::Tapes;
 use g_tree::{Tree, full_of};
 use std::alloc::Global;
 
-/// Whether the rack can be restored, the number of a dump that is missing from it, and the text: the files that RESTORE
-/// would give and the dump, or its refusal.
+/// Whether the rack can be restored, the number of a dump that is missing from it, and the text: the files that RESTORE would give and the dump, or
+/// its refusal.
 #[derive(Drop)]
 pub struct Given {
     pub given: bool,
@@ -37,9 +37,9 @@ pub struct Given {
     pub text: Text,
 }
 
-/// What RESTORE would give of this rack: a line for each file, users by number and the files of a user by full name, and
-/// `RESTORABLE FROM DUMP n`, then `DUMP m MISSING` if a dump is missing; or the one line of its refusal. All reels have to be mounted; they are only read.
-/// `TapeUnread`, `NoMemory`.
+/// The files that RESTORE would give from this rack: a line for each file, users by number and the files of a user by full name, and
+/// `RESTORABLE FROM DUMP n`, then `DUMP m MISSING` if a dump is missing; or the one line of its refusal. All reels have to be mounted; they are only
+/// read. `TapeUnread`, `NoMemory`.
 pub fn restorable<T: Tapes>(alloc: Global, tapes: &mut T) -> Result<Given, LookFault>
     requires mounted { All (λ r. r.mounted ≡ true) (T.rack tapes.old).reels }
     ensures text { OfDumps (T.rack tapes.old) (λ dumps. IfOk result (λ g. IsRestorable dumps g.given g.missing g.text)) }
@@ -53,7 +53,7 @@ pub fn restorable<T: Tapes>(alloc: Global, tapes: &mut T) -> Result<Given, LookF
     given_by(alloc, found.as_slice())
 }
 
-/// What RESTORE would give of these dumps. `NoMemory`.
+/// The files that RESTORE would give from these dumps. `NoMemory`.
 fn given_by(alloc: Global, found: &[Found]) -> Result<Given, LookFault>
     requires few { All HasFew found.now }
     requires known { (dumps : List Dump) × AreKnown found.now dumps }

@@ -23,10 +23,9 @@ use g_retrieve::tape_bytes;
 use g_tape::Tapes;
 use std::alloc::Global;
 
-/// The bytes of the file that the path names for input, where an absent user is MASTER: from the disc where it is there,
-/// else from its copy on tape. No trap is asked. Both are only read. `NoFilestore`: the disc stands for none; `NoFile`: no
-/// file has the name; `NoCopy`: the file is on tape alone, and its reel isn't mounted or no completed dump holds its copy;
-/// `DiscUnread`, `TapeUnread`, `NoMemory`.
+/// The bytes of the file that the path names for input (if the path has no user, the user is MASTER): from the disc if it is there, otherwise from
+/// its copy on tape. Traps aren't checked. Both devices are only read. `NoFilestore`: the disc represents none; `NoFile`: no file has the name;
+/// `NoCopy`: the file is only on tape, and its reel isn't mounted or no completed dump holds its copy; `DiscUnread`, `TapeUnread`, `NoMemory`.
 pub fn show<D: Disc, T: Tapes>(
     alloc: Global,
     disc: &mut D,
@@ -63,7 +62,7 @@ pub fn show<D: Disc, T: Tapes>(
     }
 }
 
-/// The bytes of a file, from the disc where it is there, else from its copy on tape.
+/// The bytes of a file, from the disc if it is there, otherwise from its copy on tape.
 fn file_bytes<D: Disc, T: Tapes>(
     alloc: Global,
     disc: &mut D,

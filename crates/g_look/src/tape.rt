@@ -13,8 +13,7 @@ use g_name::Text;
 use g_tape::Tapes;
 use std::alloc::Global;
 
-/// The `len` bytes from the place on, or as many as the reel has, each block read once; none where the reel isn't there.
-/// `TapeUnread`, `NoMemory`.
+/// The `len` bytes from the place on, or as many as the reel has, each block read once; none if the reel isn't in the rack. `TapeUnread`, `NoMemory`.
 pub(crate) fn tape_text<T: Tapes>(
     alloc: Global,
     tapes: &mut T,
@@ -27,7 +26,7 @@ pub(crate) fn tape_text<T: Tapes>(
     ensures tapes { ReadsRackByCause (result ≡ Err LookFault.TapeUnread) (T.rack tapes.old) (T.rack tapes.new) }
     ensures only { OnErr result ((result ≡ Err LookFault.TapeUnread) ⊎ (result ≡ Err LookFault.NoMemory)) }
 {
-    // No reel has so many blocks.
+    // No reel has that many blocks.
     if 65_536 < copy.first {
         return Ok(Text::new(alloc));
     }
@@ -54,7 +53,7 @@ fn text_in(alloc: Global, blocks: &[Block], len: u32) -> Result<Text, NoMemory>
     Ok(Text::from(bytes))
 }
 
-/// Puts the block behind the bytes, or as much of it as makes them so many.
+/// Appends the block, or the part of it that makes the bytes `len` long.
 #[tactic(auto, using(crate::proofs::CompareLemmas::take_min))]
 fn add_block(bytes: &mut Vec<u8>, block: &Block, len: usize) -> Result<(), NoMemory>
     requires { length bytes.old.items ≤ len }
@@ -65,7 +64,7 @@ fn add_block(bytes: &mut Vec<u8>, block: &Block, len: usize) -> Result<(), NoMem
     Ok(())
 }
 
-/// The first so many bytes of a block.
+/// The first `count` bytes of a block.
 fn front(block: &Block, count: usize) -> &[u8]
     requires { count ≤ 512 }
     ensures value { result.now ≡ take count block.now }

@@ -1,4 +1,5 @@
--- What a check promises follows from what is told of its answer.
+-- The promises of a check, from what its result says.
+-- serves: look (check, dumps, list, restorable, show)
 use Rattle.std.proofs.Common.{◌≡◌, ◌⊎◌, ◌↔◌, ℕ, List, Bool, true, false, Option, Some, None, Result, Ok, Err, IfOk, IfErr, IsTrue, refl, subst, sym, ◌∙◌, inl, inr}
 use Rattle.std.specs.Prelude.{codes}
 use Rattle.std.specs.Option.{ForSome}
@@ -26,7 +27,7 @@ use Rattle.g_look_program.specs.declared.words.Asked.{Asked}
 use Rattle.g_look_program.specs.declared.words.Asked.TheVariants as asked
 use Rattle.g_look_program.specs.Telling.{Written, IsCut, IsFaultLine, IsQuiet, IsWhole, Puts, EndsQuietly, TellsFault, Tells, TellsBytes, TellsCheck, TellsGiven, TellsSeal, verdict, outcome, seal_status, HoldsOne, EndsCheck, EndsDumps, EndsGiven, EndsList, EndsSeal, EndsShow}
 
--- A TEXT THAT WAS PUT, or a sink that failed
+-- A TEXT WAS PRINTED, or the sink failed
 ends_put : (size : ℕ) (held : Option (List (List ℕ))) (reels : List Reel) (broken : Option Broken) (missing : Option ℕ) (filestore : Bool) (text : List ℕ) (w : Written)
     → IsChecked size held reels broken missing text → IsTrue filestore ↔ HoldsOne held → IsWhole text w → EndsCheck (verdict broken missing filestore) size held reels w
 ends_put size held reels (Some b) missing filestore text w checked one whole = inl (b, missing, (text, checked, whole))
@@ -53,7 +54,7 @@ ends_fault size held reels why ended w (inr (inr is)) tells =
     let quiet : EndsQuietly status.NoMemory ended w = subst (λ (f : LookFault). TellsFault f ended w) is tells in
     subst (λ (s : Status). EndsCheck s size held reels w) (sym quiet.0) quiet.1
 
--- what the disc holds, where it tells it
+-- the blocks of the disc, if it exposes them
 same_blocks : (held : Option (List (List ℕ))) (a b : List (List ℕ)) → held ≡ Some a → held ≡ Some b → a ≡ b
 same_blocks held a b is other = let same : a ≡ b = cc in same
 
@@ -65,7 +66,7 @@ holds_one held blocks filestore is both =
       (λ one. let (others, other_is, d, stands) = one in here.1 (d, subst (λ (b : List (List ℕ)). StandsFor b d) (same_blocks held others blocks other_is is) stands)),
     )
 
--- A CHECK ENDS AS IT MUST
+-- A CHECK ENDS AS REQUIRED
 pub ends_check : (size : ℕ) (held : Option (List (List ℕ))) (reels : List Reel) (found : Result Checked LookFault) (ended : Status) (w : Written)
     → IfOk found (λ c. IsChecked size held reels c.verdict.broken c.verdict.missing c.text)
     → ForSome held (λ blocks. IfOk found (λ c. IsTrue c.filestore ↔ ((d : Directory) × StandsFor blocks d)))
@@ -76,7 +77,7 @@ ends_check size held reels (Ok c) ended w right filestore faults tells =
     (inl (c.verdict.broken, c.verdict.missing, right)) tells
 ends_check size held reels (Err why) ended w right filestore faults tells = ends_fault size held reels why ended w faults tells
 
--- A LOOK AT THE DUMPS ENDS AS IT MUST
+-- A LOOK AT THE DUMPS ENDS AS REQUIRED
 abbrev pub RackFaults : LookFault → Type 0
 RackFaults why = (why ≡ fault.TapeUnread) ⊎ (why ≡ fault.NoMemory)
 
@@ -153,7 +154,7 @@ module _ (dumps : List Dump) (ended : Status) (w : Written) where
       put_ends Giving status.Unread ended (codes "TAPE READ\n") w (λ whole. whole) (λ cut. (codes "TAPE READ\n", inr (inr (inl refl)), cut)) (subst (λ (f : LookFault). TellsFault f ended w) unread tells)
   ends_given (Err why) is (inr memory) tells = quiet_ends Giving status.NoMemory ended w (λ quiet. quiet) (subst (λ (f : LookFault). TellsFault f ended w) memory tells)
 
--- OF WHAT WAS ASKED FOR
+-- THE REQUEST
 same_user : (x y : Option (List ℕ)) → asked.List x ≡ asked.List y → x ≡ y
 same_user x y is = cc
 
@@ -172,7 +173,7 @@ pub show_ends : (a : Asked) (path there : Path) → a ≡ asked.Show there → a
 show_ends a path there here is blocks dumps ended w found shown none no_file lost only tells =
     subst (λ (p : Path). EndsShow ended blocks dumps p w) (same_path there path (sym here ∙ is)) (ends_show blocks dumps there ended w found shown none no_file lost only tells)
 
--- what holds of an answer wherever the reels tell
+-- a property of a result, if the reels expose their blocks
 pub of_dumps : {X E : Type 0} (rack : Rack) (P : List Dump → X → Type 0) (found : Result X E) → IfOk found (λ x. OfDumps rack (λ dumps. P dumps x)) → OfDumps rack (λ dumps. IfOk found (P dumps))
 of_dumps rack P (Ok x) is told shelf shelved = is told shelf shelved
 of_dumps rack P (Err e) is told shelf shelved = tt

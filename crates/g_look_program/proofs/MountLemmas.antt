@@ -1,4 +1,5 @@
--- A rack of which reels were mounted, and nothing else.
+-- A rack on which reels were mounted, and nothing else changed.
+-- serves: mount_all
 use Rattle.std.proofs.Common.{◌≡◌, ◌==◌, ℕ, Bool, true, false, List, [], ◌∷◌, Result, Ok, Err, map, refl, sym, ◌∙◌, ap, subst, if◌then◌else◌}
 use Rattle.g_tape.specs.declared.fault.TapeFault.{TapeFault}
 use Rattle.g_tape.specs.Reel.{Reel, with_mounted}

@@ -1,4 +1,5 @@
--- Two words that ask for nothing.
+-- Two words that request nothing.
+-- serves: asked_of
 use Rattle.std.proofs.Common.{Bool, List, [], Option, Some, None, ap, arith, codes, get_or, subst, sym, true, ℕ, ◌∙◌, ◌∷◌, ◌≡◌, ◌≢◌}
 use Rattle.std.specs.Str.{bytes_eq}
 use Rattle.std.proofs.lemmas.Slice.Eq.{bytes_eq-Decides}
@@ -16,7 +17,7 @@ parts_of word of word' of' e = (cc, cc)
 show_list : codes "show" ≢ codes "list"
 show_list is = let first : 115 ≡ 108 = ap (λ (l : List ℕ). get_or l 0 0) is in omega (arith, first)
 
--- `show` and what is no path
+-- `show` and a text that is no path
 pub shows_nothing : (word of : List ℕ) (same : Bool) → same ≡ bytes_eq word (codes "show") → same ≡ true → ((n : Name) → IsName n → of ≡ name_text n → ⊥)
     → AskNothing (word ∷ of ∷ [])
 shows_nothing word of same is true_is none asked.Check good e = one_word word of (codes "check") e

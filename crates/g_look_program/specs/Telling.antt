@@ -1,4 +1,4 @@
--- What a look tells of its answer, the status with which it ends, and the cause of each.
+-- The text that a look prints, the status with which it ends, and the cause of each.
 use Rattle.std.specs.Prelude.{◌≡◌, ◌⊎◌, ℕ, List, Option, Some, None, Bool, true, false, Result, Ok, Err, codes}
 use Rattle.std.specs.Option.{ForSome}
 use Rattle.g_base.specs.Counts.{Rose}
@@ -25,44 +25,45 @@ use Rattle.g_seal.specs.Sealing.{HasLost, IsSealed}
 use Rattle.g_look_program.specs.declared.status.Status.{Status}
 use Rattle.g_look_program.specs.declared.status.Status.TheVariants as status
 
--- what was written to a sink before and after a look, and the counts of its faults
+-- What was written to a sink before and after a look, and the counts of its faults.
 pub record Written : Type 0 where
   pub before : Option (List ℕ)
   pub after : Option (List ℕ)
   pub faults_before : ℕ
   pub faults_after : ℕ
 
--- nothing was put
+-- Nothing was written.
 pub record IsQuiet (w : Written) : Type 0 where
   pub same : w.after ≡ w.before
   pub kept : w.faults_after ≡ w.faults_before
 
--- the text was put
+-- The whole text was written.
 pub record IsWhole (text : List ℕ) (w : Written) : Type 0 where
   pub all : w.after ≡ with_more w.before text
   pub kept : w.faults_after ≡ w.faults_before
 
--- the sink failed, and a front of the text was put
+-- The sink failed after a prefix of the text.
 pub record IsCut (text : List ℕ) (w : Written) : Type 0 where
   pub part : HasPutPart w.before text w.after
   pub rose : Rose w.faults_before w.faults_after
 
--- the same of one of such texts
+-- The sink failed after a prefix of one of these texts.
 abbrev pub IsCutOf : (List ℕ → Type 0) → Written → Type 0
 IsCutOf IsSo w = (text : List ℕ) × IsSo text × IsCut text w
 
--- the one line that is told in the place of a text
+-- The line that is printed instead of a text.
 abbrev pub IsFaultLine : List ℕ → Type 0
 IsFaultLine text = (text ≡ codes "DISC READ\n") ⊎ ((text ≡ codes "TAPE READ\n") ⊎ ((text ≡ codes "NO FILESTORE\n") ⊎ ((text ≡ codes "NO USER\n") ⊎ (text ≡ codes "NO COPY\n"))))
 
--- A TEXT IS PUT, and that ends with this status where the sink didn't fail
+-- A TEXT IS PRINTED; the status is `due`, unless the sink fails.
 abbrev pub Puts : Status → List ℕ → Status → Written → Type 0
 Puts due text ended w = ((ended ≡ due) × IsWhole text w) ⊎ ((ended ≡ status.OutputFault) × IsCut text w)
 
+-- The look ends with this status, and nothing is printed.
 abbrev pub EndsQuietly : Status → Status → Written → Type 0
 EndsQuietly due ended w = (ended ≡ due) × IsQuiet w
 
--- WHAT IS TOLD OF A FAULT
+-- THE TEXT AND THE STATUS OF A FAULT.
 abbrev pub TellsFault : LookFault → Status → Written → Type 0
 TellsFault fault.DiscUnread ended w = Puts status.Unread (codes "DISC READ\n") ended w
 TellsFault fault.TapeUnread ended w = Puts status.Unread (codes "TAPE READ\n") ended w
@@ -72,7 +73,7 @@ TellsFault fault.NoFile ended w = EndsQuietly status.No ended w
 TellsFault fault.NoCopy ended w = Puts status.No (codes "NO COPY\n") ended w
 TellsFault fault.NoMemory ended w = EndsQuietly status.NoMemory ended w
 
--- the status of a fault where nothing is told of it
+-- The status of a fault for which nothing is printed.
 abbrev pub status_of : LookFault → Status
 status_of fault.DiscUnread = status.Unread
 status_of fault.TapeUnread = status.Unread
@@ -82,56 +83,59 @@ status_of fault.NoFile = status.No
 status_of fault.NoCopy = status.No
 status_of fault.NoMemory = status.NoMemory
 
--- a text, or why there is none
+-- The text, or the fault for which there is none.
 abbrev pub Tells : Result (List ℕ) LookFault → Status → Written → Type 0
 Tells (Ok text) ended w = Puts status.Done text ended w
 Tells (Err why) ended w = TellsFault why ended w
 
--- the bytes of a file, or nothing
+-- The bytes of a file, or nothing.
 abbrev pub TellsBytes : Result (List ℕ) LookFault → Status → Written → Type 0
 TellsBytes (Ok bytes) ended w = Puts status.Done bytes ended w
 TellsBytes (Err why) ended w = EndsQuietly (status_of why) ended w
 
--- the status of a check: what is broken, which dump is missing, and whether the disc holds a filestore
+-- The status of a check: the broken rule, the missing dump, and whether the disc holds a filestore.
 abbrev pub verdict : Option Broken → Option ℕ → Bool → Status
 verdict (Some broken) missing filestore = status.No
 verdict None (Some number) filestore = status.No
 verdict None None true = status.Done
 verdict None None false = status.Nothing
 
+-- The text of a check is printed, with the status of its verdict; or the fault for which there is none.
 abbrev pub TellsCheck : Result Checked LookFault → Status → Written → Type 0
 TellsCheck (Ok c) ended w = Puts (verdict c.verdict.broken c.verdict.missing c.filestore) c.text ended w
 TellsCheck (Err why) ended w = TellsFault why ended w
 
--- the status of a seal: whether the disc holds a filestore
+-- The status of a seal: whether the disc holds a filestore.
 abbrev pub seal_status : Bool → Status
 seal_status true = status.Done
 seal_status false = status.Nothing
 
+-- What is printed of a seal.
 abbrev pub TellsSeal : Result Sealed LookFault → Status → Written → Type 0
 TellsSeal (Ok s) ended w = Puts (seal_status s.filestore) s.text ended w
 TellsSeal (Err why) ended w = TellsFault why ended w
 
--- the status of what a restore would give, with the dump that is missing, or of its refusal
+-- The status of what a restore would give, with the dump that is missing, or of its refusal.
 abbrev pub outcome : Bool → Option ℕ → Status
 outcome true None = status.Done
 outcome true (Some number) = status.No
 outcome false missing = status.No
 
+-- The text of what a restore would give is printed, with its status; or the fault for which there is none.
 abbrev pub TellsGiven : Result Given LookFault → Status → Written → Type 0
 TellsGiven (Ok r) ended w = Puts (outcome r.given r.missing) r.text ended w
 TellsGiven (Err why) ended w = TellsFault why ended w
 
--- the disc stands for a filestore
+-- The disc represents a filestore.
 abbrev pub HoldsOne : Option (List (List ℕ)) → Type 0
 HoldsOne held = (blocks : List (List ℕ)) × (held ≡ Some blocks) × (d : Directory) × StandsFor blocks d
 
--- the text of a check with this verdict on the rules 1 to 12 and on rule 13
+-- The text of a check with this verdict on the rules 1 to 12 and on rule 13.
 abbrev pub IsTextOf : ℕ → Option (List (List ℕ)) → List Reel → Option Broken → Option ℕ → Written → Type 0
 IsTextOf size held reels broken missing w = (text : List ℕ) × IsChecked size held reels broken missing text × IsWhole text w
 
--- THE END OF A CHECK of devices whose content is known: its text is printed, and the status says whether they belong together and no dump is missing, and
--- whether the disc holds a filestore. Or a device, the sink or memory failed; where the sink failed a front of the due text was put.
+-- THE END OF A CHECK of devices that expose their blocks: its text is printed, and the status says whether they belong together and no dump is
+-- missing, and whether the disc holds a filestore. Or a device, the sink or memory failed; if the sink failed, a prefix of the due text was printed.
 abbrev pub EndsCheck : Status → ℕ → Option (List (List ℕ)) → List Reel → Written → Type 0
 EndsCheck status.Done size held reels w = IsTextOf size held reels None None w × HoldsOne held
 EndsCheck status.Nothing size held reels w = IsTextOf size held reels None None w × (HoldsOne held → ⊥)
@@ -142,7 +146,7 @@ EndsCheck status.OutputFault size held reels w = IsCutOf (λ text. ((broken : Op
 EndsCheck status.NoMemory size held reels w = IsQuiet w
 EndsCheck status.Words size held reels w = ⊥
 
--- THE END OF A LOOK AT THE DUMPS, where the reels tell
+-- THE END OF A LOOK AT THE DUMPS, if the reels expose their blocks.
 abbrev pub EndsDumps : Status → (ℕ → List Dump) → List Reel → Written → Type 0
 EndsDumps status.Done shelf reels w = IsWhole (text_of (rack_lines shelf reels)) w
 EndsDumps status.Unread shelf reels w = IsWhole (codes "TAPE READ\n") w
@@ -150,7 +154,7 @@ EndsDumps status.OutputFault shelf reels w = IsCutOf (λ text. (text ≡ text_of
 EndsDumps status.NoMemory shelf reels w = IsQuiet w
 EndsDumps other shelf reels w = ⊥
 
--- THE END OF A LIST of what a disc stands for that tells
+-- THE END OF A LIST of what a disc represents that exposes its blocks.
 abbrev pub EndsList : Status → List (List ℕ) → Option (List ℕ) → Written → Type 0
 EndsList status.Done blocks only w = (text : List ℕ) × IsListed blocks only text × IsWhole text w
 EndsList status.No blocks only w =
@@ -160,11 +164,11 @@ EndsList status.OutputFault blocks only w = IsCutOf (λ text. IsListed blocks on
 EndsList status.NoMemory blocks only w = IsQuiet w
 EndsList other blocks only w = ⊥
 
--- why no bytes are shown: no filestore, no file, or its copy is nowhere
+-- The reason why no bytes are shown: no filestore, no file, or its copy is nowhere.
 abbrev pub HasNoBytes : List (List ℕ) → List Dump → Path → Type 0
 HasNoBytes blocks dumps path = ((d : Directory) → StandsFor blocks d → ⊥) ⊎ (IsNoFile blocks path ⊎ IsLost blocks dumps path)
 
--- THE END OF A LOOK AT A FILE, where disc and reels tell: its bytes are put, and nothing else whatever happens
+-- THE END OF A LOOK AT A FILE, if disc and reels expose their blocks: its bytes are printed, and in no case anything else.
 abbrev pub EndsShow : Status → List (List ℕ) → List Dump → Path → Written → Type 0
 EndsShow status.Done blocks dumps path w = (text : List ℕ) × IsShown blocks dumps path text × IsWhole text w
 EndsShow status.No blocks dumps path w = HasNoBytes blocks dumps path × IsQuiet w
@@ -173,7 +177,7 @@ EndsShow status.OutputFault blocks dumps path w = IsCutOf (IsShown blocks dumps 
 EndsShow status.NoMemory blocks dumps path w = IsQuiet w
 EndsShow other blocks dumps path w = ⊥
 
--- THE END OF A LOOK AT WHAT CAN BE RESTORED from reels whose content is known
+-- THE END OF A LOOK AT WHAT CAN BE RESTORED from reels that expose their blocks.
 abbrev pub EndsGiven : Status → List Dump → Written → Type 0
 EndsGiven status.Done dumps w = (text : List ℕ) × IsRestorable dumps true None text × IsWhole text w
 EndsGiven status.No dumps w =
@@ -183,10 +187,11 @@ EndsGiven status.OutputFault dumps w = IsCutOf (λ text. ((given : Bool) × (mis
 EndsGiven status.NoMemory dumps w = IsQuiet w
 EndsGiven other dumps w = ⊥
 
--- THE END OF A SEAL of devices whose content is known: its text, and the status says whether the disc holds a filestore; or a file has its bytes nowhere
+-- The text of a seal was printed.
 abbrev pub IsSealOf : Option (List (List ℕ)) → List Reel → Written → Type 0
 IsSealOf held reels w = (text : List ℕ) × IsSealed held reels text × IsWhole text w
 
+-- THE END OF A SEAL of devices that expose their contents: its text, and whether the disc holds a filestore; or a file has its bytes nowhere.
 abbrev pub EndsSeal : Status → Option (List (List ℕ)) → List Reel → Written → Type 0
 EndsSeal status.Done held reels w = IsSealOf held reels w × HoldsOne held
 EndsSeal status.Nothing held reels w = IsSealOf held reels w × (HoldsOne held → ⊥)
@@ -196,7 +201,7 @@ EndsSeal status.OutputFault held reels w = IsCutOf (λ text. IsSealed held reels
 EndsSeal status.NoMemory held reels w = IsQuiet w
 EndsSeal status.Words held reels w = ⊥
 
--- A LOOK LEAVES THE DISC as it was, but for the count of failed reads
+-- A LOOK LEAVES THE DISC unchanged, except for the count of failed reads.
 pub record LeavesDisc (before after : DiscState) : Type 0 where
   pub held : after.held ≡ before.held
   pub size : after.size ≡ before.size
@@ -205,7 +210,7 @@ pub record LeavesDisc (before after : DiscState) : Type 0 where
   pub fuse : after.fuse ≡ before.fuse
   pub arms : after.arms ≡ before.arms
 
--- WHAT A LOOK DOES to disc and rack, which ended so: it reads them. Where it says so a block couldn't be read
+-- THE EFFECT OF A LOOK with this status on disc and rack: it reads them. If the status says so, a block couldn't be read.
 pub record Looked (ended : Status) (disc disc_after : DiscState) (rack rack_after : Rack) : Type 0 where
   pub disc_left : LeavesDisc disc disc_after
   pub rack_left : OnlyReads rack rack_after
@@ -213,7 +218,7 @@ pub record Looked (ended : Status) (disc disc_after : DiscState) (rack rack_afte
   pub quiet : (ended ≡ status.Unread → ⊥) → (ended ≡ status.OutputFault → ⊥)
       → (disc_after.read_faults ≡ disc.read_faults) × (rack_after.read_faults ≡ rack.read_faults)
 
--- the sink's fault is told exactly where it failed
+-- The status is OutputFault if and only if the sink failed.
 pub record SinkCause (ended : Status) (w : Written) : Type 0 where
   pub rose : ended ≡ status.OutputFault → Rose w.faults_before w.faults_after
   pub kept : (ended ≡ status.OutputFault → ⊥) → w.faults_after ≡ w.faults_before

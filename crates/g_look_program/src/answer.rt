@@ -1,4 +1,4 @@
-//! What the program does by its words.
+//! The actions of the program, by its words.
 ghost use Rattle.std.specs.Prelude.{◌≡◌, ◌⊎◌, ◌<◌, ℕ, List, Option, All, true};
 ghost use Rattle.std.specs.Option.{ForSome};
 ghost use Rattle.g_name.specs.declared.path.Path.{Path};
@@ -25,16 +25,16 @@ use g_tape::Tapes;
 use std::alloc::Global;
 use std::io::{self, ErrorKind};
 
-/// The exit status where the image or the rack can't be used.
+/// The exit status if the image or the rack can't be used.
 const NO_IMAGE: u8 = 7;
 
-/// The disc's image, in the present folder.
+/// The disc's image, in the working folder.
 const IMAGE: &str = "george.disc";
 
-/// The folder of the reels' images, there too.
+/// The folder of the reels' images, also there.
 const RACK: &str = "george.tapes";
 
-/// Tells what the words ask for, and gives the exit status. The words are looked at before anything is opened.
+/// Prints what the words request, and returns the exit status. The words are checked before any file is opened.
 pub fn answer(rt: &HostRuntime, words: &[&str]) -> u8
     ensures { (AskNothing (texts_of words.now) × IsExit IsOfWords result) ⊎ (result ≡ 7) ⊎ IsExit IsOfLook result }
 {
@@ -45,7 +45,7 @@ pub fn answer(rt: &HostRuntime, words: &[&str]) -> u8
     }
 }
 
-/// Looks at image and rack. 7 where they can't be used.
+/// Looks at image and rack. Returns 7 if they can't be used.
 fn on_files<K: Sink>(rt: &HostRuntime, asked: &Asked, out: &mut K) -> u8
     ensures { (result ≡ 7) ⊎ IsExit IsOfLook result }
 {
@@ -61,7 +61,7 @@ fn on_files<K: Sink>(rt: &HostRuntime, asked: &Asked, out: &mut K) -> u8
     look(rt.alloc(), asked, out, &mut disc, &mut tapes).code()
 }
 
-/// Tells of any disc and rack what is asked for; all reels have to be mounted. Both are only read.
+/// Prints what is requested of any disc and rack; all reels have to be mounted. Both are only read.
 pub fn look<K: Sink, D: Disc, T: Tapes>(
     alloc: Global,
     asked: &Asked,

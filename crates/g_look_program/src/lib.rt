@@ -14,12 +14,12 @@ pub use status::Status;
 use std::process::ExitCode;
 pub use words::{Asked, asked_by};
 
-/// Tells what the words of the command line ask for of the image `george.disc` and the rack `george.tapes` of the present
-/// folder, on standard output. Nothing is made or written; both are locked shared, so that other looks may go and no run.
-/// With other words no file is opened.
+/// Prints what the words of the command line request of the image `george.disc` and the rack `george.tapes` in the working folder, on standard
+/// output. Nothing is created or written; both are locked shared, so other looks may run concurrently, but no run. With other words no file is
+/// opened.
 ///
-/// The exit status is the look's (`Status`); 7 where image or rack isn't there, can't be opened, is a run's or keeps no
-/// disc's or rack's limits (docs/MANUAL.md, "When something looks wrong"); then nothing is printed.
+/// The exit status is the look's (`Status`); it is 7, and nothing is printed, if image or rack doesn't exist, can't be opened, is used by a run or
+/// isn't within the limits of a disc or rack (docs/MANUAL.md, "When something looks wrong").
 pub fn run_program(rt: &HostRuntime) -> ExitCode {
     let Ok(words) = words_of(rt) else {
         return ExitCode::from(Status::NoMemory.code());

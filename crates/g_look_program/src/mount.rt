@@ -1,4 +1,4 @@
-//! The reels of a rack that is looked at.
+//! Mounting the reels of a rack for a look.
 ghost use Rattle.std.specs.Prelude.{◌≡◌, All, IsTrue, is_none, map, true};
 ghost use Rattle.g_shelf.specs.LastDump.{first_unmounted};
 ghost use Rattle.g_tape.specs.Reel.{with_mounted};

@@ -1,14 +1,13 @@
-//! How a look ended.
+//! The end of a look.
 ghost use Rattle.std.specs.Prelude.{◌≡◌};
 ghost use Rattle.g_look_program.specs.Exit.{code_of};
 
 /// The status of a look. Each has a number, the program's exit status.
 #[derive(Clone, Copy, PartialEq, Eq)]
 pub enum Status {
-    /// The text was printed; of a check, that disc and rack belong together, no dump is missing and the disc holds a
-    /// filestore.
+    /// The text was printed; for a check: disc and rack belong together, no dump is missing and the disc holds a filestore.
     Done,
-    /// The answer is no: a rule is broken, no such file or user is there, the rack can't be restored, a dump is missing.
+    /// The answer is no: a rule is broken, there is no such file or user, the rack can't be restored, or a dump is missing.
     No,
     /// The words of the command line aren't known.
     Words,
@@ -18,7 +17,7 @@ pub enum Status {
     OutputFault,
     /// Memory ran out.
     NoMemory,
-    /// Of a check: disc and rack belong together, no dump is missing, and the disc holds no filestore.
+    /// For a check: disc and rack belong together, no dump is missing, and the disc holds no filestore.
     Nothing,
 }
 

@@ -1,4 +1,4 @@
-//! What is printed for an answer, and the status with it.
+//! The text that is printed for a result, and the status.
 ghost use Rattle.std.specs.Prelude.{◌≡◌};
 ghost use Rattle.g_look_program.specs.Telling as told;
 
@@ -8,7 +8,7 @@ use g_look::{Checked, Given, LookFault};
 use g_name::Text;
 use g_seal::Sealed;
 
-/// Tells a check: all of its text, whatever it found.
+/// Prints the text of a check, whatever the check found.
 pub(crate) fn tell_check<K: Sink>(out: &mut K, found: Result<Checked, LookFault>) -> Status
     ensures { told.TellsCheck found result
         (record { before = K.written out.old; after = K.written out.new; faults_before = K.faults out.old; faults_after = K.faults out.new }) }
@@ -55,7 +55,7 @@ fn seal_status(filestore: bool) -> Status
     }
 }
 
-/// Tells what a restore would give, or its refusal.
+/// Prints what a restore would give, or its refusal.
 pub(crate) fn tell_restorable<K: Sink>(out: &mut K, found: Result<Given, LookFault>) -> Status
     ensures { told.TellsGiven found result
         (record { before = K.written out.old; after = K.written out.new; faults_before = K.faults out.old; faults_after = K.faults out.new }) }
@@ -77,7 +77,7 @@ fn outcome(given: &Given) -> Status
     }
 }
 
-/// Tells a text.
+/// Prints a text.
 pub(crate) fn tell<K: Sink>(out: &mut K, found: Result<Text, LookFault>) -> Status
     ensures { told.Tells found result
         (record { before = K.written out.old; after = K.written out.new; faults_before = K.faults out.old; faults_after = K.faults out.new }) }
@@ -88,7 +88,7 @@ pub(crate) fn tell<K: Sink>(out: &mut K, found: Result<Text, LookFault>) -> Stat
     }
 }
 
-/// Tells the bytes of a file, and nothing else whatever happens.
+/// Prints the bytes of a file, and in no case anything else.
 pub(crate) fn tell_bytes<K: Sink>(out: &mut K, found: Result<Text, LookFault>) -> Status
     ensures { told.TellsBytes found result
         (record { before = K.written out.old; after = K.written out.new; faults_before = K.faults out.old; faults_after = K.faults out.new }) }
@@ -99,7 +99,7 @@ pub(crate) fn tell_bytes<K: Sink>(out: &mut K, found: Result<Text, LookFault>) -
     }
 }
 
-/// Prints why there is no other text.
+/// Prints why there is no text.
 fn tell_fault<K: Sink>(out: &mut K, fault: LookFault) -> Status
     ensures { told.TellsFault fault result
         (record { before = K.written out.old; after = K.written out.new; faults_before = K.faults out.old; faults_after = K.faults out.new }) }

@@ -4,7 +4,7 @@ ghost use Rattle.g_look_program.specs.Words.{AskNothing, IsAsked, texts_of, word
 
 use g_name::{Path, User, parse_path};
 
-/// What is asked for.
+/// What is requested.
 #[derive(Drop)]
 pub enum Asked {
     /// Whether disc and rack belong together.
@@ -21,7 +21,7 @@ pub enum Asked {
     Seal,
 }
 
-/// What the words ask for: `check`, `dumps`, `list`, `list :USER`, `show PATH`, `restorable` or `seal`. All else asks for nothing.
+/// What the words request: `check`, `dumps`, `list`, `list :USER`, `show PATH`, `restorable` or `seal`. Any other words request nothing.
 pub fn asked_by(words: &[&str]) -> Option<Asked>
     ensures { MatchOption result (AskNothing (texts_of words.now)) (λ asked. IsAsked asked × (texts_of words.now ≡ words_of asked)) }
 {
@@ -32,7 +32,7 @@ pub fn asked_by(words: &[&str]) -> Option<Asked>
     }
 }
 
-/// What one word asks for.
+/// What one word requests.
 fn asked_alone(word: &str) -> Option<Asked>
     ensures { MatchOption result (AskNothing (word.now ∷ [])) (λ asked. IsAsked asked × ((word.now ∷ []) ≡ words_of asked)) }
 {
@@ -54,7 +54,7 @@ fn asked_alone(word: &str) -> Option<Asked>
     None
 }
 
-/// What a word and a name ask for.
+/// What a word and a name request.
 fn asked_of(word: &str, of: &str) -> Option<Asked>
     ensures { MatchOption result (AskNothing (word.now ∷ of.now ∷ [])) (λ asked. IsAsked asked × ((word.now ∷ of.now ∷ []) ≡ words_of asked)) }
 {

@@ -1,4 +1,5 @@
--- The front of a text, byte after byte, and a line with its parameters put in, piece after piece.
+-- The first 240 bytes of a text, built byte by byte, and a line with its parameters substituted piece by piece.
+-- serves: expand, fill (filled), fill_in, push, set, HoldingLemmas
 use Rattle.std.proofs.Common.{Bool, List, [], ap, append_assoc, arith, drop, drop-drop, eq-eqb, false, get_or, le-ltb, leb-true, length, length-append, length-drop, length-take, lt-ltb, nat_le, nat_lt, ne_eqb, refl, subst, sym, take, take-add, take_all, true, ℕ, ◌++◌, ◌+◌, ◌-◌, ◌<◌, ◌==◌, ◌||◌, ◌∙◌, ◌∷◌, ◌≡◌, ◌≤◌}
 use Rattle.std.proofs.lemmas.Bool.{and_from, and_left, and_parts, and_right, cond_both, or_from, or_parts, or_right}
 use Rattle.std.proofs.lemmas.List.{take-append-le}
@@ -11,7 +12,7 @@ use Rattle.g_macro.specs.Fronts.{Holds, IsFilled}
 use Rattle.g_macro.specs.declared.expansion.Filled.{Filled}
 use Rattle.g_macro.specs.declared.expansion.Front.{Front}
 
--- the front is full: what comes is cut off
+-- the buffer is full: the next byte is cut off
 pub push-cut : (text : List ℕ) (byte : ℕ) (items : List ℕ) → items ≡ take 240 text → length items ≡ 240
     → (items ≡ take 240 (text ++ byte ∷ [])) × (true ≡ nat_lt 240 (length (text ++ byte ∷ [])))
 push-cut text byte items same full =
@@ -19,7 +20,7 @@ push-cut text byte items same full =
     let longer : 240 < length (text ++ byte ∷ []) = omega (arith, long, length-append text (byte ∷ [])) in
     (same ∙ sym (take-append-le 240 text (byte ∷ []) long), sym (lt-ltb 240 (length (text ++ byte ∷ [])) longer))
 
--- the front has room
+-- the buffer has room
 pub push-more : (text : List ℕ) (byte : ℕ) (items new : List ℕ) (cut : Bool) → items ≡ take 240 text → cut ≡ nat_lt 240 (length text) → length items < 240 → new ≡ items ++ byte ∷ []
     → (new ≡ take 240 (text ++ byte ∷ [])) × (cut ≡ nat_lt 240 (length (text ++ byte ∷ [])))
 push-more text byte items new cut same is room pushed =
@@ -30,7 +31,7 @@ push-more text byte items new cut same is room pushed =
       is ∙ le-ltb 240 (length text) (omega (arith, short)) ∙ sym (le-ltb 240 (length (text ++ byte ∷ [])) fits),
     )
 
--- one piece of a line and then the others
+-- the first piece of a line and the rest
 pub expand-first : (params : List (List ℕ)) (done rest : List ℕ) → 1 ≤ length rest
     → expand params done rest ≡ first_filled params done rest ++ expand params (done ++ take (first_taken rest) rest) (drop (first_taken rest) rest)
 expand-first params done [] some = absurd (omega (arith, some))
@@ -46,7 +47,7 @@ first-within [] some = absurd (omega (arith, some))
 first-within (c ∷ []) some = omega arith
 first-within (c ∷ d ∷ rest) some = cond_both (is_filled c d) 2 1 (λ (n : ℕ). n ≤ length (c ∷ d ∷ rest)) (λ _. omega arith) (λ _. omega arith)
 
--- what the loop over a line keeps
+-- the invariant of the loop over a line
 pub record UpTo (params : List (List ℕ)) (line : List ℕ) (at : ℕ) (front : Front) : Type 0 where
   pub text : List ℕ
   pub is : Holds text front
@@ -73,7 +74,7 @@ up_to-more params line at n old new here inside is fills =
       within = let w = first-within rest some in omega (arith, w, is, inside, length-drop at line);
     }
 
--- which piece stands at the front
+-- the first piece of the rest
 pub single-last : (params : List (List ℕ)) (done rest : List ℕ) → 1 ≤ length rest → length rest < 2 → first_filled params done rest ≡ get_or rest 0 0 ∷ []
 single-last params done [] some short = absurd (omega (arith, some))
 single-last params done (c ∷ []) some short = refl
@@ -115,7 +116,7 @@ letter-inside letter count is all =
     let high : letter ≤ 88 = leb-true letter 88 (and_parts (nat_le 65 letter) (nat_le letter 88) is).1 in
     omega (arith, high, all)
 
--- a line without `%` stays as it is
+-- a line without `%` is unchanged
 pub expand-plain : (params : List (List ℕ)) (done line : List ℕ) → list_any (λ (c : ℕ). c == 37) line ≡ false → expand params done line ≡ line
 expand-plain params done [] none = refl
 expand-plain params done (c ∷ []) none = refl

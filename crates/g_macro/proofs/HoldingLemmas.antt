@@ -1,4 +1,5 @@
--- A document that is held open: it is the last of the levels, which the code keeps first.
+-- A document that is held open: the last of the levels, which is the first in the code's list.
+-- serves: add_line, is_input, is_ready, is_ready_with, is_some_ready, ready_with, crates above
 use Rattle.std.proofs.Common.{Bool, List, [], ap, arith, drop, drop_of_length-le, false, get_or, if◌then◌else◌, le-leb, le-ltb, length, length-append, lt-ltb, not, None, Option, Some, refl, reverse, set, slice_get, subst, sym, take_all, true, ℕ, ⊎_elim, ◌&&◌, ◌||◌, ◌++◌, ◌+◌, ◌<◌, ◌∙◌, ◌∷◌, ◌≡◌, ◌≤◌, ◌==◌}
 use Rattle.std.proofs.Math.ListN.{get_or-append}
 use Rattle.std.proofs.Math.Seq.{get_or-append_seam}
@@ -53,7 +54,7 @@ ready_last document above =
     ap some_ready (reverse-append (document ∷ []) above) ∙ some_ready-last (reverse above) document
     ∙ ap (λ (b : Bool). b || line_ready document) (sym (list_any-IsPermutation has_line above (reverse above) (IsPermutation-reverse above)))
 
--- whether a line takes a document, by the front that the code keeps of it
+-- whether a line takes a document, by the first bytes that the code stores of it
 pub input_front : (text : List ℕ) (front : Front) → Holds text front → takes_input (as_taken text) ≡ (not front.is_cut && is_input_said (reading front.bytes.items))
 input_front text front holds =
     ⊎_elim
@@ -71,20 +72,20 @@ input_front text front holds =
 pub input_plain : (text : List ℕ) → length text ≤ 240 → takes_input (as_taken text) ≡ is_input_said (reading text)
 input_plain text short = let fits : nat_le (length text) 240 ≡ true = le-leb (length text) 240 short in rw fits refl
 
--- the lines behind the next one
+-- the lines after the next one
 pub closed_left : (level : Level) (left : List ℕ) → lines_of left ≡ lines_left level → list_any is_closing (drop 1 (lines_of left)) ≡ is_closed level
 closed_left level left is = ap (λ (ls : List (List ℕ)). list_any is_closing (drop 1 ls)) is ∙ ap (list_any is_closing) (drop-drop 1 level.taken level.lines)
 
--- a line without `%` stays as it is
+-- a line without `%` is unchanged
 pub input_unfilled : (params : List (List ℕ)) (line : List ℕ) → length line ≤ 240 → list_any (λ (c : ℕ). c == 37) line ≡ false → takes_input (as_taken (substituted params line)) ≡ is_input_said (reading line)
 input_unfilled params line short none = ap (λ (text : List ℕ). takes_input (as_taken text)) (expand-plain params [] line none) ∙ input_plain line short
 
--- a level with a line left is ready by that line
+-- a level with a line left is ready if that line allows it
 pub ready_by : (level : Level) (input closed : Bool) → has_line level ≡ true → input ≡ takes_input (as_taken (substituted level.params (line_at level))) → closed ≡ is_closed level
     → (not input || closed) ≡ line_ready level
 ready_by level input closed has takes closes = rw (has, takes, closes) refl
 
--- A LINE BEHIND THE OTHERS: the next line is the same one, where there was one, and else this
+-- A LINE AT THE END: the next line is unchanged if there was one, otherwise it is the new line
 more_lines : (level : Level) (line : List ℕ) → level.taken ≤ length level.lines → has_line (line_added line level) ≡ true
 more_lines level line within = let more = length-append level.lines (line ∷ []) in lt-ltb level.taken (length (level.lines ++ line ∷ [])) (omega (arith, within, more))
 
@@ -120,7 +121,7 @@ more_ready level line has =
     sym (ready_by (line_added line level) (input_next level) (is_closed level || is_closing line) (more_lines level line (omega (arith, less)))
     (ap (λ (text : List ℕ). takes_input (as_taken (substituted level.params text))) (sym next)) (sym closes))
 
--- what was ready stays so
+-- a level that was ready remains ready
 stays_by : (input closed closing : Bool) → (not input || closed) ≡ true → (not input || (closed || closing)) ≡ true
 stays_by true true closing ready = refl
 stays_by true false closing ready = absurd (false≢true ready)
@@ -161,7 +162,7 @@ are_ready_stays line s ready = by s.held ready
     by true is = some_stays line s.levels is
     by false is = refl
 
--- levels that aren't ready are so by their document alone
+-- levels that aren't ready depend only on their document
 neither_of : (a b : Bool) → (a || b) ≡ false → (a ≡ false) × (b ≡ false)
 neither_of true b is = absurd (false≢true (sym is))
 neither_of false b is = (refl, is)

@@ -1,4 +1,5 @@
--- Where the line with a label stands, line by line.
+-- The search for the line with a label, line by line.
+-- serves: place_of_label
 use Rattle.std.proofs.Common.{List, ap, arith, drop, false, length, option_map, sym, take, ℕ, ◌+◌, ◌<◌, ◌∙◌, ◌∷◌, ◌≡◌, ◌≤◌}
 use Rattle.std.proofs.lemmas.List.{length-drop}
 use Rattle.g_lang.specs.Words.{has_label}
@@ -9,7 +10,7 @@ use Rattle.g_lines.specs.Lines.{lines_of, text_of}
 use Rattle.g_macro.proofs.PlaceLemmas.{label-next}
 use Rattle.g_macro.specs.Levels.{line_of_label}
 
--- so many lines were looked at, which have so many bytes, and none of them has the label
+-- `count` lines were checked, which have `bytes` bytes, and none of them has the label
 pub record IsLabelSoFar (label : List ℕ) (all rest : List (List ℕ)) (count bytes : ℕ) : Type 0 where
   pub behind : rest ≡ drop count all
   pub before : line_of_label label all ≡ option_map (λ n. count + n) (line_of_label label rest)

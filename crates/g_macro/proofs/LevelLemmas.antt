@@ -1,4 +1,5 @@
--- What a call of one level leaves.
+-- The result of a call on one level.
+-- serves: keep
 use Rattle.std.proofs.Common.{IfSome, List, None, Option, Some, [], ap, arith, cond, false, get_or, le-leb, length, nat_le, not, option_map, refl, set, suc, sym, true, zero, ℕ, ◌++◌, ◌+◌, ◌<◌, ◌∙◌, ◌∷◌, ◌≡◌, ◌≤◌}
 use Rattle.std.proofs.lemmas.Bool.{and_from, and_left, and_right, cond_both, lt-leb, not_from_false, not_from_true, or_from, or_left, or_right}
 use Rattle.g_lang.specs.Conditions.{same_cond}
@@ -42,7 +43,7 @@ kept-none cond command (entry ∷ entries) at =
     no_more None is = refl
     no_more (Some m) is = absurd cc
 
--- what is kept where the place is known
+-- what is stored if the place is known
 abbrev Kept : Cond → List ℕ → List Entry → ℕ → Entry → Type 0
 Kept cond command entries n old = (has_cond cond entries ≡ true) × (with_entry cond command entries ≡ with_command entries n command old)
 

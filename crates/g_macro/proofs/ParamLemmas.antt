@@ -1,4 +1,5 @@
--- The 24 parameters of a level, of which those behind the last that was given are empty.
+-- The 24 parameters of a level; those after the given ones are empty.
+-- serves: fill_up, get, set
 use Rattle.std.proofs.Common.{List, [], ap, append_assoc, arith, length, length-append, length-set, refl, replicate, set, suc, sym, zero, ℕ, ◌++◌, ◌+◌, ◌-◌, ◌<◌, ◌∙◌, ◌∷◌, ◌≡◌, ◌≤◌}
 use Rattle.std.proofs.lemmas.List.{append-nil, length-replicate}
 use Rattle.std.specs.Prelude.{slice_index_or}
@@ -7,7 +8,7 @@ use Rattle.g_macro.specs.Levels.{padded}
 abbrev none : List ℕ
 none = []
 
--- empty parameters behind the others
+-- empty parameters after the others
 pub fill-step : (all : List (List ℕ)) (n : ℕ) → n < 24 → (all ++ [] ∷ []) ++ replicate (24 - (n + 1)) [] ≡ all ++ replicate (24 - n) []
 fill-step all n more =
     let e : 24 - n ≡ suc (24 - (n + 1)) = omega (arith, more) in
@@ -18,7 +19,7 @@ pub padded_long : (params : List (List ℕ)) → length params ≤ 24 → length
 padded_long params few =
     omega (arith, few, length-append params (replicate (24 - length params) none), length-replicate (24 - length params) none)
 
--- the empty ones don't show
+-- the empty ones aren't observable
 empty_at : (n i : ℕ) → slice_index_or (replicate n none) i none ≡ none
 empty_at zero i = refl
 empty_at (suc n) zero = refl

@@ -1,4 +1,5 @@
--- Loops that look for a line or an entry.
+-- Loops that search a line or an entry.
+-- serves: pass_line, take_document (text), LabelLemmas, SpanLemmas
 use Rattle.std.proofs.Common.{List, None, Option, Some, [], ap, append_assoc, arith, drop, false, get_or, length, option_map, refl, sym, take, true, ℕ, ◌++◌, ◌+◌, ◌<◌, ◌∙◌, ◌∷◌, ◌≡◌, ◌≤◌}
 use Rattle.std.proofs.lemmas.Bool.{cond_both}
 use Rattle.std.proofs.lemmas.List.{drop_more, length-append, take_at}
@@ -30,7 +31,7 @@ close-stop all left more line i so_far is closing =
     let here : before_closing left ≡ [] = ap before_closing is ∙ rw closing refl in
     omega (arith, so_far, ap (λ (ls : List (List ℕ)). length (text_of ls)) here)
 
--- what stands before `////` is at the front
+-- the lines before `////` are a prefix
 before_in : (lines : List (List ℕ)) → (rest : List ℕ) × (text_of lines ≡ text_of (before_closing lines) ++ rest)
 before_in [] = ([], refl)
 before_in (line ∷ lines) =
@@ -57,14 +58,14 @@ pub document-inside : (left : List ℕ) (lines : List (List ℕ)) (place : ℕ) 
 document-inside left lines place whole same is =
     omega (arith, is, ap (λ (ls : List (List ℕ)). length (text_of (before_closing ls))) same, ap length whole, before-short lines)
 
--- lines passed by
+-- lines that are passed
 pub passed-within : (lines : List (List ℕ)) → passed lines ≤ length lines
 passed-within [] = omega arith
 passed-within (line ∷ lines) =
     let within = passed-within lines in
     cond_both (is_closing line) 1 (1 + passed lines) (λ (n : ℕ). n ≤ length (line ∷ lines)) (λ _. omega arith) (λ _. omega (arith, within))
 
--- the next of the lines that are left, and how many bytes it has with its byte 10
+-- the next of the lines that are left, and its length in bytes with its byte 10
 pub one-left : (lines : List (List ℕ)) (taken : ℕ) → taken < length lines → (1 ≤ length (drop taken lines)) × (length (get_or lines taken []) + 1 ≡ length (text_of (take 1 (drop taken lines))))
 one-left lines taken inside =
     let line = get_or lines taken [] in

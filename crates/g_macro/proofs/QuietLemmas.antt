@@ -1,4 +1,5 @@
--- Levels in which no command waits.
+-- Levels without a waiting command.
+-- serves: have_entries
 use Rattle.std.proofs.Common.{Bool, List, None, Option, Some, [], ap, arith, false, find, length, ne_eqb, not, refl, reverse, sym, true, ℕ, ◌++◌, ◌==◌, ◌||◌, ◌∙◌, ◌∷◌, ◌≡◌}
 use Rattle.std.proofs.lemmas.Bool.{false≢true}
 use Rattle.std.proofs.lemmas.List.{reverse-append}
@@ -25,7 +26,7 @@ module _ (outcome : Outcome) where
   by_none level below more None rest none = rest none
   by_none level below more (Some entry) rest none = absurd cc
 
-  -- behind levels in which none fires
+  -- if no entry of these levels fires, the levels below decide
   fired_behind : (above more : List Level) → fired outcome above ≡ None → fired outcome (above ++ more) ≡ fired outcome more
   fired_behind [] more none = refl
   fired_behind (level ∷ above) more none = by_none level above more (entry_that_holds level outcome) (fired_behind above more) none

@@ -1,4 +1,5 @@
--- How far a document goes, line by line.
+-- The extent of a document, line by line.
+-- serves: span_of
 use Rattle.std.proofs.Common.{List, ap, arith, drop, false, length, refl, sym, take, true, ℕ, ◌+◌, ◌<◌, ◌∙◌, ◌∷◌, ◌≡◌, ◌≤◌}
 use Rattle.std.proofs.lemmas.List.{length-drop}
 use Rattle.g_lines.proofs.CursorLemmas.{bytes_next, bytes_within}
@@ -9,7 +10,7 @@ use Rattle.g_macro.proofs.PlaceLemmas.{close-next, close-stop}
 use Rattle.g_macro.specs.Levels.{before_closing, is_closing, passed}
 use Rattle.g_macro.specs.Spans.{IsSpan}
 
--- so many lines were looked at, which have so many bytes, and none of them is `////`
+-- `count` lines were checked, whose text has `document` bytes, and none of them is `////`
 pub record IsSpanSoFar (all rest : List (List ℕ)) (count document : ℕ) : Type 0 where
   pub behind : rest ≡ drop count all
   pub before : document + length (text_of (before_closing rest)) ≡ length (text_of (before_closing all))

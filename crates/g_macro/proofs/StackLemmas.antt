@@ -1,4 +1,5 @@
--- The levels as the code keeps them, the current one last.
+-- The levels in the code's order, the current one last.
+-- serves: document, goto, next_line, set_param, whenever, FrontLemmas
 use Rattle.std.proofs.Common.{Bool, Err, IfOk, IsSome, List, Ok, Option, Result, Some, [], ap, arith, cond, false, get_or, inl, inr, le-leb, le-ltb, length, length-set, length-take-le, lives, lt-ltb, refl, reverse, set, subst, sym, take, take-take, take_all, true, ℕ, ⊎_elim, ◌++◌, ◌+◌, ◌-◌, ◌<◌, ◌∙◌, ◌∷◌, ◌≡◌, ◌≤◌, ◌⊎◌}
 use Rattle.std.proofs.Math.Seq.{take-length}
 use Rattle.std.proofs.lemmas.Bool.{cases_lt, lt-leb}
@@ -50,7 +51,7 @@ pub top-place : (items : List Level) (held : Bool) (count : ℕ) (now : Stack) �
 top-place items held count now was is some =
     omega (arith, is, some, length-reverse items, ap (λ (s : Stack). length s.levels) was)
 
--- a level that was left as it was
+-- a level that is unchanged
 changed-none : (levels : List Level) → changed (λ level. level) levels ≡ levels
 changed-none [] = refl
 changed-none (level ∷ below) = refl
@@ -61,7 +62,7 @@ top-same items held n old new now was last is same =
     top-changed items held n old new (λ level. level) now was last is same
     ∙ ap (λ (ls : List Level). let s : Stack = record { levels = ls; held = now.held } in s) (changed-none now.levels)
 
--- what a call of the current level comes to
+-- the result of a call on the current level
 pub keeps-top : (items : List Level) (held : Bool) (n : ℕ) (old new : Level) (cond : Cond) (command : List ℕ) (now : Stack) (r : Result (Unit {0}) MacroFault)
     → record { levels = reverse items; held = held } ≡ now → n + 1 ≡ length items → old ≡ get_or items n old → KeepsIn cond command old new r
     → Keeps cond command now (record { levels = reverse (set items n new); held = held }) r
@@ -110,7 +111,7 @@ line-next items held n old new filled now was some within lives is line same hol
     ap next_line (sym was) ∙ ap (take_line held) (lives ∙ cut)
     ∙ rw (line, stays, taken_as (substituted old.params (line_at old)) filled holds) refl
 
--- a macro's level is put on top
+-- a macro's level is pushed
 pub pushed : (items : List Level) (level : Level) → reverse (items ++ level ∷ []) ≡ level ∷ reverse items
 pushed items level = reverse-append items (level ∷ [])
 

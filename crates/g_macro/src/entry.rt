@@ -2,7 +2,7 @@
 use g_lang::Cond;
 use g_name::Text;
 
-/// A WHENEVER that a level keeps: the command is done whenever the condition holds behind a command.
+/// A WHENEVER stored in a level: the command is executed whenever the condition holds after a command.
 #[derive(Drop)]
 pub struct Entry {
     pub cond: Cond,

@@ -1,4 +1,4 @@
-//! Parameters put into a line.
+//! Parameters substituted into a line.
 ghost use Rattle.std.specs.Prelude.{◌≡◌, ◌++◌, ◌∷◌, ◌≤◌, [], ℕ, List, length, IfOk};
 ghost use Rattle.g_macro.specs.Expansion as expansion;
 ghost use Rattle.g_macro.specs.Fronts.{Holds, IsFilled};
@@ -11,17 +11,17 @@ use g_base::NoMemory;
 use g_lang::{is_input_line, is_param_letter};
 use g_name::Text;
 
-/// The most bytes of a line.
+/// The maximum length of a line in bytes.
 const MOST: usize = 240;
 
-/// A line once the parameters are put in: its first bytes, up to 240, and whether it is longer.
+/// A line after substitution: its first bytes, up to 240, and whether it is longer.
 #[derive(Drop)]
 pub(crate) struct Filled {
     pub text: Text,
     pub is_cut: bool,
 }
 
-/// The front of a text, up to 240 bytes, and whether the text is longer.
+/// The first bytes of a text, up to 240, and whether the text is longer.
 #[derive(Drop)]
 pub(crate) struct Front {
     pub bytes: ArrayVec<u8, 240>,
@@ -57,8 +57,7 @@ impl Front {
     }
 }
 
-/// A line once the parameters are put in, in the room of a text whose own bytes are dropped. One that has no `%` is copied
-/// as it stands.
+/// A line after substitution, in the memory of a text whose own bytes are dropped. A line without `%` is copied unchanged.
 pub(crate) fn fill_in(room: Text, params: &Params, line: &[u8]) -> Result<Filled, NoMemory>
     ensures { IfOk result (IsFilled (expansion.substituted params.now line.now)) }
 {
@@ -72,7 +71,7 @@ pub(crate) fn fill_in(room: Text, params: &Params, line: &[u8]) -> Result<Filled
     expanded(room, params, line)
 }
 
-/// The same by way of a front. That is large, so a line that has no `%` doesn't make one.
+/// The same by way of a `Front`. That is large, so a line without `%` avoids it.
 fn expanded(room: Text, params: &Params, line: &[u8]) -> Result<Filled, NoMemory>
     ensures { IfOk result (IsFilled (expansion.substituted params.now line.now)) }
 {
@@ -84,7 +83,7 @@ fn expanded(room: Text, params: &Params, line: &[u8]) -> Result<Filled, NoMemory
     })
 }
 
-/// These bytes in the room of a text, whose own are dropped.
+/// These bytes in the memory of a text, whose own are dropped.
 fn refilled(room: Text, bytes: &[u8]) -> Result<Text, NoMemory>
     ensures { IfOk result (λ text. text ≡ bytes.now) }
 {
@@ -94,8 +93,7 @@ fn refilled(room: Text, bytes: &[u8]) -> Result<Text, NoMemory>
     Ok(Text::from(all))
 }
 
-/// Whether the verb of a line is INPUT once the parameters are put in; a line that is longer than 240 bytes then is none.
-/// It takes no memory.
+/// Whether the verb of a line is INPUT after substitution; a line that is then longer than 240 bytes is no INPUT. Allocates nothing.
 pub(crate) fn is_input(params: &Params, line: &[u8]) -> bool
     ensures { result ≡ takes_input (as_taken (expansion.substituted params.now line.now)) }
 {
@@ -106,7 +104,7 @@ pub(crate) fn is_input(params: &Params, line: &[u8]) -> bool
     !front.is_cut && is_input_line(front.bytes.as_slice())
 }
 
-/// The front of a line once the parameters are put in. It takes no memory.
+/// The first bytes of a line after substitution. Allocates nothing.
 fn expand(params: &Params, line: &[u8]) -> Front
     ensures { Holds (expansion.substituted params.now line.now) result }
 {
@@ -119,7 +117,7 @@ fn expand(params: &Params, line: &[u8]) -> Front
     front
 }
 
-/// Puts what stands at the front of the rest of a line behind the others, and tells how many bytes of the line it was.
+/// Appends the first piece of the rest of a line after substitution, and returns its length in the line.
 fn fill(front: &mut Front, params: &Params, done: &[u8], rest: &[u8]) -> usize
     requires some { 1 ≤ length rest.now }
     ensures some { 1 ≤ result }
@@ -151,7 +149,7 @@ fn fill(front: &mut Front, params: &Params, done: &[u8], rest: &[u8]) -> usize
     2
 }
 
-/// Whether a condition asks here for a parameter by its name.
+/// Whether a condition names a parameter here.
 fn is_asked(done: &[u8]) -> bool
     ensures { result ≡ expansion.is_asked done.now }
 {

@@ -1,4 +1,4 @@
-//! Why a call of the levels is refused.
+//! The refusals of calls on the levels.
 ghost use Rattle.std.specs.Prelude.{◌≡◌};
 ghost use Rattle.g_macro.specs.declared.fault.MacroFault.TheVariants.{NoMemory};
 
@@ -7,7 +7,7 @@ use g_name::Text;
 use std::alloc::AllocFailed;
 use thiserror::Error;
 
-/// Why a call of the levels is refused. After each of them but `TooLong` the levels are as before.
+/// Why a call on the levels is refused. After each of them but `TooLong` the levels are unchanged.
 #[derive(Debug, Drop, Error)]
 pub enum MacroFault {
     /// There are 8 levels already.
@@ -16,14 +16,13 @@ pub enum MacroFault {
     /// No line of the current level has the label.
     #[error("no line has the label")]
     NoLabel,
-    /// The current level keeps 16 commands already.
+    /// The current level has 16 waiting commands already.
     #[error("sixteen commands are the most")]
     WheneversFull,
-    /// The line is above 240 bytes once the parameters are put in. These are its first 240 bytes; the line counts
-    /// as taken.
+    /// The line is longer than 240 bytes after substitution. These are its first 240 bytes; the line counts as taken.
     #[error("the line is too long")]
     TooLong(Text),
-    /// The memory was refused; the call would have been granted.
+    /// Memory ran out; the call would have been granted.
     #[error("out of memory")]
     NoMemory,
 }

@@ -56,7 +56,7 @@ impl Model for Level {
 }
 
 impl Level {
-    /// A level of which no line was taken, with these parameters; the others are empty.
+    /// A level with these parameters, the others empty; none of its lines was taken.
     pub fn new(alloc: Global, lines: Document, params: Texts) -> Result<Level, NoMemory>
         requires { length params ≤ 24 }
         ensures { IfOk result (λ level. level ≡ levels.level_of lines params) }
@@ -76,7 +76,7 @@ impl Level {
         self.cursor.has_line()
     }
 
-    /// The next line, as it stands.
+    /// The next line, before substitution.
     pub fn line(&self) -> &[u8]
         requires { levels.has_line self.now ≡ true }
         ensures { result.now ≡ levels.line_at self.now }
@@ -84,14 +84,14 @@ impl Level {
         self.cursor.line()
     }
 
-    /// A line, with the parameters put in, in the room of this text.
+    /// A line after substitution, in the memory of this text.
     pub fn filled(&self, room: Text, line: &[u8]) -> Result<Filled, NoMemory>
         ensures { IfOk result (IsFilled (substituted self.now.params line.now)) }
     {
         fill_in(room, &self.params, line)
     }
 
-    /// Counts the next line as taken, which has so many bytes with its byte 10.
+    /// Takes the next line, which has this many bytes with its byte 10.
     pub fn pass_line(&mut self, bytes: usize)
         requires line { levels.has_line self.old ≡ true }
         requires bytes { bytes ≡ length (levels.line_at self.old) + 1 }
@@ -100,8 +100,7 @@ impl Level {
         self.cursor.pass(1, bytes);
     }
 
-    /// Takes the lines up to `////`, which is taken too, or to the end, and gives those in front of it, each with its byte
-    /// 10. Without memory nothing changes.
+    /// Takes the lines up to and including `////`, or to the end, and returns those before it, each with its byte 10. Without memory nothing changes.
     pub fn take_document(&mut self, alloc: Global) -> Result<Text, NoMemory>
         ensures text { IfOk result (λ text. text ≡ text_of (levels.before_closing (levels.lines_left self.old))) }
         ensures ok { OnOk result (self.new ≡ levels.past_document self.old) }
@@ -114,7 +113,7 @@ impl Level {
         Ok(text)
     }
 
-    /// Where the first line stands that has this label.
+    /// The place of the first line that has this label.
     pub fn line_of(&self, label: &Label) -> Option<LinePlace>
         ensures { MatchOption result (levels.line_of_label label.now self.now.lines ≡ None)
             (λ place. IsLinePlace label.now self.now.lines place) }
@@ -122,7 +121,7 @@ impl Level {
         place_of_label(self.cursor.all(), label)
     }
 
-    /// Goes on at this line.
+    /// Continues at this line.
     pub fn go_to(&mut self, place: LinePlace)
         requires within { place.lines < length self.old.lines }
         requires bytes { place.bytes ≡ length (text_of (take place.lines self.old.lines)) }
@@ -131,7 +130,7 @@ impl Level {
         self.cursor.go_to(place.lines, place.bytes);
     }
 
-    /// Puts a line behind the others; without memory nothing changes.
+    /// Appends a line; without memory nothing changes.
     pub fn add_line(&mut self, line: Text) -> Result<(), NoMemory>
         requires { IsOneLine line }
         ensures ok { OnOk result (self.new ≡ holding.line_added line self.old) }
@@ -140,8 +139,8 @@ impl Level {
         self.cursor.add_line(line)
     }
 
-    /// Whether the next line may be taken while lines may still come: one is left, and it is no INPUT, or its document
-    /// ends with `////`. It takes no memory.
+    /// Whether the next line may be taken while more lines may be typed: one is left, and it is no INPUT, or its document ends with `////`. Allocates
+    /// nothing.
     pub fn is_ready(&self) -> bool
         ensures { result ≡ holding.line_ready self.now }
     {
@@ -151,8 +150,8 @@ impl Level {
         !is_input(&self.params, self.cursor.line()) || is_closed(self.cursor.left())
     }
 
-    /// Whether a level that isn't ready is so with this line behind the others: it has no line left, and this one is no
-    /// INPUT; or its INPUT lacks a `////`, and this is one. No other line is looked at.
+    /// Whether a level that isn't ready becomes ready if this line is appended: it has no line left, and this one is no INPUT; or its INPUT has no
+    /// `////` yet, and this line is one. Checks no other line.
     pub fn is_ready_with(&self, line: &[u8]) -> bool
         requires { holding.line_ready self.now ≡ false }
         ensures { result ≡ holding.line_ready (holding.line_added line.now self.now) }
@@ -163,7 +162,7 @@ impl Level {
         !is_input(&self.params, line)
     }
 
-    /// Lets a command wait for a condition.
+    /// Stores a command that waits for a condition.
     pub fn keep(&mut self, cond: Cond, command: Text) -> Result<(), MacroFault>
         requires { IsCommandText command }
         ensures { KeepsIn cond command self.old self.new result }
@@ -217,25 +216,25 @@ impl Level {
     }
 }
 
-/// How far a document goes.
+/// The extent of a document.
 #[derive(Clone, Copy)]
 pub(crate) struct Span {
-    /// How many bytes its lines have, with their bytes 10.
+    /// The length of its lines in bytes, with their bytes 10.
     pub(crate) document: usize,
-    /// How many lines are taken for it, `////` with them.
+    /// The number of lines taken for it, including `////`.
     pub(crate) lines: usize,
-    /// How many bytes these have.
+    /// The length of these lines in bytes.
     pub(crate) bytes: usize,
 }
 
-/// Where a line stands: how many lines are before it, and how many bytes these have, with their bytes 10.
+/// The place of a line: how many lines precede it, and how many bytes these have, with their bytes 10.
 #[derive(Clone, Copy)]
 pub(crate) struct LinePlace {
     pub lines: usize,
     pub bytes: usize,
 }
 
-/// Whether `////` stands behind the first of these lines.
+/// Whether a line after the first of these is `////`.
 fn is_closed(left: &[u8]) -> bool
     ensures { result ≡ list_any levels.is_closing (drop 1 (lines_of left.now)) }
 {
@@ -249,7 +248,7 @@ fn is_closed(left: &[u8]) -> bool
     false
 }
 
-/// How far the document goes that begins with these lines: to the first `////`, or to their end.
+/// The extent of the document that begins with these lines: to the first `////`, or to their end.
 fn span_of(left: &[u8]) -> Span
     requires { IsWhole left.now }
     ensures { IsSpan (lines_of left.now) result }
@@ -275,7 +274,7 @@ fn span_of(left: &[u8]) -> Span
     }
 }
 
-/// Where the first of these lines stands that has this label.
+/// The place of the first of these lines that has this label.
 fn place_of_label(text: &[u8], label: &Label) -> Option<LinePlace>
     requires { IsWhole text.now }
     ensures { MatchOption result (levels.line_of_label label.now (lines_of text.now) ≡ None)

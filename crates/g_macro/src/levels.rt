@@ -21,8 +21,8 @@ use std::marker::Model;
 /// How many levels there may be.
 const MOST: usize = 8;
 
-/// The levels of a job: its document, and the macros that it has called. Contracts see the current one first, and
-/// whether the document is held open for lines to come.
+/// The levels of a job: its document, and the macros that it has called. Contracts see the current one first, and whether the document is held open
+/// for more lines.
 #[derive(Drop)]
 pub struct Levels {
     /// The current level last.
@@ -42,7 +42,7 @@ impl Model for Levels {
 }
 
 impl Levels {
-    /// The levels of a job that begins: its document alone.
+    /// The levels of a job at its beginning: only its document.
     pub fn new(alloc: Global, lines: Document) -> Result<Levels, MacroFault>
         ensures { replies.IsNew lines result }
     {
@@ -55,10 +55,10 @@ impl Levels {
         })
     }
 
-    /// Takes the next line, with the parameters of its level put in. Levels on top that have no line are dropped before.
-    /// It is made in the room of a text whose own bytes are dropped: that of the last line, as a rule.
+    /// Takes the next line, with the parameters of its level substituted. Levels on top that have no line are dropped first. The result reuses the
+    /// memory of a text whose own bytes are dropped, usually that of the last line.
     ///
-    /// `None` where no level has a line. A line above 240 bytes is refused, and counts as taken.
+    /// `None` if no level has a line. A line above 240 bytes is refused, and counts as taken.
     pub fn next_line(&mut self, room: Text) -> Result<Option<Text>, MacroFault>
         ensures line { replies.TakesLine self.old self.new result }
         ensures current { IfOk result (λ line. IsSome line → 0 < length self.new.levels) }
@@ -81,8 +81,7 @@ impl Levels {
         }
     }
 
-    /// The document of an INPUT: the lines of the current level up to `////` or to its end, each with its byte 10.
-    /// They are passed by, and `////` with them.
+    /// The document of an INPUT: the lines of the current level up to `////` or to its end, each with its byte 10. They are taken, including `////`.
     pub fn document(&mut self, alloc: Global) -> Result<Text, MacroFault>
         requires { 0 < length self.old.levels }
         ensures { replies.TakesDocument self.old self.new result }
@@ -92,7 +91,7 @@ impl Levels {
         Ok(text)
     }
 
-    /// Puts a macro's level on top. There are 8 levels at most.
+    /// Pushes a macro's level. There are at most 8 levels.
     pub fn call(&mut self, alloc: Global, lines: Document, params: Texts) -> Result<(), MacroFault>
         requires { length params ≤ 24 }
         ensures { replies.Calls lines params self.old self.new result }
@@ -105,7 +104,7 @@ impl Levels {
         Ok(())
     }
 
-    /// Goes on at the first line of the current level that has this label; lines of documents count too.
+    /// Continues at the first line of the current level that has this label; lines of documents count too.
     pub fn goto(&mut self, label: &Label) -> Result<(), MacroFault>
         requires { 0 < length self.old.levels }
         ensures { replies.Goes label.now self.old self.new result }
@@ -120,8 +119,8 @@ impl Levels {
         }
     }
 
-    /// Lets a command wait in the current level: in the place of that with an equal condition, or behind the others,
-    /// of which there are 16 at most.
+    /// Stores a waiting command in the current level: it replaces the one with an equal condition, or is appended to the others, of which there are
+    /// at most 16.
     pub fn whenever(&mut self, cond: Cond, command: Text) -> Result<(), MacroFault>
         requires some { 0 < length self.old.levels }
         requires command { IsCommandText command }
@@ -141,14 +140,14 @@ impl Levels {
         self.levels[top].set_param(letter, value);
     }
 
-    /// Holds the document open for lines to come.
+    /// Holds the document open for more lines.
     pub fn hold(&mut self)
         ensures { self.new ≡ holding.held_open self.old }
     {
         self.held = true;
     }
 
-    /// No more lines come: the document isn't held open any longer.
+    /// No more lines will be typed: the document isn't held open any longer.
     pub fn finish(&mut self)
         ensures { self.new ≡ holding.finished self.old }
     {
@@ -162,7 +161,7 @@ impl Levels {
         self.held
     }
 
-    /// Puts a line behind the document's others; without memory nothing changes. Where no level is left it is dropped.
+    /// Appends a line to the document; without memory nothing changes. If no level is left, the line is dropped.
     pub fn add_line(&mut self, line: Text) -> Result<(), MacroFault>
         requires { IsOneLine line }
         ensures { replies.Adds line self.old self.new result }
@@ -174,16 +173,15 @@ impl Levels {
         Ok(())
     }
 
-    /// Whether the levels can go on: no lines are to come, a level above the document has a line left, or the document
-    /// has one that may be taken already. It takes no memory.
+    /// Whether the levels can continue: no more lines are expected, a level above the document has a line left, or the document has one that may be
+    /// taken already. Allocates nothing.
     pub fn ready(&self) -> bool
         ensures { result ≡ holding.are_ready self.now }
     {
         !self.held || is_some_ready(self.levels.as_slice())
     }
 
-    /// Whether levels that can't go on can, with this line behind those of the document. It takes no memory, and looks at
-    /// no other line.
+    /// Whether levels that can't continue can if this line is appended to the document. Allocates nothing, and checks no other line.
     pub fn ready_with(&self, line: &[u8]) -> bool
         requires { holding.are_ready self.now ≡ false }
         ensures { result ≡ holding.are_ready (holding.with_typed line.now self.now) }
@@ -202,15 +200,15 @@ impl Levels {
         self.levels[self.levels.len() - 1].holds(cond, outcome)
     }
 
-    /// Whether a command waits in one of the levels: where none does, none fires.
+    /// Whether a command waits in one of the levels; otherwise none can fire.
     pub fn have_entries(&self) -> bool
         ensures { result ≡ false → (outcome : Outcome) → levels.fired outcome self.now.levels ≡ None }
     {
         some_wait(self.levels.as_slice())
     }
 
-    /// The command of the first entry that holds, of the current level and then of those below it. The levels above
-    /// its own are dropped. It is the text of a command, so reading it again refuses nothing.
+    /// The command of the first entry that holds, of the current level and then of those below it. The levels above its own are dropped. It is the
+    /// text of a command, so parsing it again succeeds.
     pub fn fire(&mut self, alloc: Global, outcome: &Outcome) -> Result<Option<Text>, MacroFault>
         ensures fires { replies.Fires outcome.now self.old self.new result }
         ensures command { IfOk result (λ command. IfSome command IsCommandText) }
@@ -226,7 +224,7 @@ impl Levels {
     }
 }
 
-/// How many levels stay once those on top without a line are gone; a document that is held stays.
+/// The number of levels left once those on top without a line are dropped; a document that is held open remains.
 fn live_levels(all: &[Level], held: bool) -> usize
     ensures same { levels.live held (reverse all.now) ≡ reverse (take result all.now) }
     ensures within { result ≤ length all.now }
@@ -242,7 +240,7 @@ fn live_levels(all: &[Level], held: bool) -> usize
 }
 
 /// Whether a level above the document has a line left, or the document has one that may be taken.
-// It is asked at a terminal alone: a function of its own keeps its room out of each turn.
+// Called only for a terminal: as a function of its own it adds no stack space to other turns.
 #[inline(never)]
 fn is_some_ready(all: &[Level]) -> bool
     ensures { result ≡ holding.some_ready (reverse all.now) }
@@ -267,7 +265,7 @@ fn some_wait(all: &[Level]) -> bool
     all.iter().any(|level| level.has_entry())
 }
 
-/// The first entry that holds, from the topmost level down, and how many levels stay.
+/// The first entry that holds, from the topmost level down, and the number of levels that remain.
 fn firing<'a>(all: &'a [Level], outcome: &Outcome) -> Option<(&'a Entry, usize)>
     ensures first { MatchOption result (levels.fired outcome.now (reverse all.now) ≡ None)
         (λ found. (found.1 ≤ length all.now)

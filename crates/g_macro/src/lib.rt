@@ -1,5 +1,5 @@
-//! The levels of a job: its document and the macros that it has called, the lines that it takes of them with its
-//! parameters put in, and the commands that wait for a condition.
+//! The levels of a job: its document and the macros that it has called, the lines that it takes from them with parameters substituted, and the
+//! commands that wait for a condition.
 #![tactic(auto)]
 
 mod entry;

@@ -1,10 +1,10 @@
-//! How the last command went.
+//! The outcome of the last command.
 ghost use Rattle.std.specs.Prelude.{◌≡◌};
 ghost use Rattle.g_macro.specs.Questions as asked;
 
 use g_mill::Text40;
 
-/// How the last command went, of which conditions ask.
+/// The outcome of the last command, which conditions test.
 #[derive(Drop, PartialEq, Eq)]
 pub struct Outcome {
     /// It was an error.
@@ -12,16 +12,16 @@ pub struct Outcome {
     pub event: EventNote,
 }
 
-/// What the program came to in the last command.
+/// What happened to the program in the last command.
 #[derive(Drop, PartialEq, Eq)]
 pub enum EventNote {
-    /// The command ran no program, or the program goes on.
+    /// The command ran no program, or the program continues.
     None,
     /// The program halted with this text.
     Halted(Text40),
     /// The program was deleted with this text.
     Deleted(Text40),
-    /// The program came to an order that is illegal.
+    /// The program reached an illegal order.
     Failed,
 }
 
@@ -46,7 +46,7 @@ impl EventNote {
         }
     }
 
-    /// Whether the program came to an illegal order.
+    /// Whether the program reached an illegal order.
     pub(crate) fn has_failed(&self) -> bool
         ensures { result ≡ asked.has_failed self.now }
     {

@@ -13,8 +13,8 @@ use std::marker::Model;
 /// How many parameters a level has.
 const COUNT: usize = 24;
 
-/// The 24 parameters of a level. Contracts see all of them. Most levels are given few or none, and none is ever set there: so
-/// the empty ones behind those that were given are made only where one is set. Their room is there from the start.
+/// The 24 parameters of a level. Contracts see all of them. Most levels are given few or none, and set none: the empty ones after those given are
+/// created only when one is set. Their memory is allocated at the beginning.
 #[derive(Drop)]
 pub(crate) struct Params {
     given: Vec<Text>,
@@ -33,7 +33,7 @@ impl Model for Params {
 }
 
 impl Params {
-    /// These, and empty ones behind.
+    /// The given parameters, followed by empty ones.
     pub fn new(alloc: Global, params: Texts) -> Result<Params, NoMemory>
         requires { length params ≤ 24 }
         ensures { IfOk result (λ all. all ≡ padded params) }
@@ -43,7 +43,7 @@ impl Params {
         Ok(Params { given, alloc })
     }
 
-    /// The parameter of a letter; of another byte the empty text.
+    /// The parameter of a letter; the empty text for any other byte.
     pub fn get(&self, letter: u8) -> &[u8]
         ensures { result.now ≡ param_of self.now letter }
     {
@@ -60,7 +60,7 @@ impl Params {
     }
 }
 
-/// The parameter of a letter among those that were given, the empty text where it isn't there.
+/// The parameter of a letter among those that were given; the empty text if it wasn't.
 fn param(given: &[Text], letter: u8) -> &[u8]
     ensures { result.now ≡ param_of given.now letter }
 {
@@ -70,7 +70,7 @@ fn param(given: &[Text], letter: u8) -> &[u8]
     }
 }
 
-/// Puts empty ones behind these, so that they are 24. There is room for them.
+/// Appends empty parameters until there are 24. Memory for them is allocated already.
 fn fill_up(alloc: Global, params: &mut Vec<Text>)
     requires few { length params.old.items ≤ 24 }
     requires room { 24 ≤ vec_capacity params.old }

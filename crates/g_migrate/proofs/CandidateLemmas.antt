@@ -1,4 +1,5 @@
 -- The candidates among records, one file after another.
+-- serves: candidates, is_candidate, plan_by_age
 use Rattle.std.proofs.Common.{◌≡◌, ℕ, zero, suc, ◌+◌, ◌<◌, ◌≤◌, Bool, true, false, ◌&&◌, cond, List, [], ◌∷◌, ◌++◌, length, get_or, map, filter, take, drop, Option, Some, None, refl, sym, ◌∙◌, ap, arith, if◌then◌else◌}
 use Rattle.std.specs.Prelude.{All, Contains, is_some, nat_lt}
 use Rattle.std.specs.Option.{option_to_list}
@@ -53,7 +54,7 @@ candidates_more files i f inside at =
 abbrev recs_of : List File → List FileRec
 recs_of files = map (λ (f : File). f.rec) files
 
--- the candidates are those of the files in front of them
+-- the candidates are those of the preceding files
 pub record IsListed (files : List File) (left : List FileRec) (candidates : List Candidate) : Type 0 where
   pub place : ℕ
   pub left_is : left ≡ drop place (map (λ (f : File). f.rec) files)

@@ -1,4 +1,5 @@
 -- Candidates in order of stamp: those below a stamp are the first ones.
+-- serves: PlanLemmas
 use Rattle.std.proofs.Common.{◌≡◌, ℕ, zero, suc, ◌+◌, ◌<◌, ◌≤◌, List, [], ◌∷◌, length, get_or, take, sum_by, refl, sym, ◌∙◌, ap, arith, inl, inr, subst, if◌then◌else◌}
 use Rattle.std.specs.Prelude.{◌⊎◌, All, nat_lt}
 use Rattle.std.proofs.lemmas.Bool.{cases_lt, cases_order, cond-false, cond-true, le-ltb, lt-ltb}
@@ -70,7 +71,7 @@ front t (c ∷ cs) rising = by_case (cases_lt c.stamp t) (front t cs (rest_rises
     by_case (inl less) (n, is) = (suc n, front_more t c cs n less is)
     by_case (inr high) rest = (0, front_none t (c ∷ cs) (all_above t c cs high rising))
 
--- so many they are, where those before are below it and those behind aren't
+-- that many are below the threshold, if the preceding ones are below it and the following ones aren't
 pub front_is : (t : ℕ) (cs : List Candidate) (n k : ℕ) (d : Candidate) → IsFront t cs n → k ≤ length cs → ((i : ℕ) → i < k → (get_or cs i d).stamp < t)
     → ((i : ℕ) → k ≤ i → i < length cs → t ≤ (get_or cs i d).stamp) → n ≡ k
 front_is t cs n k d is within lower higher = by_order (cases_order n k)
@@ -84,7 +85,7 @@ front_is t cs n k d is within lower higher = by_order (cases_order n k)
         let w = is.within in let one = is.lower k d more in let other = higher k (omega arith) (omega (arith, more, w)) in
         (let no : ⊥ = omega (arith, one, other) in absurd no)
 
--- THE THRESHOLD behind the first k: just behind the last one's stamp
+-- the threshold after the first k: one more than the stamp of the last one
 abbrev pub nobody : Candidate
 nobody = record { stamp = 0; number = 0; blocks = 0 }
 

@@ -1,4 +1,5 @@
--- A store keeps what it keeps where files of its filestore are taken off the disc.
+-- A store preserves its invariant when files of its filestore are taken off the disc.
+-- serves: MigrationLemmas
 use Rattle.std.proofs.Common.{◌≡◌, ℕ, ◌<◌, Bool, true, false, List, [], Option, Some, None, refl, sym, ◌∙◌, ap, subst, arith, inl, inr, if◌then◌else◌}
 use Rattle.std.specs.Prelude.{◌⊎◌, ◌||◌, IfSome, is_some, not}
 use Rattle.g_tape.specs.Rack.{Rack}
@@ -32,7 +33,7 @@ keeps_same o live = record {
   belongs = λ s at unspent store was. subst Belongs (same_store s o at unspent live) was;
 }
 
--- FILES ARE TAKEN OFF: what stands then
+-- files are taken off: what holds then
 pinned_then : (numbers : List ℕ) (o : OnlineFacts) → is_some o.pins ≡ true
     → changed (is_some o.disc.held) (is_some o.pins) (Unload numbers) o.contents ≡ with_files (taken_off numbers o.contents.files) o.contents
 unfolding changed
@@ -61,11 +62,11 @@ dump_kept : (dump : Option DumpFacts) (o new : OnlineFacts) (rack : Rack) (numbe
 dump_kept None o new rack numbers pins contents is = tt
 dump_kept (Some d) o new rack numbers pins contents is = open_kept d o new rack numbers pins contents is
 
--- nobody is unmarked
+-- no mark is removed
 grows_to : (old new : List ℕ) → new ≡ old → (n : ℕ) → holds old n ≡ true → holds new n ≡ true
 grows_to old new same n is = ap (λ (l : List ℕ). holds l n) same ∙ is
 
--- WHERE IT IS DONE
+-- IF IT IS DONE
 module _ (s : StoreFacts) (new : OnlineFacts) (numbers : List ℕ) (done : HasChanged (Unload numbers) s.online new) (tied : IsTied new) (unspent : s.spent ≡ false) (store : IsStore s) where
   pub store_after : IsStore (with_online new s)
   store_after = record {
@@ -116,12 +117,12 @@ keeps_done numbers old new done tied = record {
   belongs = λ s at unspent store was. belongs_after s new numbers (subst (λ (o : OnlineFacts). HasChanged (Unload numbers) o new) (sym at) done) tied unspent store was;
 }
 
--- WHERE IT WAS STOPPED the store is spent
+-- IF IT WAS STOPPED the store is spent
 module _ (s : StoreFacts) (new : OnlineFacts) (numbers : List ℕ) (stopped : HasStopped (Unload numbers) s.online new) (tied : IsTied new) (unspent : s.spent ≡ false) where
   pub store_stopped : IsStore (with_online new s)
   store_stopped = spent_store s new stopped.live tied
 
-  -- whichever of the two the disc holds, it belongs
+  -- whichever contents the disc holds, the old or the new, it belongs to the rack
   one_belongs : (text : ℕ → List ℕ) (shelf : ℕ → List Dump) (blocks : List (List ℕ)) (c : Contents) → IsUp text shelf s → AfterStop (Unload numbers) s.online blocks → Holds blocks c
       → DiscBelongs text shelf (told_reels s.rack) c
   one_belongs text shelf blocks c up after holds_c = by_case after.one

@@ -1,4 +1,5 @@
--- One file that goes off the disc: that it may, and how it is answered.
+-- One file that is taken off the disc: that this is permitted, and how it is answered.
+-- serves: has_copy, migrate (keeps, migrated, not_dumped, offline, only), plan_by_age (order, plan, room), refusal, crates above
 use Rattle.std.proofs.Common.{◌≡◌, ◌≢◌, ℕ, zero, suc, ◌==◌, Bool, true, false, List, [], ◌∷◌, get_or, map, Option, Some, None, Ok, Err, refl, sym, ◌∙◌, ap, subst, arith, inl, inr, if◌then◌else◌, true≢false}
 use Rattle.std.specs.Prelude.{◌⊎◌, ◌↔◌, ◌||◌, All, Contains, OnErr, Result, is_some}
 use Rattle.std.specs.FinMap.{get}
@@ -92,7 +93,7 @@ refused o number fault other tied = record {
   told = refl;
 }
 
--- WHAT A STORE KEEPS
+-- THE INVARIANT OF A STORE
 keeps_by : (o new : OnlineFacts) (number : ℕ) (fault : StoreFault) → o.live ≡ true
     → (let r : Result (Unit {0}) StoreFault = Err fault in HasMigrated number o new r × ((r ≡ Err Stopped) ⊎ (r ≡ Err NoMemory))) → KeepsStore o new
 keeps_by o new number fault live (is, inl stopped) = keeps_stopped (number ∷ []) o new (is.stopped stopped) is.tied
@@ -146,7 +147,7 @@ granted_by true (Some c) result none only = (
 pub granted_file : (f : File) (result : Result (Unit {0}) StoreFault) → None ≡ refusal_of f → OnErr result ((result ≡ Err Stopped) ⊎ (result ≡ Err NoMemory)) → AreRefused f result
 granted_file f result none only = let both = granted_by f.online f.rec.tape result none only in record { offline = both.0; not_dumped = both.1 }
 
--- THE REFUSAL that is looked for
+-- the refusal that was searched for
 pub off_refusal : (f : File) (is : Bool) → is ≡ f.online → is ≡ false → Some Offline ≡ refusal_of f
 off_refusal f is same off = ap (λ (b : Bool). refusal_by b f.rec.tape) (sym off ∙ same)
 

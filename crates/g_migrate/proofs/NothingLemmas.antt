@@ -1,4 +1,5 @@
--- Where the room suffices, a plan that takes nothing.
+-- IF the room suffices, a plan that takes nothing.
+-- serves: plan_unjam (plan, room)
 use Rattle.std.proofs.Common.{◌≡◌, ◌≢◌, ℕ, zero, suc, ◌+◌, ◌<◌, ◌≤◌, Bool, true, false, ◌&&◌, List, [], ◌∷◌, ◌∙◌, inl, inr, arith, sym, ap, subst, refl}
 use Rattle.std.specs.Prelude.{◌⊎◌, All, AllPairs, Contains, sum_by, nat_lt, if◌then◌else◌}
 use Rattle.std.proofs.lemmas.Bool.{and_parts, cases_Bool, cond-false, ltb-true}

@@ -1,4 +1,5 @@
 -- The first candidates in order of stamp are a plan of unjamming.
+-- serves: plan_by_age (none, order, plan, room), take_first
 use Rattle.std.proofs.Common.{◌≡◌, ◌≢◌, ℕ, zero, suc, ◌+◌, ◌<◌, ◌≤◌, ◌==◌, Bool, true, false, ◌&&◌, ◌||◌, List, [], ◌∷◌, ◌*◌, length, get_or, map, filter, take, sum_by, Option, Some, None, refl, sym, ◌∙◌, ap, subst, arith, inl, inr, if◌then◌else◌}
 use Rattle.std.specs.Prelude.{◌⊎◌, All, AllPairs, Contains, is_some, nat_lt}
 use Rattle.std.specs.List.Sorted.{IsNonDecreasingBy, IsPermutation}
@@ -23,7 +24,7 @@ use Rattle.g_online.specs.Room.{FitsDisc}
 use Rattle.g_migrate.specs.UnjamPlan.{IsOlder, IsRoomWithout}
 use Rattle.g_migrate.proofs.FrontLemmas.{AreRising, IsFront, below, fewer_below, until_front, until_of}
 
--- WHAT IS KEPT AND MADE of a list
+-- WHAT IS LEFT AND BUILT of a list
 pub made_there : {A B : Type 0} (p : A → Bool) (f : A → B) (xs : List A) (x : A) → Contains xs x → p x ≡ true → Contains (map f (filter p xs)) (f x)
 made_there p f [] x (i, inside, is) pass = let no : ⊥ = omega (arith, inside) in absurd no
 made_there {A} {B} p f (y ∷ ys) x there pass = by_case (made_there p f ys x) (contains_cases y x ys there) (cases_Bool (p y))
@@ -109,7 +110,7 @@ numbers_apart files all = λ i j d before inside same.
     let less = pairs_of (λ (r s : FileRec). r.number < s.number) (λ (f : File). f.rec) files all i j d before inside in
     (let no : ⊥ = omega (arith, less, same) in no)
 
--- what no two files share, no two candidates share, in whatever order
+-- what no two files share, no two candidates share, in any order
 sorted_apart : (key : Candidate → ℕ) (files : List File) (sorted : List Candidate) → AllPairs (λ (f g : File). key (candidate_of f) ≢ key (candidate_of g)) files
     → IsPermutation (candidates_in files) sorted → AllPairs (λ (m n : ℕ). m ≢ n) (map key sorted)
 sorted_apart key files sorted apart moved =
@@ -237,7 +238,7 @@ module _ (o : OnlineFacts) (need : ℕ) (sorted : List Candidate) (taken : List 
   below_until : IsFront until sorted first.count
   below_until = until_front sorted first.count rises first.within
 
-  -- the room by a stamp, and by how many come first
+  -- the room by a stamp, and by how many precede it
   by_front : (t n : ℕ) → IsFront t sorted n → room_until o t ≡ room_of o + blocks_in (take n sorted)
   by_front t n is = ap (λ (m : ℕ). room_of o + m) (sym (taken_blocks t files) ∙ sym (sum_by-IsPermutation (below t) (candidates_in files) sorted moved) ∙ is.blocks)
 
@@ -382,7 +383,7 @@ module _ (o : OnlineFacts) (need : ℕ) (sorted : List Candidate) (taken : List 
     least = at_least;
   }
 
--- where the room suffices nothing is taken
+-- if the room suffices nothing is taken
 pub none_taken : (sorted : List Candidate) (start need : ℕ) (taken : List ℕ) (room : ℕ) → TakesFirst sorted start need taken room → need ≤ start → (taken ≡ []) × (room ≡ start)
 none_taken sorted start need taken room first suffices = by_count first.count first.numbers first.room_is first.least
   where

@@ -11,7 +11,7 @@ use g_entry::FileRec;
 use g_online::Online;
 use std::alloc::Global;
 
-/// A file that is on the disc and on tape too: the stamp of its version, its number, and the blocks of its bytes.
+/// A file that is on the disc and also on tape: the stamp of its version, its number, and the number of its blocks.
 #[derive(Clone, Copy, PartialEq, Eq)]
 pub(crate) struct Candidate {
     pub(crate) stamp: u64,
@@ -35,7 +35,7 @@ pub(crate) fn candidates<D: Disc>(
     Ok(candidates)
 }
 
-/// Puts a candidate behind the others, if there is one.
+/// Appends a candidate, if there is one.
 fn add(candidates: &mut Vec<Candidate>, found: Option<Candidate>) -> Result<(), NoMemory>
     ensures { OnOk result (candidates.new.items ≡ candidates.old.items ++ option_to_list found) }
 {
@@ -48,7 +48,7 @@ fn add(candidates: &mut Vec<Candidate>, found: Option<Candidate>) -> Result<(), 
     }
 }
 
-/// The candidate that the file is, if it is one.
+/// The file as a candidate, if it is one.
 fn candidate_for<D: Disc>(online: &Online<D>, file: &FileRec) -> Option<Candidate>
     requires live { online.now.live ≡ true }
     ensures { (f : File) → Contains online.now.contents.files f → f.rec ≡ file.now → result ≡ candidate_in f }
@@ -64,7 +64,7 @@ fn candidate_for<D: Disc>(online: &Online<D>, file: &FileRec) -> Option<Candidat
     }
 }
 
-/// Whether the file is on the disc, not empty, and on tape too.
+/// Whether the file is on the disc, isn't empty, and is also on tape.
 fn is_candidate<D: Disc>(online: &Online<D>, file: &FileRec) -> bool
     requires live { online.now.live ≡ true }
     ensures { (f : File) → Contains online.now.contents.files f → f.rec ≡ file.now → result ≡ is_candidate f }

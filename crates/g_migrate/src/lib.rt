@@ -1,4 +1,4 @@
-//! Files are taken off the disc whose bytes are on tape: one that is asked for, or as many as make room.
+//! Files whose bytes are on tape are taken off the disc: one file by command, or as many as make room.
 #![tactic(auto)]
 
 mod candidates;

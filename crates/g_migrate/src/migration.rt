@@ -13,10 +13,10 @@ use g_plain::StoreFault;
 use g_tree::{NumberList, Tree};
 use std::alloc::Global;
 
-/// Takes the file of this number off the disc, by one commit (docs/DEFINITIONS.md). Its bytes are then on tape alone, and
-/// its blocks are free. `Offline`: it isn't on the disc. `NotDumped`: no tape has a copy of it, as of an empty file none
-/// ever has. Behind these two, and behind `NoMemory`, all is as it was. `Stopped`: a write of the disc failed; the disc
-/// holds what it held, or that with the file on tape alone, and takes no further call.
+/// Takes the file of this number off the disc by one commit (docs/DEFINITIONS.md). Then its bytes are only on tape, and its
+/// blocks are free. `Offline`: it isn't on the disc. `NotDumped`: no tape has a copy of it, which is always so for an empty
+/// file. After these two and `NoMemory` everything is unchanged. `Stopped`: a write of the disc failed. The disc holds what
+/// it held, or that with the file only on tape, and accepts no further call.
 pub fn migrate<D: Disc>(
     alloc: Global,
     online: &mut Online<D>,
@@ -66,7 +66,7 @@ fn has_copy(tree: &Tree, number: u16) -> bool
     }
 }
 
-/// Takes a file off the disc that is there and on tape too.
+/// Takes a file off the disc that is on the disc and also on tape.
 fn take_off<D: Disc>(alloc: Global, online: &mut Online<D>, number: u16) -> Result<(), StoreFault>
     requires allowed { IsAllowed (Change.Unload (number ∷ [])) online.old }
     requires tied { IsTied online.old }
@@ -81,7 +81,7 @@ fn take_off<D: Disc>(alloc: Global, online: &mut Online<D>, number: u16) -> Resu
     stored(online.unload(&numbers))
 }
 
-/// The answer of a store, whose refusals are these.
+/// The answer as a store reports it.
 fn stored(answer: Result<(), OnlineFault>) -> Result<(), StoreFault>
     ensures { result ≡ as_stored answer }
 {

@@ -1,4 +1,4 @@
-//! Which files make room on the disc.
+//! Which files are taken off the disc to make room.
 ghost use Rattle.std.specs.Prelude.{◌≡◌, ◌≤◌, true, [], All, AllPairs, IfOk, length};
 ghost use Rattle.std.specs.List.Sorted.{IsNonDecreasingBy, IsPermutation};
 ghost use Rattle.g_disc_contents.specs.Facts.{IsTied, room_of};
@@ -13,9 +13,9 @@ use g_online::{Online, Unjam};
 use g_tree::NumberList;
 use std::alloc::Global;
 
-/// The plan for a need of so many blocks (docs/DEFINITIONS.md): of the files that are on the disc and on tape too it takes
-/// the oldest versions, just as many as leave `need` blocks free, or all of them where that isn't enough. Nothing changes,
-/// and no device is asked.
+/// The plan for a need of this many blocks (docs/DEFINITIONS.md): of the files that are on the disc and also on tape it
+/// takes those with the oldest versions, exactly as many as leave `need` blocks free, or all of them if that isn't enough.
+/// Nothing changes, and no device is used.
 pub fn plan_unjam<D: Disc>(alloc: Global, online: &Online<D>, need: u32) -> Result<Unjam, NoMemory>
     requires live { online.now.live ≡ true }
     requires tied { IsTied online.now }
@@ -42,7 +42,7 @@ fn nothing_taken(alloc: Global, room: u32) -> Unjam
     }
 }
 
-/// The same, whether or not there is room enough already.
+/// Does so without checking whether there is room enough already.
 fn plan_by_age<D: Disc>(alloc: Global, online: &Online<D>, need: u32) -> Result<Unjam, NoMemory>
     requires live { online.now.live ≡ true }
     requires tied { IsTied online.now }
@@ -56,7 +56,7 @@ fn plan_by_age<D: Disc>(alloc: Global, online: &Online<D>, need: u32) -> Result<
     take_first(alloc, &candidates, online.room(), need)
 }
 
-/// Puts the oldest versions first.
+/// Sorts the candidates, oldest versions first.
 fn sort_by_age(candidates: &mut Vec<Candidate>)
     ensures moved { IsPermutation candidates.old.items candidates.new.items }
     ensures order { IsNonDecreasingBy (λ c. c.stamp) candidates.new.items }

@@ -1,4 +1,5 @@
 -- Where the first line of a text ends.
+-- serves: split_line (lines, suffix)
 use Rattle.std.proofs.Common.{◌≡◌, ℕ, zero, suc, ◌+◌, ◌-◌, ◌<◌, ◌≤◌, false, List, [], ◌∷◌, length, get_or, take, drop, refl, ap, arith, length-drop}
 use Rattle.std.specs.Prelude.{nat_eq}
 use Rattle.std.proofs.lemmas.Bool.{eq-eqb, ne_eqb}
@@ -28,7 +29,7 @@ only_line (b ∷ c ∷ text) below h =
     let rest : lines (c ∷ text) ≡ (c ∷ text) ∷ [] = only_line (c ∷ text) (omega arith) (none_behind b (c ∷ text) (length (c ∷ text)) h) in
     rw apart (ap (before_lines b) rest)
 
--- what is behind n bytes is told by its length
+-- the rest of a text after n bytes is determined by its length
 pub suffix_of : (text : List ℕ) (n : ℕ) → n ≤ length text → drop n text ≡ drop (length text - length (drop n text)) text
 suffix_of text n h =
     let is : n ≡ length text - length (drop n text) = omega (arith, length-drop n text) in

@@ -1,4 +1,5 @@
--- Orders one behind the other: one more behind them, and what an order that tells more isn't.
+-- Sequences of orders: one more order at the end, and what an order with another event than Ran can't be.
+-- serves: run, run_one, step (event, machine)
 use Rattle.std.proofs.Common.{◌≡◌, ℕ, zero, suc, ◌+◌, ◌/◌, ◌%◌, ◌^◌, ◌<◌, ◌≤◌, Bool, true, false, Option, Some, None, refl, sym, ap, subst, ◌∙◌, arith}
 use Rattle.std.specs.Prelude.{◌≢◌, List, nat_lt, option_and_then, unwrap_or, slice_get, ◌==◌, if◌then◌else◌, ⊤}
 use Rattle.std.specs.Option.{option_map}
@@ -18,7 +19,7 @@ use Rattle.g_mill.specs.Effect.{Outcome, effect, shifted, performed, obeyed, ord
 use Rattle.g_mill.specs.OrderReplies.{DoesQuick, TellsMore}
 use Rattle.g_mill.specs.Running.{RunsOne, RunsTo}
 
--- one more order behind the others
+-- a run with one more order at the end
 pub runs_more : (count : ℕ) (old mid new : Machine) → RunsTo count old mid → order mid ≡ (new, Ran) → RunsTo (suc count) old new
 runs_more zero old mid new is one =
     let there : order old ≡ (new, Ran) = subst (λ (m : Machine). order m ≡ (new, Ran)) is one in
@@ -40,7 +41,7 @@ text_more : (tell : List ℕ → Machine × Event) (text : Option (List ℕ)) �
 text_more tell None isnt = tt
 text_more tell (Some text) isnt = other (tell text).1 (isnt text)
 
--- whether orders of this function tell no more than that they were done
+-- whether orders of this function have no event but Ran
 abbrev pub is_plain : Function → Bool
 is_plain Transfer = false
 is_plain Halt = false
@@ -48,7 +49,7 @@ is_plain Display = false
 is_plain Delete = false
 is_plain function = true
 
--- an order whose function isn't plain tells more than that it was done
+-- an order whose function isn't plain has another event than Ran
 pub not_plain : (function : Function) (s : Machine) (o : Fields) → is_plain function ≡ false → TellsMore (effect function s o)
 not_plain (Load operation) s o isnt = absurd (true≢false isnt)
 not_plain (Store operation) s o isnt = absurd (true≢false isnt)
@@ -69,7 +70,7 @@ not_plain Halt s o isnt = text_more _ (text_at s (address s o)) (λ t. refl)
 not_plain Display s o isnt = text_more _ (text_at s (address s o)) (λ t. refl)
 not_plain Delete s o isnt = text_more _ (text_at s (address s o)) (λ t. refl)
 
--- what an order was that isn't illegal, where it tells no more than that it was done
+-- the outcome of an order that isn't illegal and whose event is Ran
 abbrev JustRan : Outcome → Type 0
 JustRan None = ⊤
 JustRan (Some both) = both.1 ≡ Ran
@@ -119,7 +120,7 @@ neither : (outcome : Outcome) → Runs outcome → TellsMore outcome → outcome
 neither None runs tells = refl
 neither (Some both) runs tells = absurd (tells runs.just)
 
--- an order of a plain function that isn't one that was done is illegal
+-- an order of a plain function whose event isn't Ran is illegal
 pub illegal_else : (function : Function) (s : Machine) (o : Fields) → is_plain function ≡ true → TellsMore (effect function s o) → effect function s o ≡ None
 illegal_else function s o is tells = neither (effect function s o) (plain_runs function s o is) tells
 
@@ -145,7 +146,7 @@ no_more zero most isnt = omega arith
 no_more (suc zero) most isnt = absurd (isnt refl)
 no_more (suc (suc count)) most isnt = let never : ⊥ = omega (arith, most) in absurd never
 
--- the order of the word that the program has at its next address
+-- the order of the word at the program's next address
 there : (s : Machine) (word : ℕ) → slice_get s.words s.next ≡ Some word → order s ≡ obeyed s word
 there s word is =
     if_true (nat_lt s.next (size s)) _ _ (lt-ltb _ _ (slice_get_within s.words s.next word is)) ∙ ap (obeyed s) (get_or_from_slice_get s.words s.next word 0 is)
@@ -158,7 +159,7 @@ pub more_there : (s : Machine) (word : ℕ) → slice_get s.words s.next ≡ Som
 more_there s word is tells =
     subst (λ (both : Machine × Event). both.1 ≢ Ran) (sym (there s word is)) (more s word (option_and_then (performed s) (decoded word)) tells)
 
--- what the order of that word leaves, and what it leaves where it is illegal
+-- the outcome of the order of that word, and the outcome if it is illegal
 pub told_there : (s same new : Machine) (word : ℕ) (event : Event) → slice_get s.words s.next ≡ Some word → same ≡ s → option_and_then (performed same) (decoded word) ≡ Some (new, event) → order s ≡ (new, event)
 told_there s same new word event is unchanged told =
     let outcome : option_and_then (performed s) (decoded word) ≡ Some (new, event) = subst (λ (m : Machine). option_and_then (performed m) (decoded word) ≡ Some (new, event)) unchanged told in
@@ -169,7 +170,7 @@ illegal_there s same word is unchanged none =
     let outcome : option_and_then (performed s) (decoded word) ≡ None = subst (λ (m : Machine). option_and_then (performed m) (decoded word) ≡ None) unchanged none in
     there s word is ∙ ap (λ (o : Outcome). unwrap_or o (s, Illegal word s.next)) outcome
 
--- an effect looks at X, M and N alone
+-- an effect depends only on X, M and N
 effect_by : (function : Function) (s : Machine) (o : Fields) → effect function s o ≡ effect function s (operands o.x o.m o.n)
 effect_by (Load operation) s o = refl
 effect_by (Store operation) s o = refl
@@ -190,7 +191,7 @@ effect_by Halt s o = refl
 effect_by Display s o = refl
 effect_by Delete s o = refl
 
--- what the order of a word leaves whose function the table has, by the fields that its effect looks at
+-- the outcome of a word whose function the table has, by the fields that its effect uses
 pub done_by : (s : Machine) (word x m n : ℕ) (function : Function) → x ≡ (fields_of word).x → x < 8 → function_of (fields_of word).f (fields_of word).x ≡ Some function → m ≡ (fields_of word).m → n ≡ (fields_of word).n
     → option_and_then (performed s) (decoded word) ≡ effect function s (operands x m n)
 done_by s word x m n function x_is small row m_is n_is =
@@ -199,13 +200,13 @@ done_by s word x m n function x_is small row m_is n_is =
     let is : decoded word ≡ Some o = ap (λ (b : Bool). if b then Some o else None) valid in
     ap (option_and_then (performed s)) is ∙ ap (option_and_then (λ (found : Function). effect found s o)) row ∙ effect_by function s o ∙ (rw (x_is, m_is, n_is) refl)
 
--- an order of a function that tells more than that it was done does so, if it isn't illegal
+-- an order of a function that isn't plain has another event than Ran, unless it is illegal
 pub left_by : (s : Machine) (word x : ℕ) (function : Function) → x ≡ (fields_of word).x → x < 8 → function_of (fields_of word).f (fields_of word).x ≡ Some function → is_plain function ≡ false
     → TellsMore (option_and_then (performed s) (decoded word))
 left_by s word x function x_is small row isnt =
     subst TellsMore (sym (done_by s word x (fields_of word).m (fields_of word).n function x_is small row refl refl)) (not_plain function s (operands x (fields_of word).m (fields_of word).n) isnt)
 
--- what the order of a word leaves, by its function
+-- the outcome of a word, by its function
 pub performed_by : (s : Machine) (word : ℕ) (o : Fields) (function : Function) → decoded word ≡ Some o → function_of o.f o.x ≡ Some function → option_and_then (performed s) (decoded word) ≡ effect function s o
 performed_by s word o function is row = ap (option_and_then (performed s)) is ∙ ap (option_and_then (λ (found : Function). effect found s o)) row
 
@@ -213,18 +214,18 @@ more_by : (s : Machine) (word : ℕ) (outcome : Outcome) → (unwrap_or outcome 
 more_by s word None isnt = tt
 more_by s word (Some both) isnt = isnt
 
--- the order of the word at the next address, which isn't one that just ran
+-- the order of the word at the next address, if its event isn't Ran
 pub tells_there : (s : Machine) (word : ℕ) → slice_get s.words s.next ≡ Some word → (order s).1 ≢ Ran → TellsMore (option_and_then (performed s) (decoded word))
 tells_there s word is isnt =
     more_by s word (option_and_then (performed s) (decoded word)) (subst (λ (both : Machine × Event). both.1 ≢ Ran) (there s word is) isnt)
 
--- one more order, that stood at an address and is told where it goes on
+-- a run with one more order, which was at a given address and whose next address is set afterwards
 pub runs_more_at : (count at : ℕ) (old mid new : Machine) (next : ℕ) → RunsTo count old (going_to mid at) → order (going_to mid at) ≡ (going_to new next, Ran) → RunsTo (count + 1) old (going_to new next)
 runs_more_at count at old mid new next runs one =
     let more : suc count ≡ count + 1 = omega arith in
     subst (λ (n : ℕ). RunsTo n old (going_to new next)) more (runs_more count old (going_to mid at) (going_to new next) runs one)
 
--- what a call answers that does the order of the word that the program has at an address
+-- the result of a call that executes the order at a given address of the program
 pub runs_one : (result : PlainOutcome) (at : ℕ) (old new : Machine) (word : ℕ) → slice_get old.words at ≡ Some word → DoesQuick result at old new (option_and_then (performed (going_to old at)) (decoded word)) → RunsOne result at old new
 runs_one quick.Ran at old new word is does = told_there (going_to old at) (going_to old at) (going_to new (following at)) word Ran is refl does
 runs_one (quick.Jumped next) at old new word is does = (told_there (going_to old at) (going_to old at) (going_to new next) word Ran is refl does.0, does.1)

@@ -1,4 +1,5 @@
--- What a step of a program leaves, by what it tells.
+-- The program after a step, by the step's event.
+-- serves: crates above
 use Rattle.std.proofs.Common.{◌≡◌, ℕ, ◌/◌, ◌%◌, ◌^◌, ◌<◌, Bool, true, false, List, Option, Some, None, refl}
 use Rattle.std.specs.Prelude.{◌==◌, nat_lt, option_and_then, unwrap_or, if◌then◌else◌, ⊤}
 use Rattle.std.specs.Option.{option_map}
@@ -12,7 +13,7 @@ use Rattle.g_mill.specs.declared.event.Event.TheVariants as event
 use Rattle.g_mill.specs.Machine.{Machine, size, word_at, operand, address, text_at, onward}
 use Rattle.g_mill.specs.Effect.{Outcome, effect, shifted, moved, performed, order}
 
--- a program that asks for a transfer is behind the order, and what an order does is never illegal
+-- after a transfer's request the program is past the order; the event of an order's effect is never illegal
 abbrev pub Tells : Machine → Event → Machine → Type 0
 Tells s event.Ran p = ⊤
 Tells s (event.Peri area) p = p ≡ onward s
@@ -73,7 +74,7 @@ comes Halt s o = texts s _ (text_at s (address s o)) (λ t. tt)
 comes Display s o = texts s _ (text_at s (address s o)) (λ t. tt)
 comes Delete s o = texts s _ (text_at s (address s o)) (λ t. tt)
 
--- the program behind a step: a transfer is asked for by an order of the program, and an illegal order changes nothing
+-- the program after a step: a transfer is requested by an order of the program, and an illegal order changes nothing
 abbrev pub Leaves : Machine → Event → Machine → Type 0
 Leaves s event.Ran p = ⊤
 Leaves s (event.Peri area) p = (p ≡ onward s) × (s.next < size s)

@@ -16,7 +16,7 @@ use Rattle.g_mill.specs.declared.event.Event.{Event}
 use Rattle.g_mill.specs.declared.event.Event.TheVariants.{Ran, Peri, Halted, Displayed, Deleted, Illegal}
 use Rattle.g_mill.specs.Machine.{Machine, size, word_at, accumulator, next_accumulator, address, place, operand, following, with_word, going_to, onward, result_at, copied, text_at}
 
--- the word that an operation makes of an old word and an operand
+-- The word that an operation makes of an old word and an operand.
 abbrev pub made : Operation → ℕ → ℕ → ℕ
 made Take old operand = operand
 made Add old operand = wrapped (signed_value old +ℤ signed_value operand)
@@ -26,7 +26,7 @@ made And old operand = bit_and old operand
 made Or old operand = bit_or old operand
 made Differ old operand = bit_xor old operand
 
--- whether the result of an operation is out of range
+-- The result of an operation is out of range.
 abbrev pub overflows : Operation → ℕ → ℕ → Bool
 overflows Add old operand = is_out_of_range (signed_value old +ℤ signed_value operand)
 overflows Negate old operand = is_out_of_range (pos 0 -ℤ signed_value operand)
@@ -36,7 +36,7 @@ overflows And old operand = false
 overflows Or old operand = false
 overflows Differ old operand = false
 
--- whether a branch is taken, by the accumulator and overflow
+-- A branch is taken, by the accumulator and overflow.
 abbrev pub is_taken : Condition → ℕ → Bool → Bool
 is_taken Zero x overflow = x == 0
 is_taken NotZero x overflow = not (x == 0)
@@ -48,7 +48,7 @@ is_taken OverflowReset x overflow = overflow
 is_taken NoOverflow x overflow = not overflow
 is_taken NoOverflowReset x overflow = not overflow
 
--- overflow behind the test of a branch
+-- Overflow after the test of a branch; a test that resets clears it.
 abbrev pub overflow_behind : Condition → Bool → Bool
 overflow_behind Zero overflow = overflow
 overflow_behind NotZero overflow = overflow
@@ -60,15 +60,15 @@ overflow_behind OverflowReset overflow = false
 overflow_behind NoOverflow overflow = overflow
 overflow_behind NoOverflowReset overflow = false
 
--- what an order leaves: the program and the event, or none where the order is illegal
+-- The outcome of an order: the program and the event, or none if the order is illegal.
 abbrev pub Outcome : Type 0
 Outcome = Option (Machine × Event)
 
--- the order was done, and the program goes on behind it
+-- The order was executed, and the program continues after it.
 abbrev pub done : Machine → Outcome
 done s = Some (onward s, Ran)
 
--- a shift: the low twelve bits of the address tell its kind, circular or logical, and the number of places
+-- A shift: the low twelve bits of the address say its kind, circular or logical, and the number of places.
 abbrev pub shifted : Bool → Machine → Fields → Outcome
 shifted left s o =
     let kind = address s o % 2 ^ 12 / 2 ^ 10 in
@@ -76,7 +76,7 @@ shifted left s o =
     let x = accumulator s o in
     if kind == 0 then done (with_word s o.x (if left then rotated_left x places else rotated_right x places)) else (if kind == 1 then done (with_word s o.x (if left then shifted_left x places else shifted_right x places)) else None)
 
--- the words of MOVE: as many as the low nine bits of the address tell, and 512 where they are 0
+-- MOVE copies as many words as the low nine bits of the address say, and 512 if they are 0; source and destination must be in the program.
 abbrev pub moved : Machine → Fields → Outcome
 moved s o =
     let low = address s o % 512 in
@@ -85,6 +85,7 @@ moved s o =
     let to = word_at s (next_accumulator o) % 2 ^ 15 in
     if nat_le (from + count) (size s) && nat_le (to + count) (size s) then done (record s { words = copied count s.words from to }) else None
 
+-- The outcome of an order by its function. It is illegal if it needs a word or a text that the program doesn't have.
 abbrev pub effect : Function → Machine → Fields → Outcome
 effect (Load operation) s o =
     option_and_then (λ n. let x = accumulator s o in done (result_at s o.x (made operation x n) (overflows operation x n))) (operand s o)
@@ -114,14 +115,14 @@ effect Halt s o = option_map (λ text. (onward s, Halted text)) (text_at s (addr
 effect Display s o = option_map (λ text. (onward s, Displayed text)) (text_at s (address s o))
 effect Delete s o = option_map (λ text. (onward s, Deleted text)) (text_at s (address s o))
 
--- what the order with these fields leaves
+-- The outcome of the order with these fields.
 abbrev pub performed : Machine → Fields → Outcome
 performed s o = option_and_then (λ function. effect function s o) (function_of o.f o.x)
 
--- what the word leaves as an order: an illegal one changes nothing
+-- The program and the event after the word is executed as an order; an illegal one changes nothing.
 abbrev pub obeyed : Machine → ℕ → Machine × Event
 obeyed s word = unwrap_or (option_and_then (performed s) (decoded word)) (s, Illegal word s.next)
 
--- one step of a program; an order past its end is illegal, and reported as 0
+-- One step of a program. An order past its end is illegal, and reported as the word 0.
 abbrev pub order : Machine → Machine × Event
 order s = if nat_lt s.next (size s) then obeyed s (word_at s s.next) else (s, Illegal 0 s.next)

@@ -1,4 +1,4 @@
-//! What a step of a program tells.
+//! The event of a program's step.
 
 ghost use Rattle.std.specs.Prelude.{◌≡◌, ◌<◌, ◌≤◌, [], ◌∷◌, ◌++◌, length};
 
@@ -50,7 +50,7 @@ impl Text40 {
         self.bytes.as_slice()
     }
 
-    /// Puts a byte behind the others.
+    /// Appends a byte.
     pub fn push(&mut self, byte: u8)
         requires { length self.old < 40 }
         ensures { self.new ≡ self.old ++ byte ∷ [] }
@@ -58,7 +58,7 @@ impl Text40 {
         self.bytes.push(byte);
     }
 
-    /// The same text once more, which takes no memory.
+    /// A copy of the text; allocates nothing.
     pub fn copy(&self) -> Text40
         ensures { result ≡ self.now }
     {
@@ -70,24 +70,24 @@ impl Text40 {
     }
 }
 
-/// What one step of a program tells.
+/// The event of one step of a program.
 #[derive(Drop, PartialEq, Eq)]
 pub enum Event {
-    /// An order was done.
+    /// An order was executed.
     Ran,
-    /// The program asks for a transfer with a unit; `area` is the address of the control area.
+    /// The program requests a transfer with a unit; `area` is the address of the control area.
     Peri {
         area: u16,
     },
     /// The program halted and waits to be resumed.
     Halted(Text40),
-    /// The program displays a text and goes on.
+    /// The program displays a text and continues.
     Displayed(Text40),
     /// The program deletes itself.
     Deleted(Text40),
-    /// There is no such order, or it needs words past the program. Nothing changed.
+    /// The order is illegal, or needs words past the program's end. Nothing changed.
     Illegal {
-        /// The word of the order, or 0 where the program has no word at `at`.
+        /// The word of the order, or 0 if the program has no word at `at`.
         word: Word,
         /// The address of the order.
         at: u16,

@@ -3,8 +3,7 @@
 ghost use Rattle.std.specs.Prelude.{◌≡◌, ◌-◌, ◌<◌, [], ◌∷◌, length, drop, MatchOption, IfSome};
 ghost use Rattle.g_mill.specs.Lines.{lines};
 
-/// The first line of a text, without its byte 10, and what is behind it; `None` where the text is empty. The last
-/// line of a text may lack its byte 10.
+/// The first line of a text, without its byte 10, and the rest; `None` if the text is empty. The last line of a text may be missing its byte 10.
 pub fn split_line(text: &[u8]) -> Option<(&[u8], &[u8])>
     ensures lines { MatchOption result (text.now ≡ [])
         (λ p. lines text.now ≡ p.0.now ∷ lines p.1.now) }

@@ -1,4 +1,4 @@
-//! Program files, loaded.
+//! Loading of program files.
 
 ghost use Rattle.std.specs.Prelude.{◌≡◌, ◌≢◌, ◌+◌, ◌^◌, ◌≤◌, true, false, map, length, Some, None, MatchOption, MatchResult, Err};
 ghost use Rattle.g_mill.specs.Lines.{lines};
@@ -13,8 +13,8 @@ use thiserror::Error;
 /// Why a program file isn't loaded.
 #[derive(Clone, Copy, Debug, PartialEq, Eq, Error)]
 pub enum LoadFault {
-    /// The first line, from 1, that isn't eight octal digits, or tells no size of a program, or comes behind the
-    /// last word. A file without lines has the bad line 1.
+    /// The first line, from 1, that isn't eight octal digits, or isn't the size of a program, or follows the last word. A file without lines has the
+    /// bad line 1.
     #[error("line {0} of the program file is bad")]
     BadProgram(usize),
     #[error("out of memory")]
@@ -38,7 +38,7 @@ pub fn load(alloc: Global, text: &[u8]) -> Result<Program, LoadFault>
     }
 }
 
-/// The words of lines, up to as many as the program has.
+/// The words of the lines; refuses a line that is no word or for which the program has no room.
 fn read_words(alloc: Global, size: usize, text: &[u8]) -> Result<Vec<Word>, LoadFault>
     requires { size ≤ 2 ^ 15 }
     ensures { ReadsWords size (lines text.now) result }
@@ -63,7 +63,7 @@ fn read_words(alloc: Global, size: usize, text: &[u8]) -> Result<Vec<Word>, Load
     Ok(words)
 }
 
-/// The size of a program that a line tells, if it tells one.
+/// The size of a program in a line, if the line is one.
 fn size_of_line(line: &[u8]) -> Option<usize>
     ensures { MatchOption result (is_size_line line.now ≡ false)
         (λ n. (is_size_line line.now ≡ true) × (n ≡ octal line.now)) }
@@ -76,7 +76,7 @@ fn size_of_line(line: &[u8]) -> Option<usize>
     }
 }
 
-/// The word of eight octal digits, if the line is that.
+/// The word of eight octal digits, if the line is one.
 fn word_of_line(line: &[u8]) -> Option<Word>
     ensures { MatchOption result (is_word_line line.now ≡ false)
         (λ w. (is_word_line line.now ≡ true) × (w ≡ octal line.now)) }

@@ -1,4 +1,4 @@
-//! What an order means by its fields: its address, the word there, the place of a character, a text.
+//! The operands of an order by its fields: its address, the word there, the position of a character, a text.
 
 ghost use Rattle.std.specs.Prelude.{◌≡◌, ◌+◌, ◌<◌, ◌≤◌, ◌^◌, ◌%◌, length};
 ghost use Rattle.std.specs.List.{range_with_len};
@@ -48,7 +48,7 @@ impl Program {
         self.operand_at(self.address(m, n))
     }
 
-    /// The place of the character that an order means.
+    /// The position of the character that an order names.
     pub(crate) fn place(&self, m: u32) -> u8
         requires { m < 4 }
         ensures value { result ≡ machine.place self.now (machine.operands 0 m 0) }
@@ -61,7 +61,7 @@ impl Program {
         }
     }
 
-    /// The text that an area of two words tells, if the area and the text stand in the program.
+    /// The text that an area of two words names, if the area and the text are in the program.
     pub(crate) fn text(&self, area: u32) -> Option<Text40>
         requires { area < 2 ^ 15 }
         ensures { result ≡ machine.text_at self.now area }
@@ -71,7 +71,7 @@ impl Program {
         self.text_of(count.value(), from.value())
     }
 
-    /// The text of so many characters that begin at an address, if there can be one.
+    /// The text of `count` characters that begin at an address, if the program has them.
     fn text_of(&self, count: u32, from: u32) -> Option<Text40>
         ensures { result ≡ machine.text_of self.now count from }
     {
@@ -87,7 +87,7 @@ impl Program {
         Some(Text40::of(self.characters(from as u16, count as u8)))
     }
 
-    /// The text of an order, with the program going on behind it; without one nothing changes.
+    /// The text of an order, with the program continuing after it; without a text nothing changes.
     pub(crate) fn take_text(&mut self, order: &Order) -> Option<Text40>
         ensures { TellsText result self.old self.new
             (machine.text_at self.old (machine.address self.old (fields order.now))) }

@@ -1,4 +1,4 @@
-//! What the operations make of words, and when branches are taken.
+//! The results of operations, and the tests of branches.
 
 ghost use Rattle.std.specs.Prelude.{◌≡◌};
 ghost use Rattle.g_mill.specs.Effect as effect;
@@ -39,7 +39,7 @@ pub(crate) fn is_taken(condition: Condition, x: Word, overflow: bool) -> bool
     }
 }
 
-/// Overflow behind the test of a branch.
+/// Overflow after the test of a branch.
 #[inline(always)]
 pub(crate) fn overflow_behind(condition: Condition, overflow: bool) -> bool
     ensures { result ≡ effect.overflow_behind condition overflow }

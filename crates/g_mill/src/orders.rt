@@ -1,5 +1,5 @@
-//! The orders one by one. An illegal one changes nothing. `at` is the address of the order: the program's own next address
-//! is looked at and changed by those alone that tell more than that they were done.
+//! The orders one by one. An illegal one changes nothing. `at` is the address of the order: only orders with another event than Ran read and change
+//! the program's own next address.
 
 ghost use Rattle.std.specs.Prelude.{◌≡◌, ◌<◌, ◌^◌, Some};
 ghost use Rattle.g_order.specs.Coding.{fields};
@@ -163,7 +163,7 @@ impl Program {
         PlainOutcome::Ran
     }
 
-    /// Goes to the address where the condition holds.
+    /// Jumps to the address if the condition holds.
     #[inline(always)]
     pub(crate) fn branch(&mut self, at: u32, condition: Condition, x: u32, n: u32) -> PlainOutcome
         requires at { at < 2 ^ 15 }
@@ -182,7 +182,7 @@ impl Program {
         }
     }
 
-    /// Goes to a routine, and keeps the address behind the order in the accumulator.
+    /// Jumps to a routine, and stores the address after the order in the accumulator.
     #[inline(always)]
     pub(crate) fn call(&mut self, at: u32, x: u32, n: u32) -> PlainOutcome
         requires at { at < 2 ^ 15 }
@@ -196,7 +196,7 @@ impl Program {
         PlainOutcome::Jumped(n)
     }
 
-    /// Goes back by the address that the accumulator keeps.
+    /// Returns by the address in the accumulator.
     #[inline(always)]
     pub(crate) fn exit(&mut self, at: u32, x: u32, n: u32) -> PlainOutcome
         requires at { at < 2 ^ 15 }
@@ -209,7 +209,7 @@ impl Program {
         PlainOutcome::Jumped((back + n) % ADDRESSES)
     }
 
-    /// Shifts the accumulator, as the address tells.
+    /// Shifts the accumulator; the address says how.
     #[inline(never)]
     pub(crate) fn shift(&mut self, at: u32, left: bool, x: u32, m: u32, n: u32) -> PlainOutcome
         requires at { at < 2 ^ 15 }
@@ -231,7 +231,7 @@ impl Program {
         PlainOutcome::Ran
     }
 
-    /// Copies words from where the accumulator tells to where the next one does.
+    /// Copies words from the address in the accumulator to the address in the next one.
     #[inline(never)]
     pub(crate) fn move_words(&mut self, at: u32, x: u32, m: u32, n: u32) -> PlainOutcome
         requires at { at < 2 ^ 15 }
@@ -253,7 +253,7 @@ impl Program {
         PlainOutcome::Ran
     }
 
-    /// Asks for a transfer with the control area at the address.
+    /// Requests a transfer with the control area at the address.
     pub(crate) fn transfer(&mut self, order: &Order) -> Event
         ensures { Does (Some result) self.old self.new
             (effect function.Transfer self.old (fields order.now)) }

@@ -10,7 +10,7 @@ use std::marker::Model;
 /// The words of the longest program, and one more than the greatest address.
 pub(crate) const LIMIT: u16 = 0x8000;
 
-/// The same for addresses on which orders reckon.
+/// The same for addresses in the arithmetic of orders.
 pub(crate) const ADDRESSES: u32 = 0x8000;
 
 /// A program of 32 to 32,768 words. Contracts see its words, the address of its next order and its overflow.
@@ -56,7 +56,7 @@ impl Program {
         self.words.len() as u32
     }
 
-    /// The word at an address, or `None` where the program has none there.
+    /// The word at an address, or `None` if the program has none there.
     #[inline(always)]
     pub fn word(&self, address: u16) -> Option<Word>
         ensures { result ≡ slice_get self.now.words address }
@@ -96,7 +96,7 @@ impl Program {
         bytes
     }
 
-    /// Puts a word at an address of the program.
+    /// Sets the word at an address of the program.
     pub fn set_word(&mut self, address: u16, word: Word)
         requires { address < size self.old }
         ensures { self.new ≡ record self.old { words = slice_set self.old.words address word } }
@@ -121,7 +121,7 @@ impl Program {
         self.overflow
     }
 
-    /// Makes the program go on at one of its ten entries, with overflow clear.
+    /// Starts the program at one of its ten entries, with overflow clear.
     pub fn enter(&mut self, entry: u8)
         requires { entry ≤ 9 }
         ensures { self.new ≡ record self.old { next = 20 + entry; overflow = false } }
@@ -130,14 +130,14 @@ impl Program {
         self.overflow = false;
     }
 
-    /// Makes the next address again that of the order before, for an order that was done and that is refused behind.
+    /// Sets the next address back by one, for an order that was executed and then refused.
     pub fn step_back(&mut self)
         ensures { self.new ≡ going_to self.old (preceding self.old.next) }
     {
         self.next = (self.next + (LIMIT - 1)) % LIMIT;
     }
 
-    /// Puts a word at an address as the result of an order, with overflow set where it was out of range.
+    /// Writes a word to an address as the result of an order, and sets overflow if it was out of range.
     #[inline(always)]
     pub(crate) fn put(&mut self, address: u32, word: Word, overflow: bool)
         requires { address < size self.old }
@@ -149,7 +149,7 @@ impl Program {
         }
     }
 
-    /// Puts a word into an accumulator as the result of an order, with overflow set where it was out of range.
+    /// Writes a word to an accumulator as the result of an order, and sets overflow if it was out of range.
     #[inline(always)]
     pub(crate) fn put_accumulator(&mut self, x: u32, word: Word, overflow: bool)
         requires { x < 8 }
@@ -160,7 +160,7 @@ impl Program {
         self.put(x, word, overflow);
     }
 
-    /// Goes on at an address.
+    /// Sets the next address.
     #[inline(always)]
     pub(crate) fn go(&mut self, address: u32)
         requires { address < 2 ^ 15 }
@@ -169,7 +169,7 @@ impl Program {
         self.next = address as u16;
     }
 
-    /// Goes on behind the order that was done.
+    /// Continues after the order that was executed.
     #[inline(always)]
     pub(crate) fn go_on(&mut self)
         ensures { self.new ≡ onward self.old }
@@ -216,7 +216,7 @@ fn copy_words(words: &mut [Word], from: usize, to: usize, count: usize)
     }
 }
 
-/// The address behind one.
+/// The next address, modulo 2^15.
 #[inline(always)]
 pub(crate) fn following(address: u32) -> u32
     requires { address < 2 ^ 15 }

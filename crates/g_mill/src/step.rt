@@ -17,25 +17,24 @@ use g_order::{
 };
 use g_word::Word;
 
-/// What came of an order that stood at an address, and that may tell no more than that it was done.
+/// The outcome of an order at an address, for orders whose event may be Ran.
 pub(crate) enum PlainOutcome {
-    /// It was done, and tells no more. The program goes on behind it, which it isn't told yet.
+    /// It was executed with the event Ran. The program continues after it; its next address isn't set yet.
     Ran,
-    /// It was done, and tells no more. The program goes on at this address, which it isn't told yet.
+    /// It was executed with the event Ran. The program continues at this address, which isn't set yet.
     Jumped(u32),
-    /// The same of a branch to this address that isn't taken: the program goes on behind it. It is told with its address, as one
-    /// that is taken is: an address that hangs on the test would have to wait for it, where the processor can guess how a
-    /// test comes out.
+    /// The same for a branch to this address that isn't taken: the program continues after it. The address is returned as for a taken branch, because
+    /// an address that depended on the test would have to wait for it, while the processor can predict the outcome of a test.
     Passed(u32),
     /// It is illegal. Nothing changed.
     Illegal,
-    /// It tells more than that it was done, if it isn't illegal. Nothing changed yet.
+    /// Its event isn't Ran, unless it is illegal. Nothing changed yet.
     NeedsStep,
 }
 
 impl Program {
-    /// Does the next order and tells what happened. An illegal order changes nothing; all others make the
-    /// program go on behind the order, or where it branches to.
+    /// Executes the next order and returns its event. An illegal order changes nothing; after any other the program continues after the order, or at
+    /// the target of its branch.
     pub fn step(&mut self) -> Event
         ensures machine { self.new ≡ (order self.old).0 }
         ensures event { result ≡ (order self.old).1 }
@@ -56,8 +55,8 @@ impl Program {
         }
     }
 
-    /// Does the next orders, at most so many, as long as they tell no more than that they were done; answers how many.
-    /// An order that tells more, or that is illegal, is left for `step`.
+    /// Executes the next orders, at most `most`, as long as their event is Ran, and returns their number. An order with another event, or an illegal
+    /// one, is left for `step`.
     #[inline(never)]
     pub fn run(&mut self, most: u32) -> u32
         ensures most { result ≤ most }
@@ -65,8 +64,8 @@ impl Program {
         ensures stops { result < most → (order self.new).1 ≢ Event.Ran }
     {
         let mut at = u32::from(self.next());
-        // The count has 64 bits, since no test of the loop crosses a border of 32 bytes of code then, as it is laid out. Some
-        // processors decode those that do anew at every order, and an order takes a quarter longer.
+        // The counter has 64 bits because with the resulting code layout no test of the loop crosses a 32-byte boundary. Some processors decode such
+        // tests again for every order, which makes an order a quarter slower.
         for done in 0..u64::from(most) {
             match self.run_one(at) {
                 PlainOutcome::Ran => at = following(at),
@@ -82,8 +81,8 @@ impl Program {
         most
     }
 
-    /// Does the order at an address if it tells no more than that it was done, and answers where the program goes on. It
-    /// isn't told that, since an address that is kept in memory takes longer than an order.
+    /// Executes the order at an address if its event is Ran, and returns where the program continues. The program's own next address isn't set,
+    /// because storing it in memory takes longer than an order.
     #[inline(always)]
     fn run_one(&mut self, at: u32) -> PlainOutcome
         requires { at < 2 ^ 15 }
@@ -95,8 +94,7 @@ impl Program {
         self.quick(at, word)
     }
 
-    /// Does the order of a word that stands at an address, if it tells no more than that it was done. It goes by the fields of
-    /// the word, of which each function reads its own.
+    /// Executes the order of a word at an address, if its event is Ran. Each function reads the fields of the word that it uses.
     #[inline(always)]
     #[tactic(auto, using(crate::proofs::RunningLaws::left_by))]
     fn quick(&mut self, at: u32, word: Word) -> PlainOutcome
@@ -165,7 +163,7 @@ impl Program {
         }
     }
 
-    /// `load_word`, written out for each operation, which then isn't asked for once more.
+    /// `load_word`, written out for each operation, so that the operation isn't tested again.
     #[inline(always)]
     fn load_by(&mut self, at: u32, operation: Operation, x: u32, m: u32, n: u32) -> PlainOutcome
         requires at { at < 2 ^ 15 }
@@ -257,7 +255,7 @@ impl Program {
         }
     }
 
-    /// Does the order of a word that tells more than that it was done; `None` where it is illegal.
+    /// Executes the order of a word whose event isn't Ran; `None` if it is illegal.
     #[inline(never)]
     #[tactic(auto, using(crate::proofs::RunningLaws::performed_by))]
     fn step_word(&mut self, word: Word) -> Option<Event>
@@ -269,8 +267,7 @@ impl Program {
         self.run_telling_order(function, &order)
     }
 
-    /// Does what a function makes of an order that tells more than that it was done; `None` where the order is illegal, as
-    /// it is of all other functions.
+    /// Executes an order of this function if its event isn't Ran; `None` if the order is illegal, which includes all other functions.
     #[tactic(auto, using(crate::proofs::RunningLaws::illegal_else))]
     fn run_telling_order(&mut self, function: Function, order: &Order) -> Option<Event>
         requires { TellsMore (effect function self.old (fields order.now)) }

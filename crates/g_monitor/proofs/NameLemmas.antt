@@ -1,4 +1,5 @@
--- A full name that is put behind a text, piece by piece.
+-- A full name appended to a text, piece by piece.
+-- serves: text_of_full
 use Rattle.std.proofs.Common.{◌≡◌, ℕ, List, [], ◌∷◌, ◌++◌, append_assoc, ap, refl, ◌∙◌}
 use Rattle.std.specs.Prelude.{codes}
 
@@ -6,7 +7,7 @@ use Rattle.std.specs.Prelude.{codes}
 more : (old front piece text new : List ℕ) → text ≡ old ++ front → new ≡ text ++ piece → new ≡ old ++ (front ++ piece)
 more old front piece text new is put = put ∙ ap (λ (t : List ℕ). t ++ piece) is ∙ append_assoc old front piece
 
--- what stands behind the local name
+-- the text after the local name
 behind_name : (name digits lang : List ℕ) → ((((name ++ 40 ∷ []) ++ digits) ++ 47 ∷ []) ++ lang) ++ 41 ∷ [] ≡ name ++ ((((codes "(" ++ digits) ++ codes "/") ++ lang) ++ codes ")")
 behind_name name digits lang =
     let one : (name ++ 40 ∷ []) ++ digits ≡ name ++ (40 ∷ digits) = append_assoc name (40 ∷ []) digits in

@@ -1,4 +1,5 @@
 -- Each text begins with its number.
+-- serves: parts, refusals_begin_with_their_numbers, text_of_full
 use Rattle.std.proofs.Common.{◌≡◌, List, [], length, ℕ, true, ◌+◌, ◌/◌, ◌%◌, ◌<◌, ◌≤◌, ◌^◌, ◌∷◌, ◌++◌, refl, sym, ap, ◌∙◌, arith}
 use Rattle.std.proofs.Math.Dec.{leb, ltb}
 use Rattle.std.proofs.lemmas.Bool.{and_parts, leb-true, ltb-true}
@@ -28,7 +29,7 @@ word_short (first ∷ others) is =
 pub lang_short : (lang : List ℕ) → is_lang lang ≡ true → length lang ≤ 4
 lang_short lang is = leb-true (length lang) 4 (and_parts (nat_le (length lang) 4) (list_all is_name_char lang) is).0
 
--- the text is the number, a space and what stands behind
+-- the text is the number, a space and a rest
 abbrev Numbered : ℕ → List ℕ → Type 0
 Numbered number text = (rest : List ℕ) × (text ≡ decimal number ++ 32 ∷ rest)
 

@@ -1,4 +1,4 @@
--- The lines of a job's monitoring file that no reply gives. No line here has its byte 10.
+-- The lines of a job's monitoring file that don't belong to a reply. No line here has its byte 10.
 use Rattle.std.specs.Prelude.{ℕ, List, ◌++◌, codes}
 use Rattle.std.specs.Fmt.{decimal}
 use Rattle.g_monitor.specs.declared.job_lines.JobLine.{JobLine}
@@ -7,11 +7,11 @@ use Rattle.g_monitor.specs.declared.job_lines.Mark.{Mark}
 use Rattle.g_monitor.specs.declared.job_lines.Mark.TheVariants as mark
 use Rattle.g_word.specs.Octal.{octal_digits}
 
--- the first line
+-- The first line.
 abbrev pub header : ℕ → List ℕ → List ℕ → List ℕ
 header number name user = ((((codes "JOB " ++ decimal number) ++ codes " ") ++ name) ++ codes " :") ++ user
 
--- what stands in front of a text
+-- The text before the rest of a marked line.
 abbrev pub mark_text : Mark → List ℕ
 mark_text mark.Taken = codes "- "
 mark_text mark.Fired = codes "+ "
@@ -20,10 +20,11 @@ mark_text mark.Halted = codes "HALTED "
 mark_text mark.Deleted = codes "DELETED "
 mark_text mark.Displayed = codes "DISPLAY "
 
+-- A text after its mark.
 abbrev pub marked : Mark → List ℕ → List ℕ
 marked mark text = mark_text mark ++ text
 
--- the lines of words and numbers
+-- The lines of words and numbers.
 abbrev pub job_line : JobLine → List ℕ
 job_line (line.Loaded size) = (codes "LOADED " ++ decimal size) ++ codes " WORDS"
 job_line (line.Illegal word at) = ((codes "ILLEGAL " ++ octal_digits 8 word) ++ codes " AT ") ++ decimal at

@@ -1,4 +1,4 @@
--- What the contracts cite: the texts that jobs and operators read.
+-- The definitions that contracts cite: the texts that jobs and operators read.
 pub mod JobLines
 pub mod Listing
 pub mod Parts

@@ -1,4 +1,4 @@
--- THE NUMBERS AND TEXTS OF REFUSALS, but those of the run itself. No text here has a byte 10.
+-- THE NUMBERS AND TEXTS OF REFUSALS, except those of the run itself. No text here has a byte 10.
 use Rattle.std.specs.Prelude.{ℕ, List, [], ◌++◌, codes}
 use Rattle.g_plain.specs.declared.faults.StoreFault.{StoreFault}
 use Rattle.g_plain.specs.declared.faults.StoreFault.TheVariants as fault
@@ -6,15 +6,14 @@ use Rattle.g_monitor.specs.declared.errors.CommandError.{CommandError}
 use Rattle.g_monitor.specs.declared.errors.CommandError.TheVariants as error
 use Rattle.g_monitor.specs.Parts.{mode_word, with_number, with_numbers, with_copy}
 
--- three faults of a store are never printed: who waits is told to the operator, a stop has a line of its own, and want
--- of memory ends the run
+-- The fault is printed. Three are not: a wait for a tape is reported to the operator, a stop has a line of its own, and out of memory ends the run.
 abbrev pub IsPrinted : StoreFault → Type 0
 IsPrinted (fault.WaitTape serial) = ⊥
 IsPrinted fault.Stopped = ⊥
 IsPrinted fault.NoMemory = ⊥
 IsPrinted other = Unit {0}
 
--- of a fault of a store
+-- The text of a fault of a store.
 abbrev pub fault_line : StoreFault → List ℕ
 fault_line fault.NoUser = codes "1 NO USER"
 fault_line fault.NoFile = codes "2 NO FILE"
@@ -53,7 +52,7 @@ fault_line (fault.RackNotEmpty serial) = with_number (codes "34 RACK NOT EMPTY "
 fault_line (fault.LostDirectory user) = codes "35 LOST DIRECTORY :" ++ user
 fault_line (fault.ReelNotFree serial) = with_number (codes "36 REEL NOT FREE ") serial
 
--- of an error of a command that no call of a store answers
+-- The text of a command's error that isn't a store's fault.
 abbrev pub error_line : CommandError → List ℕ
 error_line (error.BadLine place) = with_number (codes "50 BAD LINE ") place
 error_line error.UnknownVerb = codes "51 UNKNOWN VERB"
@@ -68,6 +67,7 @@ error_line (error.BadParameter index) = with_number (codes "59 BAD PARAMETER ") 
 error_line error.WheneversFull = codes "60 WHENEVERS FULL"
 error_line (error.BadPlan line) = with_number (codes "61 BAD PLAN ") line
 
+-- The number of an error.
 abbrev pub error_number : CommandError → ℕ
 error_number (error.BadLine place) = 50
 error_number error.UnknownVerb = 51

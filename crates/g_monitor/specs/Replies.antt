@@ -8,7 +8,7 @@ use Rattle.g_plain.specs.declared.calls.StoreReply.TheVariants.{Done, Made, Appe
 use Rattle.g_monitor.specs.Listing.{listed_lines, row_line}
 use Rattle.g_monitor.specs.Parts.{full_text, modes_text}
 
--- of a call that is done and hands nothing back
+-- The line of a granted call that returns nothing.
 abbrev pub done_line : StoreCall → List ℕ
 done_line (NewUser user space time money) = codes "NEW USER :" ++ user
 done_line (Budget user kind amount) = codes "BUDGET SET"
@@ -16,11 +16,12 @@ done_line (TrapGo path user modes) = codes "TRAPS SET"
 done_line (TrapStop path user modes) = codes "TRAPS SET"
 done_line call = []
 
+-- The user whose files a call lists.
 abbrev pub listed_user : StoreCall → List ℕ
 listed_user (ListFiles user) = user
 listed_user call = []
 
--- the last line, which each granted call has
+-- The last line, which each granted call has.
 abbrev pub last_line : StoreCall → StoreReply → List ℕ
 last_line call Done = done_line call
 last_line call (Made full) = codes "MADE " ++ full_text full
@@ -32,12 +33,12 @@ last_line call (Listing rows) = ((codes "LISTED :" ++ listed_user call) ++ codes
 last_line call (Modes modes) = codes "TRAPS " ++ modes_text modes
 last_line call (Retrieved full) = codes "RETRIEVED " ++ full_text full
 
--- what is listed stands above it
+-- The lines of a listing, which precede the last line.
 abbrev pub lines_above : StoreReply → List (List ℕ)
 lines_above (Bytes full bytes) = listed_lines bytes
 lines_above (Listing rows) = map row_line rows
 lines_above reply = []
 
--- THE LINES OF A REPLY: of a Fetch what LISTFILE prints
+-- THE LINES OF A REPLY; for a Fetch they are what LISTFILE prints.
 abbrev pub reply_lines : StoreCall → StoreReply → List (List ℕ)
 reply_lines call reply = lines_above reply ++ last_line call reply ∷ []

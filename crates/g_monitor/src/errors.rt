@@ -1,4 +1,4 @@
-//! The errors of commands that no call of a store answers.
+//! Errors of commands that aren't faults of a store.
 ghost use Rattle.std.specs.Prelude.{◌≡◌, ◌++◌, OnOk};
 ghost use Rattle.g_monitor.specs.Refusals.{error_line, error_number};
 
@@ -7,14 +7,14 @@ use g_base::NoMemory;
 use g_name::Text;
 use thiserror::Error;
 
-/// Why a command of a job isn't done, where no call of a store says so.
+/// Why a command of a job isn't executed, other than a fault of a store.
 #[derive(Clone, Copy, Debug, PartialEq, Eq, Error)]
 pub enum CommandError {
-    /// The line isn't in the command language. The number is a count of bytes: the length of its longest front that
-    /// begins some line; 240 where the line is longer than that.
+    /// The line isn't in the command language. The number of bytes is the length of its longest prefix that begins some line; 240 if the line is
+    /// longer than that.
     #[error("the line goes wrong behind its first {0} bytes")]
     BadLine(usize),
-    /// The verb is none of the language, and no macro has its name.
+    /// The language has no such verb, and no macro has its name.
     #[error("unknown verb")]
     UnknownVerb,
     /// A macro was called in the eighth level.
@@ -38,7 +38,7 @@ pub enum CommandError {
     /// The unit is assigned.
     #[error("in use")]
     InUse,
-    /// The first parameter, from 1, that isn't of the verb's form, or is one too many, or lacks.
+    /// The first parameter, from 1, that isn't of the verb's form, or is one too many, or is missing.
     #[error("parameter {0} is bad")]
     BadParameter(usize),
     /// A seventeenth command would wait in the level.
@@ -71,8 +71,8 @@ impl CommandError {
     }
 }
 
-/// Puts number and text of an error behind the text, without a byte 10 (`docs/MANUAL.md`, "Texts of jobs and refusals").
-/// Where memory is wanting, a front of it may stand there.
+/// Appends number and text of an error, without a byte 10 (`docs/MANUAL.md`, "Texts of jobs and refusals"). If memory runs out, a prefix of it may
+/// have been appended.
 pub fn push_error(text: &mut Text, error: CommandError) -> Result<(), NoMemory>
     ensures { OnOk result (text.new ≡ text.old ++ error_line error) }
 {

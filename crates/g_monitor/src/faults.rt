@@ -1,4 +1,4 @@
-//! What is printed of a fault of a store.
+//! The texts of a store's faults.
 ghost use Rattle.std.specs.Prelude.{◌≡◌, ◌++◌, IfOk, OnOk};
 ghost use Rattle.g_monitor.specs.Refusals.{IsPrinted, fault_line};
 
@@ -8,8 +8,7 @@ use g_name::Text;
 use g_plain::StoreFault;
 use std::alloc::Global;
 
-/// Puts number and text of a fault behind the text, without a byte 10. Where memory is wanting, a front of it may stand
-/// there.
+/// Appends number and text of a fault, without a byte 10. If memory runs out, a prefix of it may have been appended.
 pub fn push_fault(text: &mut Text, fault: &StoreFault) -> Result<(), NoMemory>
     requires printed { IsPrinted fault.now }
     ensures { OnOk result (text.new ≡ text.old ++ fault_line fault.now) }

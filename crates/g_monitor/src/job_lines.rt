@@ -1,4 +1,4 @@
-//! The lines of a job's monitoring file that no reply gives.
+//! The lines of a job's monitoring file that don't belong to a reply.
 ghost use Rattle.std.specs.Prelude.{◌≡◌, ◌++◌, OnOk};
 ghost use Rattle.std.specs.Fmt.{decimal};
 ghost use Rattle.g_monitor.specs.JobLines.{header, mark_text, marked, job_line};
@@ -10,7 +10,7 @@ use g_lines::push_decimal;
 use g_name::{Local, Text, User};
 use g_word::Word;
 
-/// What stands in front of a text.
+/// The text before the rest of a marked line.
 #[derive(Clone, Copy, Debug, PartialEq, Eq)]
 pub enum Mark {
     /// A line that was taken, without the spaces at its ends: `- `.
@@ -30,9 +30,9 @@ pub enum Mark {
 /// A line of words and numbers.
 #[derive(Clone, Copy, Debug, PartialEq, Eq)]
 pub enum JobLine {
-    /// A program of so many words was loaded.
+    /// A program of this many words was loaded.
     Loaded(u32),
-    /// The program came to an order that is illegal: the word, and its address.
+    /// The program reached an illegal order: the word, and its address.
     Illegal { word: Word, at: u16 },
     /// A unit was assigned.
     Assigned,
@@ -48,14 +48,13 @@ pub enum JobLine {
     MoneyUp(u64),
     /// The last line of a monitoring file that is full.
     Full,
-    /// The last line of a job that a stop broke.
+    /// The last line of a job that SHUT or a failed device write ended.
     Break,
     /// The last line of a job that waits for this reel at the end of the run.
     WaitingTape(u32),
 }
 
-/// Puts the first line of a monitoring file behind the text, without a byte 10. Where memory is wanting, a front of it
-/// may stand there.
+/// Appends the first line of a monitoring file, without a byte 10. If memory runs out, a prefix of it may have been appended.
 pub fn push_header(text: &mut Text, number: u64, name: &Local, user: &User) -> Result<(), NoMemory>
     ensures { OnOk result (text.new ≡ text.old ++ header number name.now user.now) }
 {
@@ -66,7 +65,7 @@ pub fn push_header(text: &mut Text, number: u64, name: &Local, user: &User) -> R
     text.extend(user.as_slice())
 }
 
-/// What stands in front of a text.
+/// The text before the rest of a marked line.
 fn mark_text(mark: Mark) -> &'static [u8]
     ensures { result.now ≡ mark_text mark }
 {
@@ -80,15 +79,14 @@ fn mark_text(mark: Mark) -> &'static [u8]
     }
 }
 
-/// Puts a text with what stands in front of it behind the text, without a byte 10. Where memory is wanting, a front of it
-/// may stand there.
+/// Appends a mark and its text, without a byte 10. If memory runs out, a prefix of it may have been appended.
 pub fn push_marked(text: &mut Text, mark: Mark, rest: &[u8]) -> Result<(), NoMemory>
     ensures { OnOk result (text.new ≡ text.old ++ marked mark rest.now) }
 {
     push_words(text, mark_text(mark), rest)
 }
 
-/// Puts a number between words behind the text.
+/// Appends a number between words.
 fn push_between(text: &mut Text, before: &[u8], number: u64, behind: &[u8]) -> Result<(), NoMemory>
     ensures { OnOk result (text.new ≡ text.old ++ ((before.now ++ decimal number) ++ behind.now)) }
 {
@@ -96,7 +94,7 @@ fn push_between(text: &mut Text, before: &[u8], number: u64, behind: &[u8]) -> R
     text.extend(behind)
 }
 
-/// Puts the line of an illegal order behind the text.
+/// Appends the line of an illegal order.
 fn push_illegal(text: &mut Text, word: Word, at: u16) -> Result<(), NoMemory>
     ensures { OnOk result (text.new ≡ text.old ++ job_line (line.Illegal word at)) }
 {
@@ -106,8 +104,7 @@ fn push_illegal(text: &mut Text, word: Word, at: u16) -> Result<(), NoMemory>
     push_decimal(text, u64::from(at))
 }
 
-/// Puts a line of words and numbers behind the text, without a byte 10. Where memory is wanting, a front of it may stand
-/// there.
+/// Appends a line of words and numbers, without a byte 10. If memory runs out, a prefix of it may have been appended.
 pub fn push_job_line(text: &mut Text, line: JobLine) -> Result<(), NoMemory>
     ensures { OnOk result (text.new ≡ text.old ++ job_line line) }
 {

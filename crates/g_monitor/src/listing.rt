@@ -1,4 +1,4 @@
-//! Files and directories as they are listed.
+//! The listings of files and directories.
 ghost use Rattle.std.specs.Prelude.{◌≡◌, ◌++◌, map, IfOk, IsTrue, OnOk};
 ghost use Rattle.g_lines.specs.Lines.{text_of};
 ghost use Rattle.g_monitor.specs.Listing.{shown, shown_line, listed_lines, row_line};
@@ -9,7 +9,7 @@ use g_lines::{Lines, push_decimal};
 use g_name::{Full, Text};
 use std::alloc::Global;
 
-/// A byte as a listing shows it: `?` in the place of one that can't be printed.
+/// The byte that a listing shows: `?` in place of one that can't be printed.
 fn shown(byte: u8) -> u8
     ensures { result ≡ shown byte }
 {
@@ -20,8 +20,7 @@ fn shown(byte: u8) -> u8
     }
 }
 
-/// Puts a line of a file behind the text, behind `| ` and without a byte 10. Where memory is wanting, a front of it may
-/// stand there.
+/// Appends `| ` and a line of a file, without a byte 10. If memory runs out, a prefix of it may have been appended.
 pub fn push_shown(text: &mut Text, line: &[u8]) -> Result<(), NoMemory>
     ensures { OnOk result (text.new ≡ text.old ++ shown_line line.now) }
 {
@@ -35,8 +34,8 @@ pub fn push_shown(text: &mut Text, line: &[u8]) -> Result<(), NoMemory>
     Ok(())
 }
 
-/// Whether each byte can be printed, so that the line is shown as it is. It looks at all of them, which takes less time
-/// than to look for the first that can't be.
+/// Whether each byte can be printed, so that the line is shown unchanged. Checking all of them takes less time than searching for the first that
+/// can't be printed.
 fn are_printed(line: &[u8]) -> bool
     ensures { IsTrue result → map shown line.now ≡ line.now }
 {
@@ -47,8 +46,8 @@ fn are_printed(line: &[u8]) -> bool
     printed
 }
 
-/// Puts a file with its length in bytes behind the text, as the listing of a directory has it, without a byte 10. Where
-/// memory is wanting, a front of it may stand there.
+/// Appends a file with its length in bytes, in the form of a directory's listing, without a byte 10. If memory runs out, a prefix of it may have been
+/// appended.
 pub fn push_row(text: &mut Text, row: &(Full, u32)) -> Result<(), NoMemory>
     ensures { OnOk result (text.new ≡ text.old ++ row_line row.now) }
 {
@@ -62,7 +61,7 @@ pub fn push_row(text: &mut Text, row: &(Full, u32)) -> Result<(), NoMemory>
     push_decimal(text, u64::from(*len))
 }
 
-/// Puts the lines of a file behind the text, each with its byte 10.
+/// Appends the lines of a file, each with its byte 10.
 #[tactic(auto, using(crate::proofs::LineLemmas::line_behind))]
 pub(crate) fn push_list(text: &mut Text, bytes: &[u8]) -> Result<(), NoMemory>
     ensures { OnOk result (text.new ≡ text.old ++ text_of (listed_lines bytes.now)) }
@@ -75,7 +74,7 @@ pub(crate) fn push_list(text: &mut Text, bytes: &[u8]) -> Result<(), NoMemory>
     Ok(())
 }
 
-/// Puts the files of a directory behind the text, each on its line with its byte 10.
+/// Appends the files of a directory, each on its line with its byte 10.
 #[tactic(auto, using(crate::proofs::LineLemmas::line_behind))]
 pub(crate) fn push_rows(text: &mut Text, rows: &[(Full, u32)]) -> Result<(), NoMemory>
     ensures { OnOk result (text.new ≡ text.old ++ text_of (map row_line rows.now)) }
@@ -87,8 +86,7 @@ pub(crate) fn push_rows(text: &mut Text, rows: &[(Full, u32)]) -> Result<(), NoM
     Ok(())
 }
 
-/// The lines of a file as LISTFILE shows them, each behind `| ` and with its byte 10 (`docs/MANUAL.md`, "Texts of jobs
-/// and refusals").
+/// The lines of a file as LISTFILE shows them, each after `| ` and with its byte 10 (`docs/MANUAL.md`, "Texts of jobs and refusals").
 pub fn list_text(alloc: Global, bytes: &[u8]) -> Result<Text, NoMemory>
     ensures { IfOk result (λ text. text ≡ text_of (listed_lines bytes.now)) }
 {

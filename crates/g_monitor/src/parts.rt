@@ -26,7 +26,7 @@ pub fn mode_word(mode: Mode) -> &'static [u8]
     }
 }
 
-/// Puts the text of a full name behind the text; without memory the text stays as it was.
+/// Appends the text of a full name; without memory the text is unchanged.
 pub fn push_full(text: &mut Text, full: &Full) -> Result<(), NoMemory>
     ensures { OnOk result (text.new ≡ text.old ++ full_text full.now) }
 {
@@ -34,7 +34,7 @@ pub fn push_full(text: &mut Text, full: &Full) -> Result<(), NoMemory>
     text.extend(name.as_slice())
 }
 
-/// The text of a full name, which has at most 38 bytes and takes no memory here: so one place alone asks for room.
+/// The text of a full name, which has at most 38 bytes and is built without allocation, so that appending it needs only one allocation.
 fn text_of_full(full: &Full) -> ArrayVec<u8, 40>
     ensures { result.items ≡ full_text full.now }
 {
@@ -51,7 +51,7 @@ fn text_of_full(full: &Full) -> ArrayVec<u8, 40>
     name
 }
 
-/// Puts a few bytes behind those of a name.
+/// Appends a few bytes to those of a name.
 fn put(name: &mut ArrayVec<u8, 40>, bytes: &[u8])
     requires { array_vec_len name.old + length bytes.now ≤ 40 }
     ensures items { name.new.items ≡ name.old.items ++ bytes.now }
@@ -62,7 +62,7 @@ fn put(name: &mut ArrayVec<u8, 40>, bytes: &[u8])
     }
 }
 
-/// Puts the digits of a generation behind a name. Most generations have one.
+/// Appends the digits of a generation to a name. Most generations have one digit.
 fn put_generation(name: &mut ArrayVec<u8, 40>, generation: u16)
     requires { array_vec_len name.old + 5 ≤ 40 }
     ensures items { name.new.items ≡ name.old.items ++ decimal generation }
@@ -74,7 +74,7 @@ fn put_generation(name: &mut ArrayVec<u8, 40>, generation: u16)
     }
 }
 
-/// Puts the digits of a generation behind the text. Most generations have one.
+/// Appends the digits of a generation. Most generations have one digit.
 pub(crate) fn push_generation(text: &mut Text, generation: u16) -> Result<(), NoMemory>
     ensures ok { OnOk result (text.new ≡ text.old ++ decimal generation) }
 {
@@ -84,7 +84,7 @@ pub(crate) fn push_generation(text: &mut Text, generation: u16) -> Result<(), No
     }
 }
 
-/// The digit of a number that has one alone.
+/// The digit of a number that has only one.
 #[tactic(auto, using(crate::proofs::NumberLemmas::only_digit))]
 fn only_digit(number: u16) -> Option<u8>
     ensures { IfSome result (λ digit. decimal number ≡ digit ∷ []) }
@@ -96,7 +96,7 @@ fn only_digit(number: u16) -> Option<u8>
     }
 }
 
-/// Puts some words and a number behind the text.
+/// Appends words and a number.
 pub fn push_number(text: &mut Text, words: &[u8], number: u64) -> Result<(), NoMemory>
     ensures { OnOk result (text.new ≡ text.old ++ with_number words.now number) }
 {
@@ -104,7 +104,7 @@ pub fn push_number(text: &mut Text, words: &[u8], number: u64) -> Result<(), NoM
     push_decimal(text, number)
 }
 
-/// Puts some words and two numbers behind the text.
+/// Appends words and two numbers.
 pub fn push_numbers(text: &mut Text, words: &[u8], first: u64, second: u64) -> Result<(), NoMemory>
     ensures { OnOk result (text.new ≡ text.old ++ with_numbers words.now first second) }
 {
@@ -114,7 +114,7 @@ pub fn push_numbers(text: &mut Text, words: &[u8], first: u64, second: u64) -> R
     push_decimal(text, second)
 }
 
-/// Puts some words, a full name and a number behind the text.
+/// Appends words, a full name and a number.
 pub(crate) fn push_copy(
     text: &mut Text,
     words: &[u8],
@@ -129,7 +129,7 @@ pub(crate) fn push_copy(
     push_decimal(text, number)
 }
 
-/// Puts words and a text behind the text.
+/// Appends words and a text.
 pub(crate) fn push_words(text: &mut Text, words: &[u8], rest: &[u8]) -> Result<(), NoMemory>
     ensures { OnOk result (text.new ≡ text.old ++ (words.now ++ rest.now)) }
 {
@@ -137,7 +137,7 @@ pub(crate) fn push_words(text: &mut Text, words: &[u8], rest: &[u8]) -> Result<(
     text.extend(rest)
 }
 
-/// Puts words and a full name behind the text.
+/// Appends words and a full name.
 pub(crate) fn push_named(text: &mut Text, words: &[u8], full: &Full) -> Result<(), NoMemory>
     ensures { OnOk result (text.new ≡ text.old ++ (words.now ++ full_text full.now)) }
 {
@@ -145,14 +145,14 @@ pub(crate) fn push_named(text: &mut Text, words: &[u8], full: &Full) -> Result<(
     push_full(text, full)
 }
 
-/// The letter of a mode, or a dot where it is closed.
+/// The letter of a mode, or a dot if the mode is closed.
 fn shown_mode(modes: Modes, mode: Mode, letter: u8) -> u8
     ensures { result ≡ shown_mode modes mode letter }
 {
     if modes.contains(mode) { letter } else { b'.' }
 }
 
-/// Puts `RWAXE` behind the text, with a dot for each mode that is closed.
+/// Appends `RWAXE`, with a dot for each mode that is closed.
 #[tactic(auto, unfolding(crate::specs::Parts::modes_text))]
 pub(crate) fn push_modes(text: &mut Text, modes: Modes) -> Result<(), NoMemory>
     ensures { OnOk result (text.new ≡ text.old ++ modes_text modes) }
@@ -166,7 +166,7 @@ pub(crate) fn push_modes(text: &mut Text, modes: Modes) -> Result<(), NoMemory>
     ])
 }
 
-/// Puts a word in eight octal digits behind the text.
+/// Appends a word in eight octal digits.
 pub(crate) fn push_octal(text: &mut Text, word: Word) -> Result<(), NoMemory>
     ensures { OnOk result (text.new ≡ text.old ++ octal_digits 8 word) }
 {

@@ -1,4 +1,4 @@
-//! What is printed of a call that a store grants.
+//! The texts of a store's granted calls.
 ghost use Rattle.std.specs.Prelude.{◌≡◌, ◌++◌, IfOk, OnOk, codes};
 ghost use Rattle.std.specs.Fmt.{decimal};
 ghost use Rattle.g_lines.specs.Lines.{text_of};
@@ -12,7 +12,7 @@ use g_name::Text;
 use g_plain::{StoreCall, StoreReply};
 use std::alloc::Global;
 
-/// Puts the line of a call behind the text that is done and hands nothing back.
+/// Appends the line of a granted call that returns nothing.
 fn push_done(text: &mut Text, call: &StoreCall) -> Result<(), NoMemory>
     ensures { OnOk result (text.new ≡ text.old ++ done_line call.now) }
 {
@@ -24,7 +24,7 @@ fn push_done(text: &mut Text, call: &StoreCall) -> Result<(), NoMemory>
     }
 }
 
-/// Puts the last line of a listing of so many files behind the text.
+/// Appends the last line of a listing of this many files.
 fn push_count(text: &mut Text, call: &StoreCall, count: usize) -> Result<(), NoMemory>
     ensures { OnOk result (text.new ≡ text.old ++ (((codes "LISTED :" ++ listed_user call.now) ++ codes " ") ++ decimal count)) }
 {
@@ -35,8 +35,7 @@ fn push_count(text: &mut Text, call: &StoreCall, count: usize) -> Result<(), NoM
     push_number(text, b" ", count as u64)
 }
 
-/// Puts the last line of a granted call behind the text, without its byte 10. Where memory is wanting, a front of it may
-/// stand there.
+/// Appends the last line of a granted call, without its byte 10. If memory runs out, a prefix of it may have been appended.
 pub fn push_last(text: &mut Text, call: &StoreCall, reply: &StoreReply) -> Result<(), NoMemory>
     requires kind { IsReplyTo call.now reply.now }
     ensures { OnOk result (text.new ≡ text.old ++ last_line call.now reply.now) }
@@ -57,7 +56,7 @@ pub fn push_last(text: &mut Text, call: &StoreCall, reply: &StoreReply) -> Resul
     }
 }
 
-/// Puts what stands above the last line behind the text, each line with its byte 10.
+/// Appends the lines before the last one, each with its byte 10.
 fn push_above(text: &mut Text, reply: &StoreReply) -> Result<(), NoMemory>
     ensures { OnOk result (text.new ≡ text.old ++ text_of (lines_above reply.now)) }
 {
@@ -68,8 +67,7 @@ fn push_above(text: &mut Text, reply: &StoreReply) -> Result<(), NoMemory>
     }
 }
 
-/// What is printed of a granted call, each line with its byte 10: of a Fetch what LISTFILE prints (`docs/MANUAL.md`,
-/// "Texts of jobs and refusals").
+/// The text of a granted call, each line with its byte 10; for a Fetch it is what LISTFILE prints (`docs/MANUAL.md`, "Texts of jobs and refusals").
 #[tactic(auto, using(crate::proofs::LineLemmas::last_behind))]
 pub fn reply_text(alloc: Global, call: &StoreCall, reply: &StoreReply) -> Result<Text, NoMemory>
     requires kind { IsReplyTo call.now reply.now }

@@ -1,4 +1,5 @@
--- Seats at the terminals 1 to 8, no two at the same: there are at most seven where one more may come.
+-- Seats at the terminals 1 to 8, each at a different one: at most seven are taken if one terminal is free.
+-- serves: ended, login, logout (left), place_of
 use Rattle.std.proofs.Common.{◌≡◌, ◌∙◌, ℕ, zero, suc, ◌+◌, ◌<◌, ◌≤◌, ◌==◌, Bool, true, false, append-nil, cond, drop, drop_of_length-le, eqb-true, get_or, if◌then◌else◌, is_some, length-set, not, List, [], ◌∷◌, ◌++◌, length, set, map, filter, slice_get, slice_index_or, slice_set, Option, Some, None, refl, sym, ap, subst, take, take_all, arith, inl, inr}
 use Rattle.std.specs.List.{refill}
 use Rattle.std.proofs.lemmas.Bool.{cases_lt, false≢true, eq-eqb, ne_eqb}
@@ -9,7 +10,7 @@ use Rattle.g_mop.specs.declared.seat.Seat.{Seat}
 abbrev nobody : Option Seat
 nobody = None
 
--- 1 where one is there
+-- 1 if there is a seat, otherwise 0
 abbrev count_of : Option Seat → ℕ
 count_of None = 0
 count_of (Some s) = 1
@@ -18,7 +19,7 @@ count_one : (o : Option Seat) → count_of o ≤ 1
 count_one None = omega arith
 count_one (Some s) = omega arith
 
--- how many seats are at the terminals up to this one
+-- the number of seats at the terminals up to this one
 abbrev held_to : ℕ → List Seat → ℕ
 held_to zero seats = 0
 held_to (suc n) seats = count_of (seat_at (suc n) seats) + held_to n seats
@@ -42,7 +43,7 @@ held_free (suc n) t seats least most free =
           omega (arith, one, rest)
     ]
 
--- another seat in front
+-- another seat at the front
 seat_other : (k : ℕ) (s : Seat) (seats : List Seat) → (s.terminal ≡ k → ⊥) → seat_at k (s ∷ seats) ≡ seat_at k seats
 seat_other k s seats differs = ap (λ (b : Bool). cond b (Some s) (seat_at k seats)) (ne_eqb s.terminal k differs)
 
@@ -83,14 +84,14 @@ all_held (s ∷ seats) (least, most, free, are) =
     let more = held_more 8 s seats least most free in
     omega (arith, rest, more)
 
--- THERE IS ROOM for a terminal at which nobody is
+-- THERE IS ROOM for a terminal that is free
 pub has_room : (seats : List Seat) (t : ℕ) → AreSeats seats → 1 ≤ t → t ≤ 8 → seat_at t seats ≡ None → length seats < 8
 has_room seats t are least most free =
     let held = all_held seats are in
     let few = held_free 8 t seats least most free in
     omega (arith, held, few)
 
--- nobody is at a terminal, in front and behind
+-- a terminal that is free in a list is free in its parts
 none_parts : (b : Bool) (s : Seat) (o : Option Seat) → cond b (Some s) o ≡ None → (b ≡ false) × (o ≡ None)
 none_parts true s o is = absurd (let one : Option Seat = Some s in let same : one ≡ None = is in let no : ⊥ = cc in no)
 none_parts false s o is = (refl, is)
@@ -107,14 +108,14 @@ none_behind k t job (s ∷ seats) free differs =
 turned : (a b : ℕ) → (a == b) ≡ false → (b == a) ≡ false
 turned a b fails = ne_eqb b a (λ e. false≢true (sym fails ∙ eq-eqb a b (sym e)))
 
--- with one seat more
+-- with one more seat
 pub seats_push : (t job : ℕ) (seats : List Seat) → AreSeats seats → 1 ≤ t → t ≤ 8 → seat_at t seats ≡ None → AreSeats (seats ++ seat_taken t job ∷ [])
 seats_push t job [] are least most free = (least, most, refl, tt)
 seats_push t job (s ∷ seats) (low, high, alone, are) least most free =
     let parts = none_parts (s.terminal == t) s (seat_at t seats) free in
     (low, high, none_behind s.terminal t job seats alone (turned s.terminal t parts.0), seats_push t job seats are least most parts.1)
 
--- without that of a job
+-- without the seat of a job
 none_kept : (k : ℕ) (p : Seat → Bool) (seats : List Seat) → seat_at k seats ≡ None → seat_at k (filter p seats) ≡ None
 none_kept k p [] free = refl
 none_kept k p (s ∷ seats) free =
@@ -135,7 +136,7 @@ kept_seats p (s ∷ seats) (low, high, alone, are) = by (p s) (kept_seats p seat
 pub seats_without : (job : ℕ) (seats : List Seat) → AreSeats seats → AreSeats (without_seat job seats)
 seats_without job seats are = kept_seats (λ s. not (s.job == job)) seats are
 
--- one that was logged out
+-- a seat that was logged out
 left_same : (t : ℕ) (s : Seat) → (left_at t s).terminal ≡ s.terminal
 left_same t s = by (s.terminal == t)
   where
@@ -171,7 +172,7 @@ seats_left t (s ∷ seats) (low, high, alone, are) =
       seats_left t seats are,
     )
 
--- who stands somewhere is at its terminal
+-- the seat at a place is found by its terminal
 not_none : (place t : ℕ) (s : Seat) (seats : List Seat) → slice_get seats place ≡ Some s → s.terminal ≡ t → seat_at t seats ≡ None → ⊥
 not_none place t s [] there same free = let one : Option Seat = Some s in let no : nobody ≡ one = there in let no : ⊥ = cc in no
 not_none zero t s (x ∷ seats) there same free =
@@ -181,7 +182,7 @@ not_none zero t s (x ∷ seats) there same free =
 not_none (suc place) t s (x ∷ seats) there same free =
     not_none place t s seats there same (none_parts (x.terminal == t) x (seat_at t seats) free).1
 
--- THE ONE AT ITS PLACE is the one that is logged out
+-- the SEAT AT THE PLACE is the one that is logged out
 pub left_set : (place t : ℕ) (s : Seat) (seats : List Seat) → AreSeats seats → slice_get seats place ≡ Some s → s.terminal ≡ t
     → set seats place (record s { out = true }) ≡ map (left_at t) seats
 left_set place t s [] are there same = refl
@@ -194,7 +195,7 @@ left_set (suc place) t s (x ∷ seats) (low, high, alone, are) there same =
     let other : (x.terminal == t) ≡ false = ne_eqb x.terminal t (λ e. not_none place t s seats there same (subst (λ (k : ℕ). seat_at k seats ≡ None) e alone)) in
     ap (λ (ys : List Seat). x ∷ ys) (left_set place t s seats are there same) ∙ ap (λ (y : Seat). y ∷ map (left_at t) seats) (sym (left_other t x other))
 
--- who is found is at the terminal
+-- a seat that is found is the terminal's
 pub found_at : (t : ℕ) (s : Seat) (seats : List Seat) → seat_at t seats ≡ Some s → (s.terminal == t) ≡ true
 found_at t s [] is = absurd (let one : Option Seat = Some s in let same : nobody ≡ one = is in let no : ⊥ = cc in no)
 found_at t s (x ∷ seats) is = by (x.terminal == t) refl is (found_at t s seats)
@@ -205,7 +206,7 @@ found_at t s (x ∷ seats) is = by (x.terminal == t) refl is (found_at t s seats
         ap (λ (y : Seat). y.terminal == t) (sym is) ∙ here
     by false here same rest = rest same
 
--- the one at the place that a search comes to
+-- the seat at the place that a search finds
 drop_found : (place t : ℕ) (seats : List Seat) (d : Seat) → place < length seats → (get_or seats place d).terminal ≡ t → seat_at t (drop place seats) ≡ Some (get_or seats place d)
 drop_found place t [] d less is = absurd (omega (arith, less))
 drop_found zero t (s ∷ seats) d less is = seat_here t s seats is
@@ -219,7 +220,7 @@ pub nobody_at : (o : Option Seat) (b : Bool) → b ≡ is_some o → b ≡ false
 nobody_at None b is fails = refl
 nobody_at (Some s) b is fails = absurd (false≢true (sym fails ∙ is))
 
--- the write of the one that is logged out
+-- the write of the seat that is logged out
 refilled : (xs ws : List Seat) → length ws ≡ length xs → refill (length xs) xs ws ≡ ws
 refilled xs ws same =
     ap (λ (rest : List Seat). take (length xs) (ws ++ rest)) (drop_of_length-le xs (omega (arith, same))) ∙ ap (take (length xs)) (append-nil ws) ∙ take_all (length xs) ws (omega (arith, same))

@@ -1,4 +1,4 @@
-//! Terminals: who is at which, and the mark before each line that is put at one.
+//! Terminals: the jobs at them, and the mark before each line that is printed at one.
 #![tactic(auto)]
 
 mod fault;

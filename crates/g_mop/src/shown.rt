@@ -1,4 +1,4 @@
-//! The mark before each line that is put at a terminal.
+//! The mark before each line that is printed at a terminal.
 ghost use Rattle.std.specs.Prelude.{◌≡◌, ◌++◌, IfOk, OnOk};
 ghost use Rattle.g_lines.specs.Lines.{ended};
 ghost use Rattle.g_mop.specs.TerminalLines.{mark_of, shown_at};
@@ -8,7 +8,7 @@ use g_lines::{Lines, push_decimal};
 use g_name::Text;
 use std::alloc::Global;
 
-/// The lines of a text as they are put at this terminal: each with the terminal's mark before it, and its byte 10.
+/// The lines of a text as they are printed at this terminal: each with the terminal's mark before it, and its byte 10.
 pub fn mark(alloc: Global, terminal: u8, added: &[u8]) -> Result<Text, NoMemory>
     ensures { IfOk result (λ text. text ≡ shown_at terminal added.now) }
 {
@@ -17,7 +17,7 @@ pub fn mark(alloc: Global, terminal: u8, added: &[u8]) -> Result<Text, NoMemory>
     Ok(text)
 }
 
-/// The same behind a text. Without memory nothing is known of what was put behind it.
+/// Appends the same to a text. Without memory the appended part is unspecified.
 pub fn push_mark(text: &mut Text, terminal: u8, added: &[u8]) -> Result<(), NoMemory>
     ensures { OnOk result (text.new ≡ text.old ++ shown_at terminal added.now) }
 {
@@ -28,7 +28,7 @@ pub fn push_mark(text: &mut Text, terminal: u8, added: &[u8]) -> Result<(), NoMe
     Ok(())
 }
 
-/// Puts a line with its mark and its byte 10 behind a text.
+/// Appends a line with its mark and its byte 10.
 fn push_line(text: &mut Text, terminal: u8, line: &[u8]) -> Result<(), NoMemory>
     ensures { OnOk result (text.new ≡ text.old ++ ended (mark_of terminal ++ line.now)) }
 {
@@ -37,7 +37,7 @@ fn push_line(text: &mut Text, terminal: u8, line: &[u8]) -> Result<(), NoMemory>
     text.push(b'\n')
 }
 
-/// Puts the terminal's mark behind a text.
+/// Appends the terminal's mark.
 fn push_mark_of(text: &mut Text, terminal: u8) -> Result<(), NoMemory>
     ensures { OnOk result (text.new ≡ text.old ++ mark_of terminal) }
 {

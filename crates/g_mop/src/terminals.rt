@@ -1,4 +1,4 @@
-//! Who is at which terminal.
+//! The terminals in use.
 ghost use Rattle.std.specs.Prelude.{◌≡◌, ◌≤◌, [], None, IfOk, MatchOption, is_some};
 ghost use Rattle.g_mop.specs.Seats as seats;
 
@@ -9,8 +9,8 @@ use g_base::NoMemory;
 use std::alloc::Global;
 use std::marker::Model;
 
-/// The terminals, 1 to 8, at which there is a job that isn't over. Contracts see them in order of their logins, each with
-/// the number of its job and whether it was logged out.
+/// The terminals, 1 to 8, that have a job that isn't over. Contracts see them in order of their logins, each with the number of its job and whether
+/// it was logged out.
 #[derive(Drop)]
 pub struct Terminals {
     seats: ArrayVec<Seat, 8>,
@@ -29,7 +29,7 @@ impl Model for Terminals {
 }
 
 impl Terminals {
-    /// Nobody is at a terminal.
+    /// All terminals are free.
     pub fn new(_alloc: Global) -> Result<Terminals, NoMemory>
         ensures { IfOk result (λ terminals. terminals ≡ []) }
     {
@@ -45,9 +45,9 @@ impl Terminals {
         place_of(self.seats.as_slice(), terminal).is_some()
     }
 
-    /// A job is at this terminal, from 1 to 8. It takes no memory.
+    /// A job logs in at this terminal, from 1 to 8. Allocates nothing.
     ///
-    /// `TerminalBusy` where the terminal's job isn't over, also once it was logged out; nothing changes then.
+    /// `TerminalBusy` if the terminal's job isn't over, even if it was logged out; nothing changes then.
     pub fn login(&mut self, terminal: u8, job: u64) -> Result<(), MopFault>
         requires { (1 ≤ terminal) × (terminal ≤ 8) }
         ensures { seats.LogsIn terminal job self.old self.new result }
@@ -65,7 +65,7 @@ impl Terminals {
 
     /// The number of the job at this terminal.
     ///
-    /// `NoTerminal` where the terminal has no job that isn't over, or was logged out.
+    /// `NoTerminal` if the terminal has no job that isn't over, or was logged out.
     pub fn job_of(&self, terminal: u8) -> Result<u64, MopFault>
         ensures job { seats.IsJobOf terminal self.now result }
         ensures apart { seats.AreSeats self.now }
@@ -77,9 +77,9 @@ impl Terminals {
         }
     }
 
-    /// The terminal is logged out, and this is the number of its job; it is busy until that is over.
+    /// Logs the terminal out, and returns the number of its job; the terminal is busy until that is over.
     ///
-    /// `NoTerminal` where the terminal has no job that isn't over, or was logged out before; nothing changes then.
+    /// `NoTerminal` if the terminal has no job that isn't over, or was logged out before; nothing changes then.
     pub fn logout(&mut self, terminal: u8) -> Result<u64, MopFault>
         ensures left { seats.LogsOut terminal self.old self.new result }
         ensures apart { seats.AreSeats self.old }
@@ -112,7 +112,7 @@ fn place_of(all: &[Seat], terminal: u8) -> Option<usize>
     None
 }
 
-/// The place of the terminal's seat, where it wasn't logged out.
+/// The place of the terminal's seat, if it wasn't logged out.
 fn open_place(all: &[Seat], terminal: u8) -> Option<usize>
     ensures { MatchOption result (seats.job_in_seat (seats.seat_at terminal all.now) ≡ None)
         (seats.IsOpenPlaceOf terminal all.now) }

@@ -1,4 +1,5 @@
--- The place where a text goes wrong: how it is shown.
+-- How to establish the place where a text leaves a grammar.
+-- serves: read_path, PathLemmas, WordLemmas, crates above
 use Rattle.std.proofs.Common.{◌≡◌, ℕ, ◌+◌, ◌-◌, ◌<◌, ◌≤◌, ◌⊎◌, List, [], ◌∷◌, ◌++◌, length, take, drop, get_or, Option, Some, None, refl, ap, ◌∙◌, subst, inl, inr, arith, append_assoc, suc}
 use Rattle.std.proofs.Math.Seq.{drop-cons, take-add}
 use Rattle.std.specs.Prelude.{is_some, option_and_then, true}
@@ -16,7 +17,7 @@ longer_front text place k past inside =
     ap (λ (n : ℕ). take n text) parts ∙ take-add place (suc (k - suc place)) text
     ∙ ap (λ (rest : List ℕ). take place text ++ take (suc (k - suc place)) rest) (drop-cons text place 0 there)
 
--- no text goes on with the byte at the place
+-- No text of the grammar has this prefix followed by the byte at the place.
 abbrev Stuck : (List ℕ → Type 0) → List ℕ → ℕ → Type 0
 Stuck IsIn text place = (more : List ℕ) → IsIn (take place text ++ (get_or text place 0 ∷ more)) → ⊥
 
@@ -26,7 +27,8 @@ no_longer IsIn text place k (inr stuck) past inside goes_on =
     stuck (more_behind text place k ++ goes_on.0)
     (subst IsIn (ap (λ (front : List ℕ). front ++ goes_on.0) (longer_front text place k past inside) ∙ append_assoc (take place text) (get_or text place 0 ∷ more_behind text place k) goes_on.0) goes_on.1)
 
--- a place is right where the front up to it begins a text, and no text goes on with the byte there
+-- A place is the bad place if the prefix up to it begins a text of the grammar and no text has it followed by the next
+-- byte.
 pub bad_place_at : (IsIn : List ℕ → Type 0) (text : List ℕ) (place : ℕ) → place ≤ length text → Begins IsIn (take place text) → (place ≡ length text) ⊎ Stuck IsIn text place → IsBadPlace IsIn text place
 bad_place_at IsIn text place within begins end = record {
   within = within;
@@ -47,12 +49,12 @@ module _ {S : Type 0} (step : ℕ → S → Option S) where
   pub run-more : (state : Option S) (xs : List ℕ) (x : ℕ) (s : S) → run step state xs ≡ Some s → run step state (xs ++ x ∷ []) ≡ step x s
   run-more state xs x s here = run-append state xs (x ∷ []) ∙ ap (λ (o : Option S). run step o (x ∷ [])) here
 
-  -- what a reader refuses, it refuses whatever comes behind it
+  -- What a reader refuses, it refuses with any further bytes too.
   pub run-stuck : (state : Option S) (xs : List ℕ) (x : ℕ) (ys : List ℕ) (s : S) → run step state xs ≡ Some s → step x s ≡ None → run step state (xs ++ (x ∷ ys)) ≡ None
   run-stuck state xs x ys s here stuck =
       run-append state xs (x ∷ ys) ∙ ap (λ (o : Option S). run step o (x ∷ ys)) here ∙ ap (λ (o : Option S). run step o ys) stuck ∙ run-None ys
 
-  -- the place where a reader of the grammar stops is the bad place
+  -- The place where a reader of the grammar stops is the bad place.
   pub wrong_at : (start : S) (IsIn : List ℕ → Type 0)
       → ((text : List ℕ) → IsIn text → is_some (run step (Some start) text) ≡ true)
       → (text : List ℕ) (place : ℕ) (s : S) → place ≤ length text → run step (Some start) (take place text) ≡ Some s

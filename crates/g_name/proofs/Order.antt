@@ -1,4 +1,5 @@
 -- The order of full names: it is total, and no two full names tie.
+-- serves: crates above
 use Rattle.std.proofs.Common.{◌≡◌, ℕ, List, ap, ◌∙◌}
 use Rattle.std.specs.Ordering.{is_eq, eq_by_cmp, nat_cmp, ordering_then}
 use Rattle.std.specs.Cmp.{IsTotalOrder, unsigned_ties, tied_then}
@@ -40,7 +41,7 @@ full_exact a b tie =
     (parts a) (parts b) tie in
     ap from_parts same
 
--- both tests hold where both comparisons tie
+-- Both conditions hold if both comparisons are equal.
 both_tie : (x y : Bool) (p q : Ordering) → x ≡ is_eq p → y ≡ is_eq q → (x && y) ≡ is_eq (ordering_then p q)
 both_tie x y p q first second = ap (λ (t : Bool). t && y) first ∙ ap (λ (t : Bool). is_eq p && t) second ∙ tied_then p q
 

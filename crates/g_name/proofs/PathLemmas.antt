@@ -1,4 +1,5 @@
 -- A reader of paths has read its text, and reads the text of each name.
+-- serves: parse_path (ok, read), read_path (err, ok, read), crates above
 use Rattle.std.proofs.Common.{take, get_or, ◌≡◌, ℕ, ◌+◌, ◌*◌, ◌/◌, ◌%◌, ◌^◌, ◌<◌, ◌≤◌, ◌⊎◌, Bool, true, false, List, [], ◌∷◌, ◌++◌, length, Option, Some, None, refl, sym, ap, ◌∙◌, subst, inl, arith, append_assoc, append-nil, lit≤, ⊎_elim}
 use Rattle.std.specs.Prelude.{◌&&◌, ◌==◌, not, if◌then◌else◌, IfSome, is_some, unwrap_or, IsSome, IfOk, IfErr, IsOkAnd}
 use Rattle.std.specs.Fmt.{decimal}
@@ -207,7 +208,7 @@ start_read = record { known = record { user = refl; local = refl; generation = l
 pub has_read : (bytes : List ℕ) (r : PathReader) → run step (Some start) bytes ≡ Some r → HasRead bytes r
 has_read bytes r here = subst (λ (o : Option PathReader). IfSome o (HasRead bytes)) here (run-read (Some start) [] bytes start_read)
 
--- a reader that takes each byte that may come next ends with all bytes
+-- A reader that accepts each byte that may follow ends with all bytes.
 run_pushes : {S : Type 0} (taken : ℕ → S → Option S) (at : List ℕ → S) (may_come : List ℕ → ℕ → Bool) (is_in : List ℕ → Bool)
     → ((w : List ℕ) (c : ℕ) → may_come w c ≡ true → taken c (at w) ≡ Some (at (w ++ c ∷ [])))
     → ((w : List ℕ) (c : ℕ) (more : List ℕ) → is_in (w ++ (c ∷ more)) ≡ true → may_come w c ≡ true)
@@ -363,7 +364,7 @@ generation_is g most =
     ⊎_elim (λ none. subst In (sym (ap generation_read none)) tt)
     (λ some. let positive : 0 < g = omega (arith, some) in subst In (sym (generation_some g positive).0) (positive, most)) (cases_eq g 0)
 
--- the brackets, of which the reader has the digits and the language
+-- The brackets, whose digits and language the reader has.
 last_of_lang : (g : ℕ) (lang : List ℕ) → ((40 ∷ digits_read g) ++ (47 ∷ lang)) ++ (41 ∷ []) ≡ last_part (generation_read g) (Some lang)
 last_of_lang g lang =
     ⊎_elim
@@ -374,7 +375,7 @@ last_of_lang g lang =
     ∙ ap (λ (generation : Option ℕ). last_part generation (Some lang)) (sym (generation_some g positive).0))
     (cases_eq g 0)
 
--- where a path may end, the reader has the text of the name that it read
+-- If a path may end here, the reader has the text of the name that it read.
 whole_in : (p : Part) (u l : List ℕ) (g : ℕ) (lang : List ℕ) → IsReading (reader p u l g lang) → is_whole (reader p u l g lang) ≡ true
     → (is_word l ≡ true) × (text_in p (reader p u l g lang) ≡ name_text (name_read (reader p u l g lang)))
 whole_in User u l g lang known is = absurd (false≢true is)
@@ -416,11 +417,11 @@ whole_name r known is = record {
 pub whole_text : (r : PathReader) → IsReading r → is_whole r ≡ true → text_read r ≡ name_text (name_read r)
 whole_text r known is = (whole_in r.part r.user r.local r.generation r.lang known is).1
 
--- what has been read begins the text of a name: what comes behind it
+-- What was read is a prefix of the text of a name, given the bytes that complete it.
 abbrev BeginsIn : Part → List ℕ → List ℕ → ℕ → List ℕ → Type 0
 BeginsIn p u l g lang = IsReading (reader p u l g lang) → Begins IsNameText (text_in p (reader p u l g lang))
 
--- a whole reader that has read the text with something behind it
+-- A complete reader that has read the text and some more.
 begins_by : (r : PathReader) (text rest : List ℕ) → IsReading r → is_whole r ≡ true → text ++ rest ≡ text_read r → Begins IsNameText text
 begins_by r text rest known is longer = (rest, (name_read r, whole_name r known is, longer ∙ whole_text r known is))
 
@@ -456,7 +457,7 @@ begins_name bytes r has = subst (Begins IsNameText) has.text (begins_in r.part r
 reads_text : (text : List ℕ) (n : Name) → IsName n → text ≡ name_text n → run step (Some start) text ≡ Some (reader_of n)
 reads_text text n is same = ap (λ (t : List ℕ). run step (Some start) t) same ∙ reads_name n is
 
--- where a reader stops, a text goes wrong
+-- The place where a reader stops is the bad place.
 pub wrong_name : (text : List ℕ) (place : ℕ) (r : PathReader) → place ≤ length text → run step (Some start) (take place text) ≡ Some r
     → (place ≡ length text) ⊎ (step (get_or text place 0) r ≡ None) → IsBadPlace IsNameText text place
 wrong_name text place r within here end =
@@ -468,7 +469,7 @@ pub no_name : (text : List ℕ) (place : ℕ) → IsBadPlace IsNameText text pla
 no_name text place bad inside n is same =
     bad.longest (length text) inside (omega arith) ([], (n, is, append-nil (take (length text) text) ∙ take-length text ∙ same))
 
--- behind the last byte
+-- After the last byte.
 pub at_end : (text : List ℕ) (place : ℕ) (r : PathReader) → length text ≤ place → place ≤ length text → run step (Some start) (take place text) ≡ Some r → run step (Some start) text ≡ Some r
 at_end text place r past within here =
     let whole : place ≡ length text = omega arith in
@@ -503,11 +504,11 @@ module _ (text : List ℕ) (r : PathReader) (here : run step (Some start) text �
       let within : e.place ≤ length text = omega arith in
       wrong_name text e.place r within (ap (run step (Some start)) all ∙ here) (inl place)
 
-  -- where the text ends too early, its length is the bad place
+  -- If the text ends too early, its length is the bad place.
   pub path-err : (e : BadName) → e.place ≡ length text → IfErr (ok_or path e) (λ bad. IsBadPlace IsNameText text bad.place)
   path-err e place = ended e place path
 
--- a word alone is the local name of a path without other parts
+-- A single word is the local name of a path without other parts.
 abbrev pub word_name : List ℕ → Name
 word_name w = record { user = None; local = w; generation = None; lang = None }
 

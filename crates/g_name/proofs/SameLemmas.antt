@@ -1,4 +1,5 @@
 -- Paths of the same parts are one.
+-- serves: copy
 use Rattle.std.proofs.Common.{◌≡◌, ℕ, ◌≤◌, List, Option}
 use Rattle.std.proofs.Props.{props}
 use Rattle.std.specs.Prelude.{IfSome}

@@ -1,4 +1,5 @@
--- Short texts: how they are made, and that their bytes with the zeros behind tell them apart.
+-- Short texts: how they are built, and that texts are equal if and only if their zero-padded bytes are.
+-- serves: eq, of, push
 use Rattle.std.proofs.Common.{◌≡◌, ℕ, ◌+◌, ◌-◌, ◌<◌, ◌≤◌, Bool, List, ◌++◌, length, take, drop, replicate, sym, ap, ◌∙◌, arith, length-append, length-set}
 use Rattle.std.proofs.Math.ListN.{set}
 use Rattle.std.proofs.Math.Seq.{drop-append_seam}
@@ -30,7 +31,7 @@ longer_short room len bytes x below was = record {
   zeros = drop-set-lt (len + 1) bytes len x (omega arith) ∙ sym (drop-drop 1 len bytes) ∙ ap (drop 1) was.zeros ∙ drop-replicate 1 (room - len) 0 ∙ ap (λ (n : ℕ). replicate {A = ℕ} n 0) (let e : room - len - 1 ≡ room - (len + 1) = omega arith in e);
 }
 
--- texts are the same where their bytes are, the zeros with them, and their lengths
+-- Texts are equal if their padded bytes and their lengths are.
 pub same_short : (room m n : ℕ) (a b : List ℕ) → IsShort room m a → IsShort room n b → (pointwise nat_eq a b && nat_eq m n) ≡ pointwise nat_eq (take m a) (take n b)
 same_short room m n a b one other =
     let whole : take m a ≡ take n b → (a ≡ b) × (m ≡ n) =
@@ -43,7 +44,7 @@ same_short room m n a b one other =
     (Decides-and (pointwise nat_eq a b) (nat_eq m n) (bytes_decides a b) (Decides-eqb m n)))
     (bytes_decides (take m a) (take n b))
 
--- the same of what contracts see
+-- The same for the texts that contracts see.
 pub same_texts : (room m n : ℕ) (a b x y : List ℕ) (same : Bool) → IsShort room m a → IsShort room n b → take m a ≡ x → take n b ≡ y → same ≡ pointwise nat_eq a b → (same && nat_eq m n) ≡ pointwise nat_eq x y
 same_texts room m n a b x y same one other is_x is_y tested =
     ap (λ (t : Bool). t && nat_eq m n) tested ∙ same_short room m n a b one other

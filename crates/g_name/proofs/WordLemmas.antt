@@ -1,4 +1,5 @@
 -- Words and languages, one character after another.
+-- serves: parse (err), word_end, PathLemmas, crates above
 use Rattle.std.proofs.Common.{◌≡◌, ℕ, ◌+◌, ◌<◌, ◌≤◌, ◌⊎◌, true, false, List, [], ◌∷◌, ◌++◌, length, take, get_or, refl, sym, ap, ◌∙◌, inl, inr, arith, length-append, append-nil, lit≤, ⊎_elim, subst, zero, suc}
 use Rattle.std.specs.Prelude.{◌&&◌, ◌==◌, nat_le, nat_lt}
 use Rattle.std.specs.List.{list_all}
@@ -25,7 +26,7 @@ pub word-from_may_be : (w : List ℕ) → may_be_word w ≡ true → is_empty w 
 word-from_may_be [] may empty = absurd (false≢true (sym empty))
 word-from_may_be (c ∷ cs) may empty = may
 
--- a byte that may come next makes a word of the front of one
+-- A prefix of a word, with a byte that may follow it, is a word.
 pub word-push : (w : List ℕ) (c : ℕ) → may_be_word w ≡ true → extends w c ≡ true → is_word (w ++ c ∷ []) ≡ true
 word-push [] c may next = and_from _ _ (and_from _ _ next refl) refl
 word-push (first ∷ others) c may next =
@@ -35,7 +36,7 @@ word-push (first ∷ others) c may next =
     let room : length (others ++ c ∷ []) ≤ 11 = omega (arith, ltb-true (length others) 11 more.1, length-append others (c ∷ [])) in
     and_from _ _ (and_from _ _ front.0 (le-leb _ _ room)) (all_of_both others (c ∷ []) was.1 (and_from _ _ more.0 refl))
 
--- each byte of a word may come next behind those before it
+-- Each byte of a word may follow those before it.
 pub word-extends : (w : List ℕ) (c : ℕ) (more : List ℕ) → is_word (w ++ (c ∷ more)) ≡ true → extends w c ≡ true
 word-extends [] c more is = (and_parts _ _ (and_parts _ _ is).0).0
 word-extends (first ∷ others) c more is =
@@ -62,7 +63,7 @@ begins_word : (w : List ℕ) → may_be_word w ≡ true → Begins IsLocalText w
 begins_word [] may = (65 ∷ [], refl)
 begins_word (x ∷ xs) may = ([], ap is_word (append-nil (x ∷ xs)) ∙ may)
 
--- where a text stops being a word
+-- The place from which a text is no longer the prefix of a word.
 pub word_wrong : (text : List ℕ) (place : ℕ) → place ≤ length text → may_be_word (take place text) ≡ true
     → (place ≡ length text) ⊎ (extends (take place text) (get_or text place 0) ≡ false) → IsBadPlace IsLocalText text place
 word_wrong text place within may (inl ended) = bad_place_at IsLocalText text place within (begins_word (take place text) may) (inl ended)
@@ -84,7 +85,7 @@ later_user word place bad (suc k) past inside goes_on =
     let within : k ≤ length word = omega arith in
     bad.longest k later within goes_on
 
--- behind the colon the user's word goes wrong
+-- After the colon, the user's word has the bad place.
 pub user_wrong : (word : List ℕ) (place : ℕ) → IsBadPlace IsLocalText word place → IsBadPlace IsUserText (58 ∷ word) (suc place)
 user_wrong word place bad = record {
   within = omega (arith, bad.within);

@@ -1,11 +1,11 @@
--- Where a text that a grammar refuses goes wrong. A grammar is given as the fact that a text is in it.
+-- The place where a text leaves a grammar. A grammar is given as a predicate on texts.
 use Rattle.std.specs.Prelude.{ℕ, ◌<◌, ◌≤◌, List, ◌++◌, length, take}
 
--- something can be put behind it that makes a text of the grammar
+-- The bytes are a prefix of some text of the grammar.
 abbrev pub Begins : (List ℕ → Type 0) → List ℕ → Type 0
 Begins IsIn front = (rest : List ℕ) × IsIn (front ++ rest)
 
--- the length of the longest front of the text that begins some text of the grammar
+-- The place is the length of the longest prefix of the text that is also a prefix of some text of the grammar.
 pub record IsBadPlace (IsIn : List ℕ → Type 0) (text : List ℕ) (place : ℕ) : Type 0 where
   pub within : place ≤ length text
   pub begins : Begins IsIn (take place text)

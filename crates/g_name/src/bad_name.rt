@@ -1,6 +1,6 @@
-//! Texts that are no names.
+//! The error of texts that aren't names.
 
-/// A text isn't in the grammar of names. `place` counts bytes: it is the length of the longest front of the text that begins some name.
+/// The text isn't in the grammar of names. `place` counts bytes: it is the length of the text's longest prefix that begins some name.
 #[derive(Clone, Copy, Debug, PartialEq, Eq)]
 pub struct BadName {
     pub place: usize,

@@ -8,19 +8,19 @@ use g_base::NoMemory;
 use std::alloc::Global;
 use std::cmp::Ordering;
 
-/// The full name of a file: `:USER.NAME(generation/LANG)`. The order, that of `compare`, is by user, local name,
+/// The full name of a file: `:USER.NAME(generation/LANG)`. Full names are ordered as by `compare`: by user, local name,
 /// generation and language.
 #[derive(Debug, Drop, PartialEq, Eq, PartialOrd, Ord, Hash)]
 pub struct Full {
     pub user: User,
     pub local: Local,
-    /// 1 to 4,095 in every full name that a filestore makes.
+    /// 1 to 4,095 in every full name of a filestore.
     pub generation: u16,
     pub lang: Lang,
 }
 
 impl Full {
-    /// The same full name once more, which takes no memory.
+    /// A copy of the full name. It allocates nothing.
     pub fn copy(&self) -> Full
         ensures { result ≡ self.now }
     {
@@ -32,14 +32,15 @@ impl Full {
         }
     }
 
-    /// Which of two full names comes first: by user, then local name, then generation, then language.
+    /// The order of two full names: by user, then local name, then generation, then language.
     pub fn compare(&self, other: &Full) -> Ordering
         ensures { result ≡ full_cmp self.now other.now }
     {
         self.cmp(other)
     }
 
-    /// The text of the full name, with the trailing spaces of the language dropped: `:MASTER.F(1/)`. As a path it is read back.
+    /// The text of the full name, without the trailing spaces of the language: `:MASTER.F(1/)`. Parsed as a path, it gives the
+    /// same name.
     pub fn print(&self, alloc: Global) -> Result<Text, NoMemory>
         ensures { IfOk result (λ t. t ≡ name_text (full_name self.now)) }
     {

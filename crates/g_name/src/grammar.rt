@@ -44,7 +44,7 @@ pub fn are_name_chars(text: &[u8]) -> bool
     text.iter().all(|byte| is_name_char(*byte))
 }
 
-/// Whether the byte may come next in a word.
+/// Whether the byte may follow this prefix of a word.
 pub fn extends(word: &[u8], byte: u8) -> bool
     ensures { result ≡ words.extends word.now byte }
 {
@@ -54,7 +54,7 @@ pub fn extends(word: &[u8], byte: u8) -> bool
     }
 }
 
-/// The place where a text goes wrong as a word; where it is one, its length.
+/// The length of the longest prefix of the text that begins a word; for a word, its whole length.
 pub(crate) fn word_end(text: &[u8]) -> usize
     ensures { IsBadPlace IsLocalText text.now result }
 {

@@ -6,7 +6,7 @@ use crate::grammar;
 use crate::short::Short;
 use std::marker::Model;
 
-/// The language of a file without the spaces behind it: up to 4 of `A` to `Z`, `0` to `9` and `-`. The empty one is the language of four spaces.
+/// The language of a file without its trailing spaces: up to 4 of `A` to `Z`, `0` to `9` and `-`. The empty one is the language of four spaces.
 #[derive(Debug, Drop, PartialEq, Eq, PartialOrd, Ord, Hash)]
 pub struct Lang {
     characters: Short<4>,
@@ -26,7 +26,7 @@ impl Model for Lang {
 }
 
 impl Lang {
-    /// The language of these characters, without spaces behind them.
+    /// The language of these characters, which have no trailing spaces.
     pub fn new(characters: &[u8]) -> Option<Lang>
         ensures lang { IsSome result ↔ (is_lang characters.now ≡ true) }
         ensures value { IfSome result (λ l. l ≡ characters.now) }
@@ -49,7 +49,7 @@ impl Lang {
         }
     }
 
-    /// The name of characters that were looked at already.
+    /// The language of characters that were checked already.
     pub(crate) fn from_characters(characters: Short<4>) -> Lang
         requires { is_lang characters ≡ true }
         ensures { result ≡ characters }
@@ -57,7 +57,7 @@ impl Lang {
         Lang { characters }
     }
 
-    /// The characters, without spaces behind them.
+    /// The characters, without trailing spaces.
     pub fn as_slice(&self) -> &[u8]
         ensures characters { result.now ≡ self.now }
         ensures lang { is_lang self.now ≡ true }
@@ -65,7 +65,7 @@ impl Lang {
         self.characters.as_slice()
     }
 
-    /// The same language once more, which takes no memory.
+    /// A copy of the language. It allocates nothing.
     pub fn copy(&self) -> Lang
         ensures { result ≡ self.now }
     {

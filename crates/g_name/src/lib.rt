@@ -1,4 +1,4 @@
-//! The names of the filestore: users, local names, languages, paths as they are written, and full names with their order.
+//! The names of the filestore: users, local names, languages, written paths, and full names with their order.
 #![tactic(auto)]
 
 mod bad_name;

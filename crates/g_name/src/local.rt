@@ -9,7 +9,7 @@ use crate::word::Word;
 use crate::{BadName, grammar};
 use std::marker::Model;
 
-/// The name of a file within its user: 1 to 12 of `A` to `Z`, `0` to `9` and `-`, the first a letter. Names are in the order of their bytes.
+/// The name of a file within its user: 1 to 12 of `A` to `Z`, `0` to `9` and `-`, the first a letter. Names are ordered by their bytes.
 #[derive(Debug, Drop, PartialEq, Eq, PartialOrd, Ord, Hash)]
 pub struct Local {
     word: Word,
@@ -48,7 +48,7 @@ impl Local {
         }
     }
 
-    /// The name of characters that were looked at already.
+    /// The name of characters that were checked already.
     pub(crate) fn from_word(word: Short<16>) -> Local
         requires { is_word word ≡ true }
         ensures { result ≡ word }
@@ -66,7 +66,7 @@ impl Local {
         self.word.as_slice()
     }
 
-    /// The same name once more, which takes no memory.
+    /// A copy of the name. It allocates nothing.
     pub fn copy(&self) -> Local
         ensures { result ≡ self.now }
     {

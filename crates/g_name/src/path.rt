@@ -4,9 +4,10 @@ ghost use Rattle.std.proofs.Props.{props};
 
 use crate::{Lang, Local, User};
 
-/// A file as a command names it: `:USER.NAME(generation/LANG)`, of which every part but the local name may be absent.
+/// A file as a command names it: `:USER.NAME(generation/LANG)`. Every part but the local name may be absent.
 ///
-/// An absent user is the caller, an absent language that of four spaces. An absent generation is the greatest one there is for input, and for output one more.
+/// An absent user means the caller, and an absent language four spaces. An absent generation means the greatest existing one for input, and one more than
+/// that for output.
 #[derive(Drop, PartialEq, Eq)]
 pub struct Path {
     pub user: Option<User>,
@@ -18,7 +19,7 @@ pub struct Path {
 }
 
 impl Path {
-    /// The same path once more, which takes no memory.
+    /// A copy of the path. It allocates nothing.
     pub fn copy(&self) -> Path
         ensures { result ≡ self.now }
     {

@@ -1,4 +1,4 @@
-//! A reader of paths that takes one byte at a time.
+//! A reader of paths that consumes one byte at a time.
 ghost use Rattle.std.specs.Prelude.{◌≡◌, ◌↔◌, ◌&&◌, true, if◌then◌else◌, Some, None, IsSome, IfSome};
 ghost use Rattle.std.specs.Bool.{OnTrue, OnFalse};
 ghost use Rattle.g_name.specs.Grammar.{is_digit, is_word};
@@ -11,24 +11,24 @@ use crate::grammar::{extends, is_name_char};
 use crate::short::Short;
 use crate::{Lang, Local, Path, User};
 
-/// Where in the text of a path a reader stands.
+/// The part of a path's text that a reader is in.
 #[derive(Clone, Copy, PartialEq, Eq)]
 enum Part {
-    /// Behind the colon.
+    /// After the colon.
     User,
-    /// At the front, or behind the dot.
+    /// At the beginning, or after the dot.
     Local,
-    /// Behind the opening bracket.
+    /// After the opening bracket.
     Generation,
-    /// Behind the slash.
+    /// After the slash.
     Lang,
-    /// Behind the closing bracket, with no slash before it.
+    /// After the closing bracket, without a slash before it.
     Closed,
-    /// Behind the closing bracket, with a slash before it.
+    /// After the closing bracket, with a slash before it.
     LangClosed,
 }
 
-/// What has been read of a path: a part that isn't reached yet is empty, or 0.
+/// The parts of a path that have been read. A part that isn't reached yet is empty, or 0.
 #[derive(Drop)]
 pub struct PathReader {
     part: Part,
@@ -39,7 +39,7 @@ pub struct PathReader {
 }
 
 impl PathReader {
-    /// Nothing has been read.
+    /// A reader at the first byte.
     pub fn new() -> PathReader
         ensures { result ≡ reading.start }
     {
@@ -52,7 +52,7 @@ impl PathReader {
         }
     }
 
-    /// Takes the next byte, if some path goes on with it.
+    /// Consumes the next byte, if some path continues with it.
     pub fn take(&mut self, byte: u8) -> bool
         ensures taken { OnTrue result (reading.step byte self.old ≡ Some self.new) }
         ensures refused { OnFalse result (reading.step byte self.old ≡ None) }
@@ -165,7 +165,7 @@ impl PathReader {
     }
 }
 
-/// The user of what was read behind the colon, if there was one.
+/// The user, if one was read after the colon.
 fn user_of(word: Short<16>) -> Option<User>
     requires { may_be_word word ≡ true }
     ensures { result ≡ reading.user_read word }
@@ -184,7 +184,7 @@ fn generation_of(read: u16) -> Option<u16>
     (read != 0).then_some(read)
 }
 
-/// The generation with one more digit, where the byte is one and there is such a generation.
+/// The generation with one more digit, if the byte is a digit and the result is a valid generation.
 fn with_digit(generation: u16, byte: u8) -> Option<u16>
     ensures digit { IsSome result ↔ ((is_digit byte && reading.is_generation (reading.with_digit generation byte)) ≡ true) }
     ensures value { IfSome result (λ g. g ≡ reading.with_digit generation byte) }

@@ -1,4 +1,4 @@
-//! Short texts, which lie in the value itself.
+//! Short texts, stored inline.
 ghost use Rattle.std.specs.Prelude.{◌≡◌, ◌<◌, ◌≤◌, ◌==◌, [], ◌∷◌, ◌++◌, length};
 
 use std::cmp::Ordering;
@@ -6,8 +6,8 @@ use std::fmt;
 use std::hash::{Hash, Hasher};
 use std::marker::Model;
 
-/// A text of at most `N` bytes, which are at most 255. Contracts see its bytes. Behind them stand zeros, so that a copy,
-/// a comparison and a hash take all `N` bytes at once, which costs least where they are 4, 8 or 16.
+/// A text of at most `N` bytes, where `N` is at most 255. Contracts see its bytes. They are padded with zeros, so that a
+/// copy, a comparison and a hash process all `N` bytes at once, which is cheapest if `N` is 4, 8 or 16.
 #[derive(Clone, Copy)]
 pub(crate) struct Short<const N: usize> {
     bytes: [u8; N],
@@ -35,7 +35,7 @@ impl<const N: usize> Model for Short<N> {
 }
 
 impl<const N: usize> Short<N> {
-    /// No byte.
+    /// The empty text.
     pub(crate) fn new() -> Short<N>
         ensures { result ≡ [] }
     {
@@ -45,7 +45,7 @@ impl<const N: usize> Short<N> {
         }
     }
 
-    /// These bytes.
+    /// The text of these bytes.
     pub(crate) fn of(text: &[u8]) -> Short<N>
         requires short { N < 256 }
         requires fits { length text.now ≤ N }
@@ -59,7 +59,7 @@ impl<const N: usize> Short<N> {
         }
     }
 
-    /// Puts a byte behind the text.
+    /// Appends a byte.
     pub(crate) fn push(&mut self, byte: u8)
         requires short { N < 256 }
         requires room { length self.old < N }
@@ -76,14 +76,14 @@ impl<const N: usize> Short<N> {
         &self.bytes[..usize::from(self.len)]
     }
 
-    /// Whether there is no byte.
+    /// Whether the text is empty.
     pub(crate) fn is_empty(&self) -> bool
         ensures { result ≡ (length self.now == 0) }
     {
         self.len == 0
     }
 
-    /// Whether there is no room for a byte.
+    /// Whether the text has `N` bytes.
     pub(crate) fn is_full(&self) -> bool
         ensures value { result ≡ (length self.now == N) }
         ensures fits { length self.now ≤ N }
@@ -144,7 +144,7 @@ impl<const N: usize> Ord for Short<N> {
     }
 }
 
-/// All bytes at once, the zeros too.
+/// Hashes all bytes at once, padding included.
 impl<const N: usize> Hash for Short<N> {
     ghost use Rattle.std.specs.Prelude.{[], ◌∷◌};
     ghost use Rattle.std.specs.Cmp.Rules.{hashing};

@@ -5,7 +5,7 @@ use g_base::NoMemory;
 use std::alloc::Global;
 use std::marker::Model;
 
-/// A list of bytes that contracts see as a list. It is made from a `Vec` and gives it back without taking memory.
+/// A list of bytes, which contracts see as a list. Converting from a `Vec` and back allocates nothing.
 #[derive(Debug, Drop)]
 pub struct Text {
     bytes: Vec<u8>,
@@ -20,7 +20,7 @@ impl Model for Text {
 }
 
 impl Text {
-    /// An empty text, which takes no memory yet.
+    /// The empty text. It allocates nothing.
     pub fn new(alloc: Global) -> Text
         ensures { result ≡ [] }
     {
@@ -29,7 +29,7 @@ impl Text {
         }
     }
 
-    /// A text of its own with these bytes.
+    /// A new text with these bytes.
     pub fn from_slice(alloc: Global, bytes: &[u8]) -> Result<Text, NoMemory>
         ensures { IfOk result (λ t. t ≡ bytes.now) }
     {
@@ -44,7 +44,7 @@ impl Text {
         self.bytes.as_slice()
     }
 
-    /// Puts a byte behind the text; without memory the text stays as it was.
+    /// Appends a byte. If memory runs out, the text is unchanged.
     pub fn push(&mut self, byte: u8) -> Result<(), NoMemory>
         ensures ok { OnOk result (self.new ≡ self.old ++ byte ∷ []) }
         ensures err { OnErr result (self.new ≡ self.old) }
@@ -53,7 +53,7 @@ impl Text {
         Ok(())
     }
 
-    /// Puts bytes behind the text; without memory the text stays as it was.
+    /// Appends bytes. If memory runs out, the text is unchanged.
     pub fn extend(&mut self, bytes: &[u8]) -> Result<(), NoMemory>
         ensures ok { OnOk result (self.new ≡ self.old ++ bytes.now) }
         ensures err { OnErr result (self.new ≡ self.old) }

@@ -9,7 +9,7 @@ use crate::word::Word;
 use crate::{BadName, grammar};
 use std::marker::Model;
 
-/// The name of a user without its colon: 1 to 12 of `A` to `Z`, `0` to `9` and `-`, the first a letter. Names are in the order of their bytes.
+/// The name of a user without its colon: 1 to 12 of `A` to `Z`, `0` to `9` and `-`, the first a letter. Names are ordered by their bytes.
 #[derive(Debug, Drop, PartialEq, Eq, PartialOrd, Ord, Hash)]
 pub struct User {
     word: Word,
@@ -63,7 +63,7 @@ impl User {
         }
     }
 
-    /// `MACROS`, the user whose files everybody may execute.
+    /// `MACROS`, the user whose files all users may execute.
     pub fn macros() -> User
         ensures { result ≡ codes "MACROS" }
     {
@@ -72,7 +72,7 @@ impl User {
         }
     }
 
-    /// The name of characters that were looked at already.
+    /// The name of characters that were checked already.
     pub(crate) fn from_word(word: Short<16>) -> User
         requires { is_word word ≡ true }
         ensures { result ≡ word }
@@ -90,7 +90,7 @@ impl User {
         self.word.as_slice()
     }
 
-    /// The same name once more, which takes no memory.
+    /// A copy of the name. It allocates nothing.
     pub fn copy(&self) -> User
         ensures { result ≡ self.now }
     {

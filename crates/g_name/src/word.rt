@@ -1,4 +1,4 @@
-//! Words, which users and files of a user are named by.
+//! Words: the names of users, and of files within a user.
 ghost use Rattle.std.specs.Prelude.{◌≡◌, true, ◌↔◌, IsSome, IfSome};
 ghost use Rattle.g_name.specs.Grammar.{is_word};
 
@@ -6,7 +6,7 @@ use crate::grammar;
 use crate::short::Short;
 use std::marker::Model;
 
-/// 1 to 12 of `A` to `Z`, `0` to `9` and `-`, the first a letter. Words are in the order of their bytes.
+/// 1 to 12 of `A` to `Z`, `0` to `9` and `-`, the first a letter. Words are ordered by their bytes.
 #[derive(Clone, Copy, Debug, PartialEq, Eq, PartialOrd, Ord, Hash)]
 pub(crate) struct Word {
     characters: Short<16>,
@@ -40,7 +40,7 @@ impl Word {
         }
     }
 
-    /// The word of characters that were looked at already.
+    /// The word of characters that were checked already.
     pub(crate) fn of(characters: Short<16>) -> Word
         requires { is_word characters ≡ true }
         ensures { result ≡ characters }

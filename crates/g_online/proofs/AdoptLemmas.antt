@@ -1,4 +1,5 @@
 -- Files with copies on tape are ready to be written.
+-- serves: adopt, AdoptedLemmas, CloseLemmas
 use Rattle.std.proofs.Common.{◌≡◌, ◌≢◌, ◌⊎◌, ℕ, ◌+◌, ◌==◌, Bool, true, false, List, [], ◌∷◌, ◌++◌, map, Option, Some, None, All, AllPairs, refl, sym, ◌∙◌, ap, subst, arith, inl, inr}
 use Rattle.std.specs.Prelude.{Contains, IfSome, is_some}
 use Rattle.std.proofs.lemmas.Bool.{cases_Bool, cond-false, cond-true}
@@ -29,7 +30,7 @@ use Rattle.g_online.proofs.StepLemmas.{IsReady}
 abbrev pub Tapes : Type 0
 Tapes = List (ℕ × TapeCopy)
 
--- where there is none now, there was none
+-- if there is none now, there was none
 old_none : (copies : Tapes) (stamp : ℕ) (old : Option TapeCopy) → copy_of copies stamp old ≡ None → old ≡ None
 old_none [] stamp old none = none
 old_none (c ∷ cs) stamp old none = by_first (cases_Bool (c.0 == stamp)) (old_none cs stamp old)
@@ -82,7 +83,7 @@ module _ (copies : Tapes) (online : List (ℕ × DiscCopy)) where
     files_are = subst (λ (ns : List ℕ). All (λ (c : ℕ × DiscCopy). Contains ns c.0) online) (sym (numbers_noted files)) are.files_are;
   }
 
--- WITHOUT PINNED VERSIONS
+-- without pinned versions
 pool_none : (held : Option (List (List ℕ))) (size : ℕ) (pins : Option (List Pinned)) (old new : List FileEntry) (pool : List Bool) → pins_of held pins ≡ None → all_places new ≡ all_places old → IsPooled size pins old pool → IsPooled size pins new pool
 pool_none held size None old new pool none same was =
     let used : all_places old ++ [] ≡ all_places new ++ [] = ap (λ (ps : List ℕ). ps ++ []) (sym same) in
@@ -128,7 +129,7 @@ adopt_set_ready last copies before m pages o is kept allowed same remembers cove
     })
     (pins_none before.held before.size m.head.next_stamp n.head.next_stamp m.pins old new m.touched fits.0 was.pins)
 
--- where what has changed is marked
+-- if what has changed is marked
 pub noted_ready : (last : ℕ) (copies listed : Tapes) (before : DiscState) (m : Memory) (pinned : Bool) (head : Head) (users : List UserRec) (files : List FileRec) (pages : Remembered) (o : OnlineFacts)
     → listed ≡ copies → pinned ≡ is_some m.pins → head ≡ head_after pinned (record m.head { last_dump = last }) → users ≡ m.users → files ≡ map (copied_rec listed) m.files
     → facts_of before m ≡ o → IsKept before m → IsAllowed (Adopt last copies) o
@@ -140,7 +141,7 @@ noted_ready last copies listed before m pinned head users files pages o listed_i
     subst (IsReady (Adopt last copies) before m) (λ i. record m { head = (sym top) i; users = (sym users_are) i; files = (sym them) i; pages = pages })
     (adopt_set_ready last copies before m pages o is kept allowed same remembers covers)
 
--- where all is marked
+-- if all is marked
 pub adopt_ready : (last : ℕ) (copies listed : Tapes) (before : DiscState) (m : Memory) (pinned : Bool) (head : Head) (users : List UserRec) (files : List FileRec) (pages : Remembered) (o : OnlineFacts)
     → listed ≡ copies → pinned ≡ is_some m.pins → head ≡ head_after pinned (record m.head { last_dump = last }) → users ≡ m.users → files ≡ map (copied_rec listed) m.files
     → facts_of before m ≡ o → IsKept before m → IsAllowed (Adopt last copies) o → pages ≡ all_marked m.pages → StillRemembers m.pages pages → ((side : Side) (d : Directory) → Covers d side pages)
@@ -150,7 +151,7 @@ adopt_ready last copies listed before m pinned head users files pages o listed_i
     (record { a = ap (λ (p : Remembered). p.a) marks; b = ap (λ (p : Remembered). p.b) marks })
     remembers (λ s covered. covers s (directory_in (adopted last copies m pages)))
 
--- what the tree asks for
+-- what the tree requires
 pub adopt_rules : (last : ℕ) (copies listed : Tapes) (before : DiscState) (m : Memory) (o : OnlineFacts) → listed ≡ copies → facts_of before m ≡ o → IsKept before m → IsAllowed (Adopt last copies) o
     → IsRecords m.users (map (copied_rec listed) m.files)
 adopt_rules last copies listed before m o listed_is is kept allowed =

@@ -1,4 +1,5 @@
--- The copies of a dump of all versions are noted, and nobody counts as changed.
+-- The copies of a dump of all versions are noted, and no user counts as changed.
+-- serves: adopt_ready, ready_adopt
 use Rattle.std.proofs.Common.{◌≡◌, ◌≢◌, ◌⊎◌, ℕ, ◌<◌, ◌==◌, true, false, List, [], ◌∷◌, length, get_or, map, Option, Some, None, Result, Ok, Err, All, refl, sym, ◌∙◌, ap, subst, arith, inl, inr}
 use Rattle.std.specs.Prelude.{is_some, OnOk}
 use Rattle.std.proofs.lemmas.Bool.{cases_Bool, cond-false, cond-true, eq-eqb}
@@ -32,7 +33,7 @@ use Rattle.g_online.proofs.TieLemmas.{rec_of}
 abbrev Tapes : Type 0
 Tapes = List (ℕ × TapeCopy)
 
--- AN EMPTY FILE has no copy in the list, where its record has none then
+-- AN EMPTY FILE has no copy in the list, if its record has none then
 none_for : (copies : Tapes) (stamp : ℕ) (old : Option TapeCopy) → copy_of copies stamp old ≡ None → All (λ (c : ℕ × TapeCopy). c.0 ≢ stamp) copies
 none_for [] stamp old none = λ k d within. (let no : ⊥ = omega (arith, within) in absurd no)
 none_for (c ∷ cs) stamp old none = by_first (cases_Bool (c.0 == stamp)) (none_for cs stamp old)
@@ -58,7 +59,7 @@ empty_apart copies users files rules =
     let each = each_file (λ (r : FileRec). r.len ≡ 0 → r.tape ≡ None) copies files rules.among_files.empty in
     λ k d within. λ empty. none_for copies (get_or files k d).rec.stamp (get_or files k d).rec.tape (each k d within empty)
 
--- NOBODY is changed, where every version has a copy
+-- no user is changed, if every version has a copy
 nobody_waits : (copies : Tapes) (held : Option (List (List ℕ))) (files : List FileRec) (online : List (ℕ × DiscCopy))
     → All (λ (f : File). 0 < f.rec.len → is_some (copied_rec copies f.rec).tape ≡ true) (map (file_of held) (entries_of files online))
     → All (λ (e : FileEntry). WaitsFor [] e.0) (entries_of (map (copied_rec copies) files) online)
@@ -164,7 +165,7 @@ adopting_is last copies all old o new result all_is is noted = subst (λ (p : On
   only = noted.only;
 })
 
--- WHERE RECORDS ARE MADE READY: what the tree asks for, and what they are
+-- IF RECORDS ARE PREPARED: what the tree requires, and what they are
 module _ (copies : Tapes) (held : Option (List (List ℕ))) (head : Head) (users : List UserRec) (files : List FileRec) (online : List (ℕ × DiscCopy)) (c : Contents) (is : contents_of held (directory_of head users files online) ≡ c) where
   pub ready_rules : IsRecords c.users (map (copied_rec copies) (recs_in c)) → IsRecords users (map (copied_rec copies) files)
   ready_rules rules =

@@ -1,4 +1,5 @@
 -- What a filestore is at its beginning.
+-- serves: begin (tied), find (none), fresh (ok, stopped), load (none, ok), numbers_of
 use Rattle.std.proofs.Common.{◌≡◌, ◌≢◌, ℕ, zero, suc, ◌+◌, ◌<◌, ◌≤◌, ◌==◌, Bool, true, false, ◌||◌, List, [], ◌∷◌, ◌++◌, length, get_or, map, filter, replicate, take, Option, Some, None, Ok, All, AllPairs, refl, sym, ◌∙◌, ap, subst, inl, inr, arith, slice_get, if◌then◌else◌, is_some}
 use Rattle.std.specs.Prelude.{Contains, IfSome, nat_lt, ◌⊎◌}
 use Rattle.std.specs.Option.{ForSome}
@@ -82,7 +83,7 @@ any_there (x ∷ xs) n (suc k) below is = or_right (x == n) (has xs n) (any_ther
 pub has_user : (users : List UserRec) → AreUsers users → (n : ℕ) → n < length users → has (all_numbers users) n ≡ true
 has_user users are n below = any_there (all_numbers users) n n (omega (arith, below, length-map users (λ (u : UserRec). u.number))) (number_at users are n below 0)
 
--- ALL IS MARKED where nothing is remembered
+-- ALL IS MARKED if nothing is remembered
 marked_none : (k : ℕ) → slice_get (replicate 1088 true) k ≡ Some false → ⊥
 marked_none k is =
     let within = slice_get_within (replicate 1088 true) k false is in
@@ -237,7 +238,7 @@ module _ (old new : DiscState) (side : Side) (head : Head) (users : List UserRec
         gate = found.gate;
       })
 
--- MADE ANEW: empty files are on the disc, and all others aren't
+-- a created filestore: empty files are on the disc, and all others aren't
 abbrev no_block : DiscCopy
 no_block = record { blocks = []; len = 0 }
 

@@ -1,4 +1,5 @@
--- A write into copy blocks that are free leaves what is kept of a filestore.
+-- A write into free copy blocks preserves the invariant of a filestore.
+-- serves: PinWaitLemmas, WrittenLemmas
 use Rattle.std.proofs.Common.{◌≡◌, ◌⊎◌, ℕ, zero, suc, ◌-◌, ◌||◌, Bool, true, false, not, List, [], ◌∷◌, filter, Option, Some, None, All, refl, sym, ◌∙◌, ap, subst, arith, slice_get, inl, inr}
 use Rattle.std.specs.List.{flat_map}
 use Rattle.std.specs.Prelude.{Contains, unwrap_or}
@@ -90,7 +91,7 @@ module _ (before after : DiscState) (m : Memory) (places : List ℕ) (kept : IsK
       used_away before.size (used_places m.pins (directory_in m).files) places m.pool was.pool.fresh.taken free k
       (Contains-append_left (all_places (directory_in m).files) (orphans m.pins (directory_in m).files) k there)
 
-  -- THE CONTENTS are as they were
+  -- the contents are unchanged
   pub beside_contents : contents_of after.held (directory_in m) ≡ contents_of before.held (directory_in m)
   beside_contents = same_contents before.held after.held (directory_in m)
       (Changes-weaken changes (λ b a told only. all_same places (all_places (directory_in m).files) b a only files_away))
@@ -119,7 +120,7 @@ module _ (before after : DiscState) (m : Memory) (places : List ℕ) (kept : IsK
       by_pins None is are = refl
       by_pins (Some pins) is are = same_told pins before.held after.held changes (pins_away before.size m.head.next_stamp pins is are.each)
 
-  -- AND SO IS ALL THAT IS KEPT
+  -- AND SO IS THE WHOLE INVARIANT
   pub beside_kept : ForSome after.held (AreWhole after.size) → IsKept after m
   beside_kept whole =
       let low = kept.size in

@@ -1,4 +1,5 @@
 -- A file whose bytes are brought back is ready to be committed.
+-- serves: NewBytesLemmas
 use Rattle.std.proofs.Common.{◌≡◌, ◌≢◌, ◌⊎◌, ℕ, zero, suc, ◌+◌, ◌<◌, ◌≤◌, Bool, true, false, List, [], ◌∷◌, length, get_or, map, Option, Some, None, Ok, All, AllPairs, refl, sym, ◌∙◌, ap, subst, arith, inl, inr, if◌then◌else◌, ◌==◌}
 use Rattle.std.specs.Prelude.{Contains, is_some}
 use Rattle.std.specs.Option.{ForSome}
@@ -169,7 +170,7 @@ off_copied r lies = by_case lies.lies
     by_case (inl is) = (let no : ⊥ = cc in absurd no)
     by_case (inr is) = is
 
--- a file put in its own place
+-- a file inserted at its own place
 same_rec : (r0 : FileRec) (files : List FileRec) → AllPairs (λ r s. r.number < s.number) files → Contains files r0 → All (λ r. r.number ≡ r0.number → r ≡ r0) files
 same_rec r0 [] rising there k d inside same = let no : ⊥ = omega (arith, inside) in absurd no
 same_rec r0 (x ∷ files) rising (zero, within, is) zero d inside same = is

@@ -1,4 +1,5 @@
 -- What the copies in memory say of the files.
+-- serves: bytes (filled, text), file_block (block), is_online, crates above
 use Rattle.std.proofs.Common.{◌≡◌, ◌≢◌, ℕ, suc, true, List, [], ◌∷◌, ◌++◌, length, take, get_or, map, Option, Some, None, All, AllPairs, refl, sym, ◌∙◌, ap, subst, arith, option_map, slice_get}
 use Rattle.std.specs.Prelude.{◌<◌, Contains, IfSome, is_some, slice_index_or}
 use Rattle.std.specs.Option.{ForSome}
@@ -55,7 +56,7 @@ pub pairs_right : (xs ys : List ℕ) → AllPairs (λ j k. j ≢ k) (xs ++ ys) �
 pairs_right [] ys all = all
 pairs_right (x ∷ xs) ys all = pairs_right xs ys (λ i j d less within. all (suc i) (suc j) d (omega arith) (omega arith))
 
--- so are all
+-- therefore all are
 pub copies_are : (held : Option (List (List ℕ))) (online : List (ℕ × DiscCopy)) (size : ℕ) (files : List FileRec) → All LiesSomewhere (entries_of files online) → All (IsInArea size) (all_places (entries_of files online))
     → AllPairs (λ j k. j ≢ k) (all_places (entries_of files online)) → All (IsItsCopy held online size) (map (file_of held) (entries_of files online))
 copies_are held online size [] lies area apart = λ k d within. absurd (omega arith)

@@ -1,4 +1,5 @@
--- The contents of the directory that memory is to have behind a change are those that the change makes.
+-- The contents of the directory that memory will have after a change are those that the change makes.
+-- serves: AdoptLemmas, BringStepLemmas, EraseLemmas, PutLemmas, UnjamLemmas, UnloadLemmas
 use Rattle.std.proofs.Common.{◌≡◌, ℕ, ◌+◌, Bool, true, false, ◌||◌, List, map, Option, None, ◌∙◌, ap, is_some}
 use Rattle.std.specs.Option.{ForSome}
 use Rattle.g_copy.specs.declared.copy.DiscCopy.{DiscCopy}
@@ -16,7 +17,7 @@ use Rattle.g_online.specs.Copies.{with_copy_at, without_copy, without_copies}
 use Rattle.g_online.proofs.CopyLemmas.{Copies}
 use Rattle.g_online.proofs.ContentLemmas.{Told, files_of, erased, put_in, taken_away, brought_back, copies_noted, bytes_are}
 
--- the head of a commit: while versions are pinned it keeps the intent
+-- the head of a commit: it has the intent while versions are pinned
 abbrev pub committed_head : Bool → Head → Head
 committed_head true head = head
 committed_head false head = record head { intent = None }
@@ -51,7 +52,7 @@ module _ (held : Told) (pinned : Bool) (head : Head) (users : List UserRec) (fil
   adopt_contents last copies =
       committed_is pinned (record head { last_dump = last }) users (files_of held (map (copied_rec copies) files) online) (with_copies copies (files_of held files online)) (copies_noted held copies files online)
 
-  -- a new version, whose copy has these bytes where the disc tells; behind the files that were taken off
+  -- a new version, whose copy has these bytes if the disc exposes them, after files were taken off
   pub put_contents : (rec : FileRec) (bytes unjam : List ℕ) (copy : DiscCopy) → ForSome held (λ blocks. bytes_at copy.blocks copy.len blocks ≡ bytes)
       → behind (record head { next_stamp = head.next_stamp + 1 }) (tree_with_file rec files) (with_copy_at (rec.number, copy) (without_copies unjam online))
       ≡ changed (is_some held) pinned (PutFile rec bytes unjam) was

@@ -1,4 +1,6 @@
--- A dump is closed: its versions are let go, their places on tape are noted as those of a dump that was completed, and who was touched counts as changed.
+-- A dump is closed: its versions are unpinned, their places on tape are noted as those of a completed dump, and touched
+-- users count as changed.
+-- serves: close_dump
 use Rattle.std.proofs.Common.{◌≡◌, ◌≢◌, ◌⊎◌, ℕ, ◌<◌, ◌==◌, ◌||◌, Bool, true, false, List, [], ◌∷◌, length, get_or, map, Option, Some, None, Result, Ok, Err, All, AllPairs, refl, sym, ◌∙◌, ap, subst, arith, inl, inr}
 use Rattle.std.specs.Prelude.{is_some}
 use Rattle.std.proofs.lemmas.Bool.{cases_Bool, cond-false, cond-true}
@@ -36,7 +38,7 @@ use Rattle.g_online.proofs.UnloadLemmas.{remembers_pages}
 abbrev Tapes : Type 0
 Tapes = List (ℕ × TapeCopy)
 
--- WHAT IS NOTED is noted for pinned versions alone
+-- copies are noted for pinned versions only
 no_copy : (pins : List Pinned) (stamp : ℕ) (old : Option TapeCopy) → copy_of (noted_in pins) stamp old ≡ None → (old ≡ None) × (has_stamp pins stamp ≡ false)
 no_copy [] stamp old none = (none, refl)
 no_copy (p ∷ pins) stamp old none = by_first (cases_Bool (p.stamp == stamp)) (no_copy pins stamp old)
@@ -72,7 +74,7 @@ empty_apart size next files touched (Some pins) are = λ k d within.
     not_empty pins (get_or files k d)
     (All-weaker (IsPinned size next files) (λ (p : Pinned). (0 < p.len) × IsFileOf p (get_or files k d)) (λ p is. (is.filled, is.current k d within)) pins are.each)
 
--- WHO WAITS behind it was touched
+-- the owner of a version that waits after the closing was touched
 waits_closed : (pins : List Pinned) (touched : List ℕ) (files : List FileRec) (online : List (ℕ × DiscCopy)) → All (WaitsPinned pins touched) (entries_of files online)
     → All (λ (e : FileEntry). WaitsFor touched e.0) (entries_of (map (copied_rec (noted_in pins)) files) online)
 waits_closed pins touched [] online all = λ k d within. (let no : ⊥ = omega (arith, within) in absurd no)
@@ -98,8 +100,7 @@ noted_closed users size next files online changed touched (Some pins) some was a
   waits = waits_closed pins touched files online are.waits;
 }
 
--- THE CLOSING, as the places of a completed dump are noted, once the versions were let go
--- what is known before it
+-- THE CLOSING, as the places of a completed dump are noted, after the versions were unpinned: what is known before it
 pub record IsToClose (last : ℕ) (before : DiscState) (m : Memory) : Type 0 where
   pub kept : IsKept before m
   pub live : m.live ≡ true
@@ -115,7 +116,7 @@ to_close last before m o is kept live some rules = record {
 }
 
 module _ (last : ℕ) (before : DiscState) (m : Memory) (may : IsToClose last before m) (files : List FileRec) (pins : List Pinned) (files_are : files ≡ m.files) (pins_are : pins ≡ pinned_in m.pins) where
-  -- what giving their blocks back asks for
+  -- what giving their blocks back requires
   pub lost_to_close : AllPairs (λ j k. j ≢ k) (lost_places files pins) × All (IsTaken m.pool) (lost_places files pins)
   lost_to_close = lost_blocks before m may.kept may.live files pins files_are pins_are
 
@@ -145,7 +146,7 @@ module _ (last : ℕ) (before : DiscState) (m : Memory) (may : IsToClose last be
       rules = subst KeepsRules (sym (adopted_is (is_some before.held) last (noted_in pins) (facts_of before gone) refl ∙ closes)) may.rules;
     }
 
-    -- what the tree asks for
+    -- what the tree requires
     pub close_rules : IsRecords m.users (map (copied_rec (noted_in pins)) m.files)
     close_rules = adopt_rules last (noted_in pins) (noted_in pins) before gone (facts_of before gone) refl refl gone_is allowed
 
@@ -162,7 +163,7 @@ module _ (last : ℕ) (before : DiscState) (m : Memory) (may : IsToClose last be
         (λ b was. remembers_pages first pages marks.pages b (remembers b was))
         (λ s was. covers_noted (noted_in pins) s m.head (record m.head { last_dump = last; intent = None }) m.users m.files m.online m.pages first pages covers marks was)
 
-    -- who counts as changed behind it
+    -- the users who count as changed after the closing
     close_noted : (users : List UserRec) (noted_files : List FileRec) (all touched : List ℕ) → users ≡ m.users → noted_files ≡ map (copied_rec (noted_in pins)) m.files → all ≡ m.touched → touched ≡ []
         → AreNoted (length users) (entries_of noted_files m.online) all touched
     close_noted users noted_files all touched users_are noted_are all_is none =

@@ -1,4 +1,5 @@
 -- The records that a closing changes are marked, one by one, and so all that it changes of the directory.
+-- serves: note_copies (marks), note_copy (marks), CloseLemmas
 use Rattle.std.proofs.Common.{◌≡◌, ◌≢◌, ◌⊎◌, ℕ, ◌+◌, ◌-◌, ◌≤◌, ◌==◌, List, [], ◌∷◌, get_or, map, Option, Some, All, refl, sym, ◌∙◌, ap, subst, arith, inl, inr, slice_get, if◌then◌else◌}
 use Rattle.std.proofs.lemmas.Bool.{cases_eq, cond-false, cond-true, eq-eqb, ne_eqb}
 use Rattle.std.proofs.lemmas.List.{get_or-map, get_or_default, length-map}

@@ -1,4 +1,5 @@
--- The places on tape that were noted are put into the records one by one.
+-- The noted places on tape are written into the records one by one.
+-- serves: note_copies (files), note_copy (files, marks), with_copy (none, some), CloseMarkLemmas, CopiedLemmas, FewerLemmas, PinLemmas, crates above
 use Rattle.std.proofs.Common.{◌≡◌, ◌≢◌, ◌⊎◌, ℕ, suc, ◌+◌, ◌<◌, ◌≤◌, ◌==◌, Bool, true, false, List, [], ◌∷◌, length, get_or, map, nat_lt, Option, Some, None, All, AllPairs, refl, sym, ◌∙◌, ap, subst, arith, inl, inr, if◌then◌else◌}
 use Rattle.std.specs.Prelude.{Contains}
 use Rattle.std.specs.FinMap as finmap
@@ -31,7 +32,7 @@ use Rattle.g_online.proofs.VersionLemmas.{put_one}
 abbrev pub Tapes : Type 0
 Tapes = List (ℕ × TapeCopy)
 
--- a place that is noted is found whatever there was
+-- a noted place is found, for any place that was there
 pub noted_some : (copies : Tapes) (stamp : ℕ) (old : Option TapeCopy) (copy : TapeCopy) → Some copy ≡ copy_of copies stamp None → Some copy ≡ copy_of copies stamp old
 noted_some [] stamp old copy is = (let no : ⊥ = cc in absurd no)
 noted_some (c ∷ cs) stamp old copy is = by_first (cases_Bool (c.0 == stamp)) (noted_some cs stamp old copy)
@@ -119,7 +120,7 @@ module _ (copies : Tapes) where
             ∙ sym (cond-false (nat_lt r.number (number + 1)) C r.tape (le-ltb r.number (number + 1) (omega (arith, more))))
       ])
 
-  -- THE RULES hold meanwhile
+  -- THE RULES hold in between
   tape_one : (P : FileRec → Type 0) (r : FileRec) (b : Bool) → P r → P (copied_rec copies r) → P (record r { tape = if b then copy_of copies r.stamp r.tape else r.tape })
   tape_one P r true before after = after
   tape_one P r false before after = before
@@ -248,7 +249,7 @@ module _ (copies : Tapes) (users : List UserRec) (files : List FileRec) (rules :
       ap (option_map (λ (s : FileRec). s.number))
       (get-from_entries full_total (keyed (full_of users) files) (full_of users r) ∙ found_itself full_total full_exact (full_of users) files r (names_apart users files rules) there)
 
-  -- what the tree asks for
+  -- what the tree requires
   pub name_there : (r noted : FileRec) → (let one : Option FileRec = Some r in one ≡ finmap.get (by_number files) number) → noted ≡ copied_rec copies r
       → number_of users files (full_of users noted) ≡ Some noted.number
   name_there r noted found is =

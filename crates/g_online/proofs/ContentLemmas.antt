@@ -1,4 +1,5 @@
 -- What the files of a directory are, with their bytes, when its lists of records and of copies change.
+-- serves: BegunLemmas, BringStepLemmas, ChangeLemmas, FileLemmas, KeepLemmas, RoomLemmas, UnjamLemmas
 use Rattle.std.proofs.Common.{◌≡◌, ℕ, ◌<◌, ◌==◌, true, false, List, [], ◌∷◌, map, Option, Some, None, refl, sym, ◌∙◌, ap, inl, inr, if◌then◌else◌, option_map, not, is_some, AllPairs}
 use Rattle.std.specs.Prelude.{Contains}
 use Rattle.std.specs.Option.{ForSome}
@@ -50,7 +51,7 @@ module _ (held : Told) where
       files_made (tree_without_file n files) (without_copy n online) ∙ made-erased (file_of held) (λ f. f.rec.number) (number_is held) n files online
       ∙ sym (ap (without_file n) (files_made files online))
 
-  -- A FILE IS PUT IN, with a copy of these bytes
+  -- A FILE IS INSERTED, with a copy of these bytes
   pub put_in : (rec : FileRec) (copy : DiscCopy) (files : List FileRec) (online : Copies)
       → files_of held (tree_with_file rec files) (with_copy_at (rec.number, copy) online)
       ≡ with_file (record { rec = rec; online = true; bytes = option_map (bytes_at copy.blocks copy.len) held }) (files_of held files online)
@@ -161,7 +162,7 @@ module _ (held : Told) where
       → files_of held (tree_with_file rec files) online ≡ set_rec rec (files_of held files online)
   record_set rec files online rising there = ap (λ (l : List FileRec). files_of held l online) (put-set rec files rising there) ∙ set_each rec files online
 
-  -- what the bytes are where the disc tells
+  -- the bytes, if the disc exposes them
   pub bytes_are : (copy : DiscCopy) (bytes : List ℕ) → ForSome held (λ blocks. bytes_at copy.blocks copy.len blocks ≡ bytes) → option_map (bytes_at copy.blocks copy.len) held ≡ told_bytes (is_some held) bytes
   bytes_are copy bytes each = by_held held each
     where

@@ -1,4 +1,5 @@
--- Records that stand elsewhere on tape, and are else the same, keep the rules of a directory.
+-- Records with other copies on tape, and otherwise the same, satisfy the rules of a directory.
+-- serves: crates above
 use Rattle.std.proofs.Common.{◌≡◌, ◌≢◌, ◌⊎◌, ℕ, ◌^◌, ◌<◌, ◌≤◌, ◌==◌, Bool, true, false, List, [], ◌∷◌, length, get_or, map, Option, Some, None, All, refl, ◌∙◌, subst, arith, inl, inr, if◌then◌else◌}
 use Rattle.std.specs.Prelude.{IfSome, is_some}
 use Rattle.std.proofs.lemmas.Bool.{cond-false, ne_eqb}
@@ -15,7 +16,7 @@ use Rattle.g_disc_contents.specs.Contents.{Contents, File, copied_rec, copy_of, 
 use Rattle.g_online.specs.AllowedChanges.{KeepsRules, Lies}
 use Rattle.g_online.proofs.CloseNoteLemmas.{Tapes, pairs_map}
 
--- WHATEVER PLACE each record gets
+-- for any place on tape that each record gets
 module _ (place : FileRec → Option TapeCopy) where
   abbrev replaced : FileRec → FileRec
   replaced r = record r { tape = place r }
@@ -47,7 +48,7 @@ module _ (place : FileRec → Option TapeCopy) where
         };
       }
 
--- THE COPY of a stamp, where one may be noted
+-- THE COPY of a stamp, if one may be noted
 copied_fits : (cs : Tapes) (stamp : ℕ) (old : Option TapeCopy) → All (λ c. IsCopy c.1) cs → IfSome old IsCopy → IfSome (copy_of cs stamp old) IsCopy
 copied_fits [] stamp old all was = was
 copied_fits (c ∷ cs) stamp old all was = by_stamp (c.0 == stamp) (copied_fits cs stamp old (All-tail (λ (x : ℕ × TapeCopy). IsCopy x.1) c cs all) was)
@@ -65,7 +66,7 @@ still_copied (c ∷ cs) stamp old was = by_stamp (c.0 == stamp) (still_copied cs
     by_stamp true rest = refl
     by_stamp false rest = rest
 
--- and none is given where no copy has the stamp
+-- and none is added if no copy has the stamp
 pub none_copied : (cs : Tapes) (stamp : ℕ) (old : Option TapeCopy) → All (λ c. c.0 ≢ stamp) cs → copy_of cs stamp old ≡ old
 none_copied [] stamp old all = refl
 none_copied (c ∷ cs) stamp old all =
@@ -80,7 +81,7 @@ recs_copied copies (f ∷ files) = λ i. copied_rec copies f.rec ∷ recs_copied
 abbrev pub KeepsEmpty : Tapes → FileRec → Type 0
 KeepsEmpty copies r = r.len ≡ 0 → copy_of copies r.stamp r.tape ≡ r.tape
 
--- COPIES that may stand in records
+-- copies that records may have
 module _ (copies : Tapes) (stand : All (λ c. IsCopy c.1) copies) where
   pub records_copied : (users : List UserRec) (files : List FileRec) → All (KeepsEmpty copies) files → IsRecords users files → IsRecords users (map (copied_rec copies) files)
   records_copied users files kept was =
@@ -95,7 +96,7 @@ module _ (copies : Tapes) (stand : All (λ c. IsCopy c.1) copies) where
       by_case (inl on) = inl on
       by_case (inr copied) = inr (still_copied copies f.rec.stamp f.rec.tape copied)
 
-  -- with them noted the contents keep the rules
+  -- with them noted the contents satisfy the rules
   pub rules_copied : (c : Contents) (last : ℕ) → last < 2 ^ 62 → All (KeepsEmpty copies) (recs_in c) → KeepsRules c
       → KeepsRules (record c { head = record c.head { last_dump = last; intent = None }; files = with_copies copies c.files })
   rules_copied c last low kept rules =

@@ -1,4 +1,5 @@
--- Look-ups among copies by file number, and what they find when a copy is put in or copies are taken out.
+-- Look-ups among copies by file number, and what they find when a copy is inserted or copies are taken out.
+-- serves: load (ok), make_ready (same), BegunLemmas, BringStepLemmas, ChangeLemmas, ContentLemmas, EntryLemmas, NeedLemmas, NewBytesLemmas, and 5 more
 use Rattle.std.proofs.Common.{◌≡◌, ◌≢◌, ℕ, ◌==◌, Bool, true, false, List, [], ◌∷◌, ◌++◌, find, filter, Option, Some, None, refl, sym, ◌∙◌, ap, inl, inr, arith, if◌then◌else◌, option_map}
 use Rattle.std.specs.Prelude.{nat_lt}
 use Rattle.std.proofs.lemmas.Bool.{cases_Bool, cases_eq, cases_order, cond-false, cond-true, eq-eqb, ne_eqb, lt-ltb, le-ltb, true≢false}
@@ -49,7 +50,7 @@ copy_at-failing p (c ∷ online) n no_n =
       | inr is ↦ ap (λ (l : Copies). copy_at l n) (passing_out p c online is) ∙ copy_at-failing p online n no_n
     ]
 
--- one list behind another
+-- one list followed by another
 pub copy_at-front : (xs ys : Copies) (n : ℕ) (copy : DiscCopy) → copy_at xs n ≡ Some copy → copy_at (xs ++ ys) n ≡ Some copy
 copy_at-front [] ys n copy is = absurd (let no : ⊥ = cc in no)
 copy_at-front (c ∷ xs) ys n copy is =
@@ -66,7 +67,7 @@ copy_at-back (c ∷ xs) ys n is =
       | inr other ↦ copy_behind c (xs ++ ys) n other ∙ copy_at-back xs ys n (sym (copy_behind c xs n other) ∙ is)
     ]
 
--- A COPY PUT IN is found by its number
+-- AN INSERTED COPY is found by its number
 pub copy_at-put : (n : ℕ) (copy : DiscCopy) (online : Copies) → copy_at (with_copy_at (n, copy) online) n ≡ Some copy
 copy_at-put n copy online =
     copy_at-back (passing (λ m. nat_lt m n) online) ((n, copy) ∷ passing (λ m. nat_lt n m) online) n (copy_at-failing (λ m. nat_lt m n) online n (le-ltb n n (omega arith)))

@@ -1,4 +1,5 @@
--- What is made of each file and its copy, when the lists of records and of copies change.
+-- What is computed from each file and its copy, when the lists of records and of copies change.
+-- serves: BringStepLemmas, CloseNoteLemmas, ContentLemmas, EraseLemmas, FileLemmas, PutLemmas, crates above
 use Rattle.std.proofs.Common.{◌≡◌, ◌≢◌, ℕ, zero, suc, ◌<◌, ◌==◌, Bool, true, List, [], ◌∷◌, ◌++◌, map, filter, Option, Some, All, AllPairs, refl, sym, ◌∙◌, ap, inl, inr, arith, if◌then◌else◌, not, cond}
 use Rattle.std.specs.Prelude.{nat_lt, Contains}
 use Rattle.std.proofs.lemmas.Bool.{cases_Bool, cases_order, cond-false, cond-true, eq-eqb, ne_eqb, lt-ltb, le-ltb, true≢false}
@@ -11,7 +12,7 @@ use Rattle.g_online.specs.Copies.{with_copy_at, without_copy}
 use Rattle.g_tree.specs.State.{with_file as tree_with_file, without_file as tree_without_file}
 use Rattle.g_online.proofs.CopyLemmas.{Copies, copy_at-passing, copy_at-put, copy_at-put_other}
 
--- WHAT IS MADE of each file, which has the file's number
+-- WHAT IS COMPUTED from each file, which has the file's number
 module _ {X : Type 0} (make : FileEntry → X) (number : X → ℕ) (number_is : (e : FileEntry) → number (make e) ≡ e.0.number) where
   abbrev pub one : Copies → FileRec → X
   one online r = let e : FileEntry = (r, copy_at online r.number) in make e
@@ -19,7 +20,7 @@ module _ {X : Type 0} (make : FileEntry → X) (number : X → ℕ) (number_is :
   abbrev pub made : List FileRec → Copies → List X
   made files online = map (one online) files
 
-  -- they are told apart by their numbers
+  -- their numbers distinguish them
   made-passing : (p : ℕ → Bool) (files : List FileRec) (online : Copies) → made (filter (λ r. p r.number) files) online ≡ filter (λ x. p (number x)) (made files online)
   made-passing p [] online = refl
   made-passing p (r ∷ files) online =
@@ -60,7 +61,7 @@ module _ {X : Type 0} (make : FileEntry → X) (number : X → ℕ) (number_is :
   pub made-erased : (n : ℕ) (files : List FileRec) (online : Copies) → made (tree_without_file n files) (without_copy n online) ≡ filter (λ x. not (number x == n)) (made files online)
   made-erased n files online = made-passing_kept (λ m. not (m == n)) files online (without_copy n online) (λ k is. copy_at-passing (λ m. not (m == n)) online k is)
 
-  -- A FILE IS PUT IN, with its copy
+  -- A FILE IS INSERTED, with its copy
   pub made-put : (rec : FileRec) (copy : DiscCopy) (files : List FileRec) (online : Copies)
       → made (tree_with_file rec files) (with_copy_at (rec.number, copy) online)
       ≡ filter (λ x. nat_lt (number x) rec.number) (made files online) ++ (let e : FileEntry = (rec, Some copy) in make e) ∷ filter (λ x. nat_lt rec.number (number x)) (made files online)

@@ -1,4 +1,5 @@
 -- A file less is ready to be written.
+-- serves: erase_file, BringStepLemmas, PutStepLemmas
 use Rattle.std.proofs.Common.{◌≡◌, ◌≢◌, ◌⊎◌, ℕ, zero, suc, ◌+◌, ◌<◌, ◌==◌, ◌||◌, Bool, true, false, not, List, [], ◌∷◌, ◌++◌, length, get_or, map, Option, Some, None, All, AllPairs, refl, sym, ◌∙◌, ap, subst, arith, inl, inr, if◌then◌else◌}
 use Rattle.std.specs.Prelude.{Contains, is_some}
 use Rattle.std.specs.FinMap as finmap
@@ -45,7 +46,7 @@ use Rattle.g_online.proofs.UseLemmas.{IsUsed, SameUse, may_give, used_given, use
 pub entries_without : (n : ℕ) (files : List FileRec) (online : List (ℕ × DiscCopy)) → entries_of (without_file n files) (without_copy n online) ≡ without_entry n (entries_of files online)
 entries_without n files online = made-erased {X = FileEntry} (λ e. e) (λ e. e.0.number) (λ e. refl) n files online
 
--- the others are found as they were
+-- the others are found unchanged
 other_found : (n i : ℕ) (b : Bool) (f : FileEntry) (fs : List FileEntry) → i ≢ n → (f.0.number == n) ≡ b → entry_at (without_entry n fs) i ≡ entry_at fs i → entry_at (if not b then f ∷ without_entry n fs else without_entry n fs) i ≡ entry_at (f ∷ fs) i
 other_found n i true f fs other is rest =
     rest ∙ sym (cond-false (f.0.number == i) (Some f) (entry_at fs i) (ne_eqb f.0.number i (λ same. other (sym same ∙ eqb-true f.0.number n is))))
@@ -94,7 +95,7 @@ copies_without n files online are = record {
         (without_copy n cs) (filter_passes (λ (c : ℕ × DiscCopy). not (c.0 == n)) cs)
         (All-filter (λ (c : ℕ × DiscCopy). not (c.0 == n)) (λ (c : ℕ × DiscCopy). Contains (map (λ (s : FileRec). s.number) files) c.0) cs all)
 
--- who is pinned stays so
+-- pinned versions stay pinned
 pinned_without : (size next n : ℕ) (files : List FileEntry) (p : Pinned) → IsPinned size next files p → IsPinned size next (without_entry n files) p
 pinned_without size next n files p is = record {
   older = is.older;
@@ -120,7 +121,7 @@ noted_without users n files changed_are touched was = record {
   waits = All-filter (λ (f : FileEntry). not (f.0.number == n)) (λ (f : FileEntry). WaitsFor changed_are f.0) files was.waits;
 }
 
--- THE FILE that goes
+-- THE FILE that is removed
 pub record IsGoing (number : ℕ) (before : DiscState) (m : Memory) : Type 0 where
   pub was : IsAgreed before m
   pub file : FileRec
@@ -235,7 +236,7 @@ module _ (size next : ℕ) (e : FileEntry) (files : List FileEntry) (rising : Al
       used_same size (used_places pins files) (places_of e ++ used_places pins (without_entry e.0.number files)) pool
       (used_without pins e files rising there (not_pinned pins is)) (used size pins files pool was)
 
-  -- what giving them back asks for
+  -- what giving them back requires
   pub may_go : (pins : Option (List Pinned)) (pool : List Bool) → is_pinned pins e.0.stamp ≡ false → IsPooled size pins files pool → AllPairs (λ j k. j ≢ k) (places_of e) × All (IsTaken pool) (places_of e)
   may_go pins pool is was = may_give size (places_of e) (used_places pins (without_entry e.0.number files)) pool (used_then pins pool is was)
 
@@ -264,7 +265,7 @@ module _ (size next : ℕ) (e : FileEntry) (files : List FileEntry) (rising : Al
       (used_same size (used_places (Some pins) files) (used_places (Some pins) (without_entry e.0.number files)) old
       (use_gone (Some pins) touched true is are) (used size (Some pins) files old was)))
 
--- what the tree asks for
+-- what the tree requires
 pub going_is : (number : ℕ) (before : DiscState) (m : Memory) (going : IsGoing number before m) → finmap.get (by_number m.files) number ≡ Some going.file
 going_is number before m going =
     let recs = recs-entries m.files m.online in
@@ -366,7 +367,7 @@ module _ (number : ℕ) (before : DiscState) (m : Memory) (going : IsGoing numbe
   rules : AllPairs (λ (f : FileEntry) g. f.0.number < g.0.number) (entries_of m.files m.online) × AllPairs (λ (f : FileEntry) g. f.0.stamp ≢ g.0.stamp) (entries_of m.files m.online)
   rules = (entries_rise m.files m.online going.was.stored.rules.numbered.rising, entries_differ m.files m.online going.was.stored.rules.files.stamps)
 
-  -- what giving them back asks for
+  -- what giving them back requires
   pub its_blocks : (stamp : ℕ) (copy : Option DiscCopy) (keeps : Bool) → stamp ≡ going.file.stamp → copy ≡ copy_at m.online number → keeps ≡ is_pinned m.pins stamp → keeps ≡ false
       → AllPairs (λ j k. j ≢ k) (copy_places copy) × All (IsTaken m.pool) (copy_places copy)
   its_blocks stamp copy keeps stamp_is copy_is keeps_is free =

@@ -1,4 +1,5 @@
--- The records of some of the files keep the rules that those of all keep.
+-- The records of some of the files satisfy every rule that those of all files satisfy.
+-- serves: crates above
 use Rattle.std.proofs.Common.{◌≡◌, ◌≢◌, ◌<◌, ◌≤◌, Bool, List, length, get_or, map, filter, None, All, AllPairs, subst, arith}
 use Rattle.std.proofs.lemmas.List.{get_or-map, length-map}
 use Rattle.std.proofs.lemmas.List.Elements.{All-filter, All-map}

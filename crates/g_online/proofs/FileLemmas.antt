@@ -1,4 +1,5 @@
 -- The record of a file, changed, is ready to be written.
+-- serves: set_file, UnloadLemmas
 use Rattle.std.proofs.Common.{◌≡◌, ℕ, zero, suc, ◌+◌, ◌<◌, ◌≤◌, Bool, true, false, List, [], ◌∷◌, length, map, Option, All, AllPairs, refl, sym, ◌∙◌, ap, subst, arith, if◌then◌else◌}
 use Rattle.std.specs.Prelude.{Contains, is_some}
 use Rattle.std.proofs.lemmas.List.Elements.{All-cons, All-contains, All-head, All-tail, All-weaker}
@@ -52,7 +53,7 @@ number_there held (r ∷ files) online f (suc k, inside, is) =
     let within = there.1 in
     (suc there.0, omega (arith, within), there.2)
 
--- the record that is changed is that of this version alone
+-- the changed record is that of this version, and no other
 versions : (held : Option (List (List ℕ))) (files : List FileRec) (online : List (ℕ × DiscCopy)) (rec : FileRec) (f : File) → AllPairs (λ r s. r.number < s.number) files
     → Contains (contents_files held files online) f → IsSameVersion rec f → All (λ (r : FileRec). r.number ≡ rec.number → IsVersion rec r) files
 versions held [] online rec f rising (k, inside, is) same = let no : ⊥ = omega (arith, inside) in absurd no
@@ -179,7 +180,7 @@ file_ready rec before m pinned head users files k first pages all touched o pinn
     (file_set_ready rec before m first pages o is kept allowed there keeps remembers (subst (λ (h : Head). CoversHead m.head h m.pages first) top covers)
     (subst (λ (j : ℕ). pages ≡ marked j first) at marks') remembers' (subst (λ (j : ℕ). CoversBut j first pages) at covers'))
 
--- what the tree asks for
+-- what the tree requires
 pub file_rules : (rec : FileRec) (before : DiscState) (m : Memory) (users : List UserRec) (files : List FileRec) (o : OnlineFacts) → users ≡ m.users → files ≡ m.files
     → facts_of before m ≡ o → IsKept before m → IsAllowed (SetFile rec) o → IsRecords users (with_file rec files)
 file_rules rec before m users files o users_are files_are is kept allowed =

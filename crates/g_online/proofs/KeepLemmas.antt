@@ -1,4 +1,5 @@
 -- The rules of a directory, from those of its contents and those of its blocks.
+-- serves: AdoptLemmas, BegunLemmas, BringStepLemmas, EraseLemmas, PutLemmas, PutStepLemmas, ReadyLemmas, RecordLemmas, UnjamLemmas, UnloadLemmas, and 2 more
 use Rattle.std.proofs.Common.{◌≡◌, ◌≢◌, ℕ, ◌<◌, ◌≤◌, true, List, length, get_or, map, Option, Some, None, All, AllPairs, sym, subst, arith}
 use Rattle.std.specs.Prelude.{IfSome}
 use Rattle.std.proofs.lemmas.Bool.{lt-ltb}
@@ -17,7 +18,7 @@ use Rattle.g_online.proofs.ContentLemmas.{recs_are}
 abbrev pub Told : Type 0
 Told = Option (List (List ℕ))
 
--- as many block numbers as the bytes take, where it is on the disc
+-- as many block numbers as the bytes take, if it is on the disc
 abbrev pub CopyFits : FileEntry → Type 0
 CopyFits f = IfSome f.1 (IsCopyOf f.0)
 

@@ -1,4 +1,5 @@
 -- In which blocks two directories differ.
+-- serves: carry_head (covers), BringStepLemmas, CloseMarkLemmas, EraseLemmas, FileLemmas, PutLemmas, RecordLemmas, UnjamLemmas, UnloadLemmas, UserLemmas
 use Rattle.std.proofs.Common.{◌≡◌, ◌≢◌, ℕ, ◌+◌, ◌-◌, ◌<◌, ◌≤◌, ◌==◌, Bool, true, false, List, refl, ap, arith, slice_get, if◌then◌else◌}
 use Rattle.std.specs.Prelude.{nat_lt}
 use Rattle.std.proofs.lemmas.Bool.{eqb-true, eq-eqb, ltb-true, ltb-false}

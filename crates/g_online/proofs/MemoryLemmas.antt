@@ -1,4 +1,5 @@
 -- What is in memory, from its parts in their order.
+-- serves: add_user, adopt, erase_file, set_file, set_user, unload, with_new_copy, NotedLemmas, PinLemmas, PinLostLemmas, UnjamLemmas
 use Rattle.std.proofs.Common.{◌≡◌, ℕ, Bool, true, List, length, Option}
 use Rattle.g_copy.specs.declared.copy.DiscCopy.{DiscCopy}
 use Rattle.g_entry.specs.declared.file_rec.FileRec.{FileRec}
@@ -25,7 +26,7 @@ memory side pages pool users files head online pins changed touched live = recor
   live = live;
 }
 
--- IT IS KEPT with another pool, other pins and other notes, where these are right
+-- IT IS KEPT with another pool, other pins and other notes, if these are right
 pub kept_anew : (disc : DiscState) (m : Memory) (pool : List Bool) (pins : Option (List Pinned)) (changed touched : List ℕ) → IsKept disc m
     → (m.live ≡ true → IsPooled disc.size pins (directory_in m).files pool) → (m.live ≡ true → AreNoted (length m.users) (directory_in m).files changed touched)
     → (m.live ≡ true → PinsAre pins disc.size m.head.next_stamp (directory_in m).files touched) → IsKept disc (record m { pool = pool; pins = pins; changed = changed; touched = touched })

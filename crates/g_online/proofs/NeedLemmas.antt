@@ -1,4 +1,5 @@
 -- How a change with new bytes is answered, from what its parts did.
+-- serves: make_ready (full, ok, only), with_new_copy, NewBytesLemmas
 use Rattle.std.proofs.Common.{◌≡◌, ◌≢◌, ◌⊎◌, ℕ, ◌+◌, ◌<◌, ◌≤◌, Bool, false, List, [], length, Result, Ok, Err, All, AllPairs, refl, sym, ◌∙◌, ap, subst, arith, inl, inr}
 use Rattle.std.specs.Prelude.{IsErrOf, OnErr, OnOk, ◌↔◌, is_some}
 use Rattle.std.specs.Option.{ForSome}
@@ -72,12 +73,12 @@ only_here e n k j l need room only =
 pub ready_few : (bytes n : ℕ) → n ≡ blocks_for bytes → bytes ≤ 65536 → n ≤ 128
 ready_few bytes n need short = omega (arith, need, short)
 
--- REFUSED, for want of blocks or of memory
+-- a refusal, because blocks or memory are missing
 refused_not : (e : OnlineFault) (n k : ℕ) → (e ≡ NoMemory) ⊎ (e ≡ DiscFull n k) → e ≢ Stopped
 refused_not e n k (inl is) wrong = cc
 refused_not e n k (inr is) wrong = cc
 
--- A FILESTORE THAT IS STOPPED, whatever is in memory besides
+-- a stopped filestore, for any contents of memory
 kept_stopped : (disc : DiscState) (m n : Memory) → IsKept disc m → n.live ≡ false → IsKept disc n
 kept_stopped disc m n kept dead = record { size = kept.size; most = kept.most; whole = kept.whole; agreed = λ live. (let wrong = sym live ∙ dead in let no : ⊥ = cc in absurd no) }
 
@@ -98,7 +99,7 @@ moved m users files online = record m { users = users; files = files; online = o
 moved_same : (m : Memory) (users : List UserRec) (files : List FileRec) (online : Copies) → users ≡ m.users → files ≡ m.files → online ≡ m.online → moved m users files online ≡ m
 moved_same m users files online users_are files_are online_is = λ i. moved m (users_are i) (files_are i) (online_is i)
 
--- what was told of the list of copies before it was moved
+-- what was known of the list of copies before it was moved
 pub taken_moved : (bytes : ℕ) (listed : List ℕ) (online now : Copies) (old new : List Bool) (copy : DiscCopy) → now ≡ online → TakesBeside (places_off listed online) bytes old new copy → TakesBeside (places_off listed now) bytes old new copy
 taken_moved bytes listed online now old new copy same = subst (λ (on : Copies). TakesBeside (places_off listed on) bytes old new copy) (sym same)
 
@@ -111,7 +112,7 @@ pub only_moved : (e : OnlineFault) (listed : List ℕ) (online now : Copies) (fr
     → (e ≡ NoMemory) ⊎ (e ≡ DiscFull need (free + length (places_off listed now)))
 only_moved e listed online now free need same = subst (λ (on : Copies). (e ≡ NoMemory) ⊎ (e ≡ DiscFull need (free + length (places_off listed on)))) (sym same)
 
--- WHAT IS ASKED FOR, with the bytes and the list of files as the code has them
+-- what the change requires, with the bytes and the list of files as the code has them
 pub record IsAsked (bytes : ℕ) (listed : List ℕ) (inner outer : Change) (o : OnlineFacts) (before : DiscState) (m : Memory) : Type 0 where
   pub needing : IsNeeding listed inner outer
   pub needs : NeedsFor bytes inner
@@ -128,7 +129,7 @@ module _ (bytes : ℕ) (listed : List ℕ) (inner outer : Change) (o : OnlineFac
   asked_need : need_of outer ≡ blocks_for bytes
   asked_need = asked.needing.two.need ∙ asked.needs.need
 
-  -- what is asked of the lists and blocks
+  -- what the change requires of lists and blocks
   pub asked_blocks : AllPairs (λ j k. j ≢ k) (places_off listed m.online) × All (IsTaken m.pool) (places_off listed m.online)
   asked_blocks = off_blocks listed before m (may_take_off listed inner outer asked.needing before m o asked.view asked.kept asked.allowed)
 
@@ -160,7 +161,7 @@ module _ (bytes : ℕ) (listed : List ℕ) (inner outer : Change) (o : OnlineFac
         let given = takes.gives.count in
         (let no : ⊥ = omega (arith, few, enough, given) in no)
 
-    -- what the first commit asks for
+    -- what the first commit requires
     pub asked_rules : (pinned : Bool) → pinned ≡ is_some m.pins
         → AreRecords Two (directory_of (head_after pinned m.head) m.users m.files (without_copies listed m.online)) × IsDirectory before.size (directory_of (head_after pinned m.head) m.users m.files (without_copies listed m.online))
     asked_rules pinned is =
@@ -191,7 +192,7 @@ module _ (bytes : ℕ) (listed : List ℕ) (inner outer : Change) (o : OnlineFac
       let stored = (asked.kept.agreed (allowed_live outer before m o asked.view asked.allowed)).stored in
       record { size = asked.kept.size; gate = stored.gate; remembers = stored.remembers; covers = stored.covers; records = stored.records; rules = stored.rules }
 
--- WHAT THE WRITES ASK FOR
+-- what the writes require
 pub unjammed_copy : (bytes : ℕ) (given : List ℕ) (old pool : List Bool) (copy : DiscCopy) (inner : Change) (listed : List ℕ) (o : OnlineFacts) (disc : DiscState) (m : Memory) → (takes : TakesBeside given bytes old pool copy) → IsUnjammed inner listed o disc m
     → m.pool ≡ takes.between → IsCopy disc.size copy
 unjammed_copy bytes given old pool copy inner listed o disc m takes un is =

@@ -1,4 +1,5 @@
--- New bytes are those of a new version, or of a file that has them on tape alone: what is known of either.
+-- New bytes are those of a new version, or of a file whose bytes are only on tape: what is known of either.
+-- serves: with_new_copy
 use Rattle.std.proofs.Common.{◌≡◌, ◌≢◌, ℕ, ◌+◌, ◌<◌, ◌≤◌, Bool, true, false, List, [], ◌∷◌, length, Option, Some, None, Result, Ok, Err, All, AllPairs, refl, sym, ◌∙◌, ap, subst, arith}
 use Rattle.std.specs.Prelude.{IfSome, OnErr, OnOk, is_some}
 use Rattle.std.specs.Option.{ForSome}
@@ -42,7 +43,7 @@ use Rattle.g_online.proofs.TwoLemmas.{IsNeeding, is_new, put_needing}
 use Rattle.g_online.proofs.UnjamLemmas.{IsUnjammed, memory_with, parts_of}
 use Rattle.g_online.proofs.WrittenLemmas.{IsNewCopy, NeedsFor}
 
--- WHAT IS ASKED FOR, by the bytes and the list as the code has them
+-- what the change requires, by the bytes and the list as the code has them
 pub bytes_needing : (rec : Option FileRec) (number : ℕ) (bytes unjam : List ℕ) → IsNeeding unjam (with_bytes rec number bytes []) (with_bytes rec number bytes unjam)
 bytes_needing None number bytes unjam = bring_needing number bytes unjam
 bytes_needing (Some r) number bytes unjam = put_needing r bytes unjam
@@ -101,7 +102,7 @@ gives_none true copy old new none gives = gives
 gives_none false None old new none gives = same_pool old new gives
 gives_none false (Some copy) old new none gives = (let no : ⊥ = cc in absurd no)
 
--- what is put into memory, in the place of what was there
+-- what replaces the former parts of memory
 pub record IsPutIn (number : ℕ) (copy : DiscCopy) (m : Memory) (rec : Option FileRec) (mid : List Bool) (keeps pinned : Bool) (first : Remembered) (n : Memory) : Type 0 where
   pub taken : HasTaken copy.blocks m.pool mid
   pub keeps_is : keeps ≡ is_pinned_at m.pins (finmap.get (by_number m.files) number)
@@ -140,7 +141,7 @@ module _ (number : ℕ) (bytes unjam : List ℕ) (copy : DiscCopy) (o : OnlineFa
       ap (copy_at m.online) (sym off.number_is)
       ∙ All-contains (λ (e : FileEntry). copy_at m.online e.0.number ≡ e.1) (entries_of m.files m.online) (let e : FileEntry = (off.file, None) in e) (copy_of_entry m.files m.online) off.entry
 
-  -- what giving the blocks of a replaced version back asks for
+  -- what giving the blocks of a replaced version back requires
   pub may_give_back : (rec : Option FileRec) → HasWritten rec number bytes unjam copy o origin before m → (mid : List Bool) (keeps : Bool) → HasTaken copy.blocks m.pool mid
       → keeps ≡ is_pinned_at m.pins (finmap.get (by_number m.files) number) → keeps ≡ false
       → AllPairs (λ j k. j ≢ k) (copy_places (copy_at m.online number)) × All (IsTaken mid) (copy_places (copy_at m.online number))
@@ -154,7 +155,7 @@ module _ (number : ℕ) (bytes unjam : List ℕ) (copy : DiscCopy) (o : OnlineFa
       → AllPairs (λ j k. j ≢ k) (copy_places (copy_at m.online n)) × All (IsTaken mid) (copy_places (copy_at m.online n))) w.at
       (λ same. may_replace r bytes unjam copy o origin before m w.un (copy_for r w) w.whole w.counts w.written mid keeps taken same free) is
 
-  -- what the record asks for
+  -- what the record requires
   pub record_fits : (rec : Option FileRec) → HasWritten rec number bytes unjam copy o origin before m → IfSome rec (λ r. IsRecords m.users (tree_with_file r m.files))
   record_fits None w = tt
   record_fits (Some r) w = put_records r bytes unjam copy o origin before m w.un (copy_for r w) w.whole w.counts w.written
@@ -180,7 +181,7 @@ module _ (number : ℕ) (bytes unjam : List ℕ) (copy : DiscCopy) (o : OnlineFa
       put.taken keeps_is gives put.pages put.remembers put.first_covers covers (is_new r bytes [] (facts_of origin m) w.un.allowed).owner put.pinned_is put.head put.users put.files online_is put.changed put.touched)
       put.keeps_is put.gives put.covers put.online
 
--- UP TO THE WRITES: what is asked for, the blocks that were taken, and the files that were taken off
+-- until the writes: what the change requires, the blocks that were taken, and the files that were taken off
 pub record IsPrepared (rec : Option FileRec) (number : ℕ) (bytes listed : List ℕ) (o : OnlineFacts) (before after : DiscState) (m : Memory) (pool : List Bool) (copy : DiscCopy) (y : Parts) : Type 0 where
   pub at : IfSome rec (λ r. r.number ≡ number)
   pub asked : IsAsked (length bytes) listed (with_bytes rec number bytes []) (with_bytes rec number bytes listed) o before m

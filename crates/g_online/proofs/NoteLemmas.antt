@@ -1,4 +1,5 @@
--- One user more whose directory has changed.
+-- One more user whose directory has changed.
+-- serves: EraseLemmas, FileLemmas, PutLemmas, PutStepLemmas, UserLemmas
 use Rattle.std.proofs.Common.{◌≡◌, ◌⊎◌, ℕ, ◌<◌, ◌≤◌, true, List, [], Option, Some, None, refl, arith, inl, inr, if◌then◌else◌}
 use Rattle.std.specs.Prelude.{All, is_some}
 use Rattle.std.proofs.lemmas.List.Elements.{All-append, All-cons, All-filter, All-weaker}
@@ -10,7 +11,7 @@ use Rattle.g_online.specs.declared.pinned.Pinned.{Pinned}
 use Rattle.g_online.specs.Invariant.{AreNoted, PinsAre, WaitsFor, WaitsPinned, has_stamp, pins_of}
 use Rattle.g_online.proofs.NumberLemmas.{has_more, has_with, numbers_with}
 
--- who is touched then
+-- which users are touched then
 abbrev pub touched_with : Option (List Pinned) → ℕ → List ℕ → List ℕ
 touched_with pins n touched = if is_some pins then with_number n touched else touched
 

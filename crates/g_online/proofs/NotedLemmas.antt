@@ -1,4 +1,6 @@
--- The commit that notes the copies of a dump, where nothing is pinned any more: what it leaves, whoever counts as changed behind it.
+-- The commit that notes the copies of a dump, when nothing is pinned any more: what it leaves, for any list of users who
+-- count as changed afterwards.
+-- serves: adopt_ready, close_dump, AdoptedLemmas, CloseLemmas
 use Rattle.std.proofs.Common.{◌≡◌, ◌⊎◌, ℕ, ◌+◌, ◌<◌, Bool, true, false, List, [], length, Option, None, Result, Ok, Err, refl, sym, ◌∙◌, ap, subst, arith, inl, inr}
 use Rattle.std.specs.Prelude.{is_some, OnErr, OnOk}
 use Rattle.std.specs.Option.{ForSome}
@@ -32,7 +34,7 @@ pub adopted_is : (told : Bool) (last : ℕ) (copies : List (ℕ × TapeCopy)) (o
 unfolding changed
 adopted_is told last copies o none = ap (λ (pins : Option (List Pin)). changed told (is_some pins) (Adopt last copies) o.contents) none
 
--- THE SAME MEMORY, but for who counts as changed
+-- THE SAME MEMORY, except for the users who count as changed
 abbrev pub counted : List ℕ → List ℕ → Memory → Memory
 counted all touched m = record m { changed = all; touched = touched }
 
@@ -61,7 +63,7 @@ pub record IsNotedBy (last : ℕ) (copies : List (ℕ × TapeCopy)) (all : List 
   pub told : is_some new.disc.held ≡ is_some old.disc.held
   pub only : OnErr result (result ≡ Err Stopped)
 
--- WHAT IS COMMITTED: nothing is pinned in it, and who will count as changed may
+-- WHAT IS COMMITTED: nothing is pinned in it, and the users who will count as changed may
 pub record MayNote (last : ℕ) (copies : List (ℕ × TapeCopy)) (all touched : List ℕ) (before : DiscState) (m n : Memory) : Type 0 where
   pub ready : IsReady (Adopt last copies) before m n
   pub none : (facts_of before m).pins ≡ None

@@ -1,4 +1,5 @@
 -- Rising numbers, and one more in its place.
+-- serves: put, NoteLemmas, PutLemmas
 use Rattle.std.proofs.Common.{◌≡◌, ◌⊎◌, ℕ, zero, suc, ◌+◌, ◌<◌, ◌≤◌, ◌==◌, ◌||◌, Bool, true, false, List, [], ◌∷◌, ◌++◌, length, get_or, take, drop, filter, Result, Ok, Err, IfOk, IfErr, refl, sym, ◌∙◌, ap, subst, arith, inl, inr, add-one, take-append-drop, drop-cons, if◌then◌else◌}
 use Rattle.std.specs.Prelude.{All, AllPairs, nat_lt}
 use Rattle.std.specs.List as list
@@ -13,7 +14,7 @@ use Rattle.std.proofs.lemmas.List.Kept.{AllPairs-cons, AllPairs-filter, AllPairs
 use Rattle.g_disc_contents.specs.Contents.{has, with_number}
 use Rattle.g_disc_contents.specs.Facts.{AreNumbers}
 
--- WHO IS AMONG THEM
+-- WHICH NUMBERS ARE AMONG THEM
 or_left : (a b : Bool) → a ≡ true → (a || b) ≡ true
 or_left true b is = refl
 or_left false b is = let no : ⊥ = cc in absurd no
@@ -118,7 +119,7 @@ with_below u n xs less all =
 pub numbers_with : (u n : ℕ) (xs : List ℕ) → n < u → AreNumbers u xs → AreNumbers u (with_number n xs)
 numbers_with u n xs less are = record { rising = with_rising n xs are.rising; there = with_below u n xs less are.there }
 
--- AS MANY AS THERE ARE USERS at most
+-- AT MOST AS MANY AS THERE ARE USERS
 not_below : (xs : List ℕ) → IsStrictlyIncreasing xs → (k : ℕ) → k < length xs → k ≤ get_or xs k 0
 not_below xs rising zero within = omega arith
 not_below xs rising (suc k) within =
@@ -134,7 +135,7 @@ few u (x ∷ xs) are =
     let less : get_or (x ∷ xs) (length xs) 0 < u = are.there (length xs) 0 (omega arith) in
     omega arith
 
--- THE PLACE of one more
+-- THE PLACE of one more number
 lower_none : (n : ℕ) (xs : List ℕ) → ((k : ℕ) → k < length xs → n ≤ get_or xs k 0) → filter (λ m. nat_lt m n) xs ≡ []
 lower_none n [] above = refl
 lower_none n (x ∷ xs) above =
@@ -175,7 +176,7 @@ compared_rise n xs rising = λ i j d le within.
     by_order i j d le within (inl less) = let first = AllPairs-from_increasing xs rising i j d less within in omega (arith, first)
     by_order i j d le within (inr ge) = let same : i ≡ j = omega arith in let at = ap (λ (k : ℕ). get_or xs k d) same in omega (arith, at)
 
--- where a search doesn't find it
+-- if a search doesn't find it
 pub put_absent : (n : ℕ) (xs : List ℕ) (r : Result ℕ ℕ) → IsStrictlyIncreasing xs → IsBinarySearchResult (λ m. nat_cmp m n) xs r → IfErr r (λ i. list.insert xs i n ≡ with_number n xs)
 put_absent n xs (Ok place) rising found = tt
 put_absent n xs (Err place) rising parted =
@@ -186,7 +187,7 @@ put_absent n xs (Err place) rising parted =
     (lower_take n xs place (λ k less within. below k less) (λ k le within. let far = above k le within in omega (arith, far)))
     (upper_drop n xs place (λ k less within. let near = below k less in omega (arith, near)) above)
 
--- and where it does
+-- and if it does
 pub put_there : (n : ℕ) (xs : List ℕ) (r : Result ℕ ℕ) → IsStrictlyIncreasing xs → IsSearchInRange r (length xs) → IsBinarySearchResult (λ m. nat_cmp m n) xs r → IfOk r (λ i. xs ≡ with_number n xs)
 put_there n xs (Err place) rising within found = tt
 put_there n xs (Ok place) rising within found =

@@ -1,4 +1,5 @@
 -- Files are taken off one by one.
+-- serves: forget_all, take_off, BringStepLemmas, CloseMarkLemmas, UnjamLemmas, UnloadLemmas
 use Rattle.std.proofs.Common.{◌≡◌, ◌≢◌, ◌⊎◌, ℕ, ◌+◌, ◌<◌, ◌==◌, ◌||◌, Bool, true, false, not, List, [], ◌∷◌, ◌++◌, length, get_or, take, drop, Option, Some, All, AllPairs, refl, sym, ◌∙◌, ap, subst, arith, inl, inr, append_assoc, take-append-drop, slice_get, if◌then◌else◌}
 use Rattle.std.proofs.Math.ListN.{set}
 use Rattle.std.proofs.lemmas.Bool.{cases_eq, eq-eqb, ne_eqb}
@@ -104,7 +105,7 @@ not_has [] n away = refl
 not_has (m ∷ ns) n away =
     ap (λ (b : Bool). not (b || has ns n)) (ne_eqb m n (All-head (λ k. k ≢ n) m ns away)) ∙ not_has ns n (All-tail (λ k. k ≢ n) m ns away)
 
--- the next copy is the one there was
+-- the next copy is the old one
 pub copy_still : (ns : List ℕ) (n : ℕ) (online next : List (ℕ × DiscCopy)) → All (λ m. m ≢ n) ns → next ≡ without_copies ns online → copy_at next n ≡ copy_at online n
 copy_still ns n online next away is =
     ap (λ (cs : List (ℕ × DiscCopy)). copy_at cs n) is ∙ copy_at-passing (λ m. not (has ns m)) online n (not_has ns n away)
@@ -122,7 +123,7 @@ off_more ns n online next last pool given rest old mid new was away apart gone g
       marks = marks_more ns n old mid new was.marks marks;
     }
 
--- what giving the next ones back asks for
+-- what giving the next ones back requires
 pub off_next : (ns : List ℕ) (n : ℕ) (online next : List (ℕ × DiscCopy)) (pool given : List Bool) (old mid : Remembered) → IsOff ns online next pool given old mid → All (λ m. m ≢ n) ns
     → AllPairs (λ j k. j ≢ k) (places_off (ns ++ n ∷ []) online) → All (IsTaken pool) (places_off (ns ++ n ∷ []) online)
     → AllPairs (λ j k. j ≢ k) (copy_places (copy_at next n)) × All (IsTaken given) (copy_places (copy_at next n))

@@ -1,4 +1,5 @@
--- Files that are taken off the disc, or brought back, leave the records as they are, so the rules of a directory hold.
+-- Files that are taken off the disc, or brought back, leave the records unchanged, so the rules of a directory hold.
+-- serves: crates above
 use Rattle.std.proofs.Common.{◌≡◌, ◌≢◌, ℕ, Bool, true, false, List, [], ◌∷◌, get_or, map, None, is_some, refl, sym, subst, inr, if◌then◌else◌}
 use Rattle.std.specs.Prelude.{All}
 use Rattle.std.proofs.lemmas.List.Elements.{All-map}
@@ -45,7 +46,7 @@ off_rules numbers c may rules =
     same_recs c (taken_off numbers c.files) (recs_off numbers c.files)
     (All-map Lies (offline_in numbers) c.files (λ k d inside. lies_off numbers (get_or c.files k d) (may k d inside) (rules.lie k d inside))) rules
 
--- a commit that drops the intent, or keeps it
+-- a commit that drops the intent, or preserves it
 pub committed_rules : (b : Bool) (c : Contents) → KeepsRules c → KeepsRules (committed b c)
 committed_rules true c rules = rules
 committed_rules false c rules = record {

@@ -1,4 +1,5 @@
 -- One block of a pinned version.
+-- serves: pinned_block (block)
 use Rattle.std.proofs.Common.{◌≡◌, ℕ, ◌<◌, true, List, [], length, get_or, map, Option, Some, None, refl, sym, ◌∙◌, ap, subst, slice_get}
 use Rattle.std.specs.Prelude.{slice_index_or}
 use Rattle.std.specs.Option.{ForSome, option_map}
@@ -61,7 +62,7 @@ module _ (disc : DiscState) (m : Memory) (o : OnlineFacts) (is : facts_of disc m
   list_here : (list : List Pinned) → m.pins ≡ Some list → listed ≡ list
   list_here list are = listed_is ∙ ap pinned_in are
 
-  -- where it lies
+  -- the block that it lies in
   place_there : IsKept disc m → m.live ≡ true → (ps : List Pin) (pin : Pin) → o.pins ≡ Some ps → slice_get ps i ≡ Some pin → part < blocks_for pin.len
       → (place : ℕ) × (place_in (slice_get listed i) part ≡ Some place) × (place < disc.size)
   place_there kept live ps pin are there within =
@@ -93,7 +94,7 @@ module _ (disc : DiscState) (m : Memory) (o : OnlineFacts) (is : facts_of disc m
       same_place : (j k : ℕ) → (let one : Option ℕ = Some j in one ≡ Some k) → j ≡ k
       same_place j k e = cc
 
-  -- what stands there
+  -- the content of that block
   pub block_read : IsKept disc m → (place : ℕ) (into : List ℕ) → (let one : Option ℕ = Some place in one ≡ place_in (slice_get listed i) part) → ForSome disc.held (λ blocks. slice_get blocks place ≡ Some into)
       → (ps : List Pin) (pin : Pin) → o.pins ≡ Some ps → slice_get ps i ≡ Some pin → ForSome pin.blocks (λ blocks. slice_get blocks part ≡ Some into)
   block_read kept place into found read ps pin are there =

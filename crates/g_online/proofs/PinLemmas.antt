@@ -1,4 +1,5 @@
 -- The versions that wait are pinned.
+-- serves: pin (ok, tied)
 use Rattle.std.proofs.Common.{◌≡◌, ◌≢◌, ◌⊎◌, ℕ, zero, suc, ◌+◌, ◌<◌, ◌==◌, ◌||◌, Bool, true, false, not, List, [], ◌∷◌, ◌++◌, length, get_or, filter, map, take, Option, Some, None, All, AllPairs, refl, sym, ◌∙◌, ap, subst, arith, inl, inr, cond}
 use Rattle.std.specs.Prelude.{Contains, IfSome, is_some, slice_index_or}
 use Rattle.std.specs.List.{flat_map}
@@ -202,7 +203,7 @@ has_pin serial at online (r ∷ rs) s (suc k, within, is) = or_right (r.stamp ==
     or_right true b is = refl
     or_right false b is = is
 
--- THEY ARE PINNED as memory keeps them
+-- THEY ARE PINNED as memory has them
 module _ (size next serial first : ℕ) (online : Copies) (files : List FileRec) (rising : AllPairs (λ r s. r.number < s.number) files) (stamps : AllPairs (λ r s. r.stamp ≢ s.stamp) files) (owners : All (λ (r : FileRec). r.owner < 63) files)
     (laid : All (IsLaid size next online) files) where
   abbrev rs : List FileRec
@@ -316,7 +317,7 @@ module _ (disc : DiscState) (m : Memory) (o : OnlineFacts) (is : facts_of disc m
   laid =
       all_laid disc.size m.head.next_stamp m.online m.files (subst (λ (rs : List FileRec). All (λ (r : FileRec). r.stamp < m.head.next_stamp) rs) recs was.stored.rules.dated) was.stored.rules.lies was.stored.rules.area
 
-  -- the memory behind it
+  -- the memory afterwards
   pub pinned_kept : (serial first : ℕ) (listed : List Pinned) → listed ≡ pins_from serial first m.online (waiting_below 63 m.files) → IsKept disc (record m { pins = Some listed })
   pinned_kept serial first listed pins_are = subst (λ (ps : List Pinned). IsKept disc (record m { pins = Some ps })) (sym pins_are)
       (kept_anew disc m m.pool (Some (pins_from serial first m.online (waiting_below 63 m.files))) m.changed m.touched kept

@@ -1,4 +1,5 @@
--- What is noted of pinned versions tells their stamps.
+-- The notes of pinned versions determine their stamps.
+-- serves: pin_list
 use Rattle.std.proofs.Common.{◌≡◌, ℕ, List, [], ◌∷◌, refl, ap}
 use Rattle.std.specs.Prelude.{◌==◌, ◌||◌, Bool}
 use Rattle.std.specs.List.{list_any}

@@ -1,4 +1,5 @@
--- The blocks of pinned versions that no file has any more are free again when the versions are let go.
+-- The blocks of pinned versions that no file has any more are free again when the pins are removed.
+-- serves: unpin (free, tied), AdoptedLemmas, CloseLemmas
 use Rattle.std.proofs.Common.{◌≡◌, ◌≢◌, ℕ, ◌==◌, ◌||◌, Bool, true, false, not, List, [], ◌∷◌, ◌++◌, length, filter, Option, Some, None, All, AllPairs, refl, sym, ◌∙◌, ap, subst, arith, cond, if◌then◌else◌}
 use Rattle.std.specs.List.{flat_map}
 use Rattle.std.proofs.lemmas.List.{append-nil}
@@ -55,7 +56,7 @@ pool_free size pins files old new was gives =
 pub no_numbers : (users : ℕ) → AreNumbers users []
 no_numbers users = record { rising = λ k next. (let no : ⊥ = omega (arith, next) in absurd no); there = λ k d inside. (let no : ⊥ = omega (arith, inside) in absurd no) }
 
--- the memory behind it
+-- the memory afterwards
 abbrev pub let_go : List Bool → List ℕ → Memory → Memory
 let_go pool touched m = record m { pool = pool; pins = None; touched = touched }
 
@@ -63,14 +64,14 @@ module _ (disc : DiscState) (m : Memory) (kept : IsKept disc m) (live : m.live �
   lost_here : lost_places files pins ≡ orphans m.pins (directory_in m).files
   lost_here = (λ i. lost_places (files_are i) (pins_are i)) ∙ sym (lost_is m.files m.online m.pins)
 
-  -- what giving them back asks for
+  -- what giving them back requires
   pub lost_blocks : AllPairs (λ j k. j ≢ k) (lost_places files pins) × All (IsTaken m.pool) (lost_places files pins)
   lost_blocks =
       subst (λ (l : List ℕ). AllPairs (λ j k. j ≢ k) l × All (IsTaken m.pool) l) (sym lost_here)
       (may_give disc.size (orphans m.pins (directory_in m).files) (all_places (directory_in m).files) m.pool
       (used_first disc.size m.pins (directory_in m).files m.pool (kept.agreed live).pool))
 
-  -- LET GO
+  -- UNPINNED
   pub gone_kept : (pool : List Bool) (touched : List ℕ) → HasGiven (lost_places files pins) m.pool pool → touched ≡ [] → IsKept disc (let_go pool touched m)
   gone_kept pool touched gives none =
       let was = kept.agreed live in

@@ -1,4 +1,5 @@
--- The versions that wait are all there, in the order of a dump, and no two of them have one stamp.
+-- The versions that wait are complete, in the order of a dump, and no two of them have the same stamp.
+-- serves: PinLemmas
 use Rattle.std.proofs.Common.{◌≡◌, ◌≢◌, ◌⊎◌, ℕ, zero, suc, ◌<◌, ◌==◌, ◌&&◌, Bool, true, List, [], ◌∷◌, ◌++◌, get_or, nat_lt, Option, Some, None, All, AllPairs, refl, sym, ◌∙◌, ap, subst, arith, inl, inr}
 use Rattle.std.specs.Prelude.{Contains, is_none}
 use Rattle.std.proofs.lemmas.Bool.{and_from, and_parts, cases_eq, eq-eqb, eqb-true, lt-ltb, ltb-true}

@@ -1,4 +1,5 @@
--- The blocks of files and of pinned versions, when a file comes or goes.
+-- The blocks of files and of pinned versions, when a file is added or removed.
+-- serves: BringStepLemmas, EraseLemmas, PutLemmas, PutStepLemmas
 use Rattle.std.proofs.Common.{◌≡◌, ◌≢◌, ℕ, zero, suc, ◌+◌, ◌<◌, ◌≤◌, ◌==◌, Bool, true, false, List, [], ◌∷◌, ◌++◌, filter, not, Option, Some, None, All, AllPairs, refl, sym, ◌∙◌, ap, inl, inr, arith, if◌then◌else◌, cond, ◌||◌, get_or}
 use Rattle.std.specs.Prelude.{Contains, nat_lt, sum_by, IfSome}
 use Rattle.std.specs.List.{flat_map}
@@ -121,7 +122,7 @@ current_by_count s (e ∷ files) =
 same_current : (s : ℕ) (old new : List FileEntry) → sum_by (dated s) new ≡ sum_by (dated s) old → is_current new s ≡ is_current old s
 same_current s old new same = current_by_count s new ∙ ap (λ (n : ℕ). nat_lt 0 n) same ∙ sym (current_by_count s old)
 
--- a file of another version comes or goes
+-- a file of another version is added or removed
 current_without : (s : ℕ) (e : FileEntry) (files : List FileEntry) → RisingEntries files → Contains files e → e.0.stamp ≢ s → is_current (without_entry e.0.number files) s ≡ is_current files s
 current_without s e files rising there other =
     same_current s files (without_entry e.0.number files) (omega (arith, sum_split (dated s) e files rising there, dated_no s e other))
@@ -130,7 +131,7 @@ current_with : (s : ℕ) (e : FileEntry) (files : List FileEntry) → e.0.stamp 
 current_with s e files other =
     same_current s (without_entry e.0.number files) (with_entry e files) (omega (arith, sum_with (dated s) e files, dated_no s e other))
 
--- the version of a file that goes is none's
+-- no other file has the version of a removed file
 one_of_stamp : (e : FileEntry) (files : List FileEntry) → AllPairs (λ f g. f.0.stamp ≢ g.0.stamp) files → Contains files e → sum_by (dated e.0.stamp) files ≤ 1
 one_of_stamp e [] apart there = omega arith
 one_of_stamp e (x ∷ files) apart (zero, inside, is) =
@@ -163,7 +164,7 @@ current_there e files rising there =
     let s = e.0.stamp in
     current_by_count s files ∙ lt-ltb 0 (sum_by (dated s) files) (omega (arith, sum_split (dated s) e files rising there, dated_yes s e refl))
 
--- orphans go by which pinned versions are files'
+-- orphans depend on which pinned versions are files'
 pub orphans_same : (pins : List Pinned) (old new : List FileEntry) → All (λ p. is_current new p.stamp ≡ is_current old p.stamp) pins → orphans (Some pins) new ≡ orphans (Some pins) old
 orphans_same [] old new same = refl
 orphans_same (p ∷ pins) old new same =
@@ -178,7 +179,7 @@ orphans_same (p ∷ pins) old new same =
     by_current true rest = rest
     by_current false rest = ap (λ (l : List ℕ). p.blocks ++ l) rest
 
--- no pinned version comes or goes
+-- no pinned version is added or removed
 pub orphans_kept : (pins : Option (List Pinned)) (old new : List FileEntry) → IfSome pins (All (λ p. is_current new p.stamp ≡ is_current old p.stamp)) → orphans pins new ≡ orphans pins old
 orphans_kept None old new same = refl
 orphans_kept (Some pins) old new same = orphans_same pins old new same
@@ -191,7 +192,7 @@ away_from : (s : ℕ) (pins : Option (List Pinned)) (P : ℕ → Type 0) → ((t
 away_from s None P each away = tt
 away_from s (Some pins) P each away = All-weaker (λ (p : Pinned). p.stamp ≢ s) (λ (p : Pinned). P p.stamp) (λ p other. each p.stamp (λ same. other (sym same))) pins away
 
--- one file more is used, where the same pins are orphans
+-- one file more is used, if the same pins are orphans
 used_more : (f : ℕ → ℕ) (pins : Option (List Pinned)) (e : FileEntry) (more others : List FileEntry) → orphans pins more ≡ orphans pins others
     → sum_by f (all_places more) ≡ sum_by f (places_of e ++ all_places others) → sum_by f (used_places pins more) ≡ sum_by f (places_of e ++ used_places pins others)
 used_more f pins e more others lost split =
@@ -205,7 +206,7 @@ used_more f pins e more others lost split =
       sum_by-append f (all_places others) (orphans pins others),
     )
 
--- A FILE THAT ISN'T PINNED GOES: its blocks are used no more
+-- A FILE THAT ISN'T PINNED GOES: its blocks are no longer used
 pub used_without : (pins : Option (List Pinned)) (e : FileEntry) (files : List FileEntry) → RisingEntries files → Contains files e → NotPinned e.0.stamp pins
     → SameUse (used_places pins files) (places_of e ++ used_places pins (without_entry e.0.number files))
 used_without pins e files rising there away f =
@@ -214,7 +215,7 @@ used_without pins e files rising there away f =
     orphans_kept pins files others (away_from e.0.stamp pins (λ s. is_current others s ≡ is_current files s) (λ s other. current_without s e files rising there other) away) in
     used_more f pins e files others (sym lost) (places_split e files rising there f)
 
--- A FILE WITH A NEW VERSION COMES, in the place of one of its number
+-- a file with a new version is added, in place of one of its number
 pub used_with : (pins : Option (List Pinned)) (e : FileEntry) (files : List FileEntry) → NotPinned e.0.stamp pins
     → SameUse (used_places pins (with_entry e files)) (places_of e ++ used_places pins (without_entry e.0.number files))
 used_with pins e files away f =
@@ -224,7 +225,7 @@ used_with pins e files away f =
     orphans_kept pins others new (away_from e.0.stamp pins (λ s. is_current new s ≡ is_current others s) (λ s other. current_with s e files other) away) in
     used_more f pins e new others lost (places_with e files f)
 
--- A FILE THAT IS PINNED GOES: its blocks stay used
+-- A PINNED FILE IS REMOVED: its blocks stay used
 orphan-cons : (f : ℕ → ℕ) (p : Pinned) (pins : List Pinned) (files : List FileEntry)
     → sum_by f (orphans (Some (p ∷ pins)) files) ≡ (if is_current files p.stamp then 0 else sum_by f p.blocks) + sum_by f (orphans (Some pins) files)
 orphan-cons f p pins files = by_current (is_current files p.stamp)

@@ -1,4 +1,5 @@
--- Blocks of a pool are given back or taken, those of one thing of a list after those of the others.
+-- Blocks of a pool are given back or taken, item by item of a list.
+-- serves: free_orphaned_pins, give_all, make_ready (same), retake_all, OffLemmas
 use Rattle.std.proofs.Common.{◌≡◌, ◌≢◌, ℕ, ◌+◌, ◌-◌, ◌<◌, ◌≤◌, Bool, true, false, List, [], ◌∷◌, ◌++◌, length, get_or, take, drop, Some, All, AllPairs, refl, sym, ◌∙◌, ap, subst, arith, length-append, take-append-drop, slice_get, ⊎_elim}
 use Rattle.std.specs.Prelude.{Contains}
 use Rattle.std.specs.List.{flat_map}
@@ -102,7 +103,7 @@ still_taken xs ys p q apart given all = flags_taken q ys (flags_stay false true 
 pub still_free : (xs ys : List ℕ) (p q : List Bool) → AllPairs (λ j k. j ≢ k) (xs ++ ys) → HasTaken xs p q → All (IsFree p) ys → All (IsFree q) ys
 still_free xs ys p q apart took all = flags_free q ys (flags_stay true false xs ys p q apart (taken_sets xs p q took) (free_flags p ys all))
 
--- GIVEN AND TAKEN AGAIN: the pool is as it was
+-- given and taken again: the pool is unchanged
 pub retaken : (blocks : List ℕ) (p q r : List Bool) → All (IsTaken p) blocks → HasGiven blocks p q → HasTaken blocks q r → r ≡ p
 retaken blocks p q r were given took = same_lists r p each
   where
@@ -116,7 +117,7 @@ retaken blocks p q r were given took = same_lists r p each
         (λ (away : Contains blocks (2177 + k) → ⊥). took.changes.others k away ∙ given.changes.others k away)
         (contains_or_not blocks (2177 + k))
 
--- ONE THING AFTER THE OTHER: what is done with the blocks of each, and what that asks of them
+-- ONE ITEM AFTER ANOTHER: what is done with the blocks of each, and what that requires of them
 module _ {A : Type 0} (F : A → List ℕ) (xs : List A) (i : ℕ) (x : A) (within : i < length xs) (is : get_or xs i x ≡ x) where
   further : flat_map F (take (i + 1) xs) ≡ flat_map F (take i xs) ++ F x
   further =
@@ -134,7 +135,8 @@ module _ {A : Type 0} (F : A → List ℕ) (xs : List A) (i : ℕ) (x : A) (with
   pub next_apart : AllPairs (λ j k. j ≢ k) (flat_map F xs) → AllPairs (λ j k. j ≢ k) (F x)
   next_apart apart = right_apart (flat_map F (take i xs)) (F x) (front_apart apart)
 
-  -- `may` is what is asked of a block, and `then` and `still` say that what is done to one list's blocks does nothing to others
+  -- `may` is the precondition for a block; `then` and `still` state that what is done to one list's blocks doesn't affect
+  -- others
   pub next_may : (Does : List ℕ → List Bool → List Bool → Type 0) (May : List Bool → ℕ → Type 0)
       → ((ys zs : List ℕ) (p q : List Bool) → AllPairs (λ j k. j ≢ k) (ys ++ zs) → Does ys p q → All (May p) zs → All (May q) zs) → (pool mid : List Bool)
       → AllPairs (λ j k. j ≢ k) (flat_map F xs) → Does (flat_map F (take i xs)) pool mid → All (May pool) (flat_map F xs) → All (May mid) (F x)

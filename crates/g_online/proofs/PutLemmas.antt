@@ -1,4 +1,5 @@
--- A version that is put in: its copy among the copies, and its blocks among those that are used.
+-- A version that is inserted: its copy among the copies, and its blocks among those that are used.
+-- serves: BringStepLemmas, PutStepLemmas
 use Rattle.std.proofs.Common.{◌≡◌, ◌≢◌, ℕ, zero, suc, ◌+◌, ◌<◌, ◌==◌, Bool, true, false, List, [], ◌∷◌, ◌++◌, length, map, filter, find, Option, Some, None, All, AllPairs, refl, sym, ◌∙◌, ap, inl, inr, arith, subst, if◌then◌else◌, is_some}
 use Rattle.std.specs.Prelude.{Contains, IfSome, nat_lt, ◌⊎◌}
 use Rattle.std.specs.Option.{ForSome}
@@ -71,7 +72,7 @@ copies_rise c online rising =
 abbrev numbers : List FileRec → List ℕ
 numbers files = map (λ r. r.number) files
 
--- a number of the files is one of them with another put in
+-- a number of the files is one of them after another is inserted
 in_filter : (p : ℕ → Bool) (files : List FileRec) (m : ℕ) → p m ≡ true → Contains (numbers files) m → Contains (numbers (filter (λ s. p s.number) files)) m
 in_filter p [] m passes (k, inside, is) = let no : ⊥ = omega (arith, inside) in absurd no
 in_filter p (r ∷ files) m passes (zero, inside, is) =
@@ -133,8 +134,8 @@ all_put P e files here all =
     let high = filter (λ f. nat_lt e.0.number f.0.number) files in
     All-append P low (e ∷ high) (All-filter (λ f. nat_lt f.0.number e.0.number) P files all) (All-cons P e high here (All-filter (λ f. nat_lt e.0.number f.0.number) P files all))
 
--- THE BLOCKS: those of the new version were taken; those of the version that it replaces, if there was one, were given back
--- behind that, unless that version is pinned
+-- the blocks: those of the new version were taken; those of the version that it replaces, if there was one, were given back
+-- afterwards, unless that version is pinned
 pub put_used : (size : ℕ) (pins : Option (List Pinned)) (e : FileEntry) (files : List FileEntry) (given : List ℕ) (gone : Bool) (old mid new : List Bool) → NotPinned e.0.stamp pins
     → SameUse (used_places pins files) ((if gone then [] else given) ++ used_places pins (without_entry e.0.number files))
     → IsUsed size (used_places pins files) old → AllPairs (λ j k. j ≢ k) (places_of e) → All (IsFree old) (places_of e) → HasTaken (places_of e) old mid → GivesUnless gone given mid new
@@ -157,7 +158,7 @@ put_used size pins e files given false old mid new away was used apart free take
         let is = same f in
         omega (arith, is, sum_by-append f (places_of e) all, sum_by-append f given others, sum_by-append f given (places_of e ++ others), sum_by-append f (places_of e) others)
 
--- and giving them back may be asked
+-- and they may be given back
 pub put_may_give : (size : ℕ) (pins : Option (List Pinned)) (e : FileEntry) (files : List FileEntry) (given : List ℕ) (old mid : List Bool)
     → SameUse (used_places pins files) (given ++ used_places pins (without_entry e.0.number files))
     → IsUsed size (used_places pins files) old → AllPairs (λ j k. j ≢ k) (places_of e) → All (IsFree old) (places_of e) → HasTaken (places_of e) old mid
@@ -169,7 +170,7 @@ put_may_give size pins e files given old mid was used apart free taken =
     (used_same size (places_of e ++ used_places pins files) (given ++ (places_of e ++ others)) mid
     (λ f. let is = was f in omega (arith, is, sum_by-append f (places_of e) (used_places pins files), sum_by-append f given others, sum_by-append f given (places_of e ++ others), sum_by-append f (places_of e) others)) now)
 
--- THE PINNED VERSIONS beside a version of the next stamp, which is of a touched user
+-- the pinned versions next to a version with the next stamp, which belongs to a touched user
 new_stamp : (size next : ℕ) (files : List FileEntry) (p : Pinned) → IsPinned size next files p → (e : FileEntry) → e.0.stamp ≡ next → IsPinned size (next + 1) (with_entry e files) p
 new_stamp size next files p is e stamp = record {
   older = (let old = is.older in omega (arith, old));
@@ -200,7 +201,7 @@ noted_put users files changed touched e was owner = record {
   waits = all_put (λ (f : FileEntry). WaitsFor changed f.0) e files (λ filled none. owner) was.waits;
 }
 
--- THE OTHER FILES are found as they were
+-- the other files are found unchanged
 module _ {X : Type 0} (number : X → ℕ) where
   abbrev at_number : List X → ℕ → Option X
   at_number xs n = find (λ x. number x == n) xs
@@ -284,7 +285,7 @@ put_in_memory pinned m rec copy pool pages = record m {
   touched = touched_with m.pins rec.owner m.touched;
 }
 
--- what a commit of it asks for, and all that is owed behind it, but for the pool
+-- what its commit requires, and everything that must be established afterwards, except for the pool
 pub record IsPut (rec : FileRec) (bytes : List ℕ) (disc : DiscState) (m n : Memory) : Type 0 where
   pub contents : contents_of disc.held (directory_in n) ≡ changed_to (is_some disc.held) (is_some m.pins) (PutFile rec bytes []) (contents_of disc.held (directory_in m))
   pub files : (directory_in n).files ≡ with_entry (rec, copy_at n.online rec.number) (directory_in m).files

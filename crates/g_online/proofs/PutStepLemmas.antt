@@ -1,4 +1,5 @@
 -- A new version whose bytes are written is ready to be committed.
+-- serves: NewBytesLemmas
 use Rattle.std.proofs.Common.{◌≡◌, ◌≢◌, ℕ, zero, suc, ◌+◌, ◌<◌, Bool, true, false, List, [], ◌∷◌, ◌++◌, length, map, Some, None, Ok, All, AllPairs, refl, sym, ◌∙◌, ap, subst, arith, if◌then◌else◌, ⊎_elim}
 use Rattle.std.specs.Prelude.{Contains, is_some}
 use Rattle.std.specs.Option.{ForSome}
@@ -47,7 +48,7 @@ use Rattle.g_online.proofs.UnjamLemmas.{IsUnjammed}
 use Rattle.g_online.proofs.WrittenLemmas.{IsNewCopy, NeedsFor, written_beside, written_kept}
 use Rattle.g_online.proofs.UseLemmas.{IsUsed, SameUse, contains_or_not}
 
--- THE VERSION THAT IS REPLACED, where there is one
+-- THE VERSION THAT IS REPLACED, if there is one
 record FoundRec (number : ℕ) (files : List FileRec) (online : Copies) : Type 0 where
   pub file : FileRec
   pub number_is : file.number ≡ number
@@ -126,7 +127,7 @@ module _ (disc : DiscState) (m : Memory) (was : IsAgreed disc m) (number : ℕ) 
       λ i. gone_places gone (copy_places (none i)) ++ used_places m.pins (all i) in
       subst (λ (l : List ℕ). SameUse (used_places m.pins es) l) (sym (step ∙ none_gone gone (used_places m.pins es))) (λ f. refl)
 
-  -- its blocks, unless they are kept, and those that stay used
+  -- its blocks, unless they must stay, and those that stay used
   pub replaced_use : (gone : Bool) → gone ≡ is_pinned_at m.pins (finmap.get (by_number m.files) number)
       → SameUse (used_places m.pins es) (gone_places gone (copy_places (copy_at m.online number)) ++ used_places m.pins (without_entry number es))
   replaced_use gone is = ⊎_elim
@@ -149,7 +150,7 @@ module _ (rec : FileRec) (bytes unjam : List ℕ) (copy : DiscCopy) (o : OnlineF
   beside : IsBeside (PutFile rec bytes []) origin before m
   beside = written_beside (PutFile rec bytes []) unjam rec.len copy o origin before m needs un new counts.size whole only counts
 
-  -- what the disc tells of the copy
+  -- what the disc exposes of the copy
   bytes_told : ForSome before.held (λ blocks. bytes_at copy.blocks copy.len blocks ≡ bytes)
   bytes_told = told_after written (λ b a told holds. subst (λ (k : ℕ). bytes_at copy.blocks k a ≡ bytes) (sym (new.len ∙ un.allowed.fits.2)) holds.bytes_are)
 
@@ -162,7 +163,7 @@ module _ (rec : FileRec) (bytes unjam : List ℕ) (copy : DiscCopy) (o : OnlineF
   rules_here : (pool : List Bool) (pages : Remembered) → KeepsRules (contents_of before.held (directory_in (put_in_memory (is_some m.pins) m rec copy pool pages)))
   rules_here pool pages = subst KeepsRules (sym (made_here pool pages ∙ made_there)) un.allowed.rules
 
-  -- what the tree asks for
+  -- what the tree requires
   pub put_records : IsRecords m.users (tree_with_file rec m.files)
   put_records = subst (IsRecords m.users) (recs_here before.held (tree_with_file rec m.files) (with_copy_at (rec.number, copy) m.online)) (rules_here m.pool m.pages).records
 
@@ -175,7 +176,7 @@ module _ (rec : FileRec) (bytes unjam : List ℕ) (copy : DiscCopy) (o : OnlineF
   uses : IsUsed before.size (used_places m.pins (entries_of m.files m.online)) m.pool
   uses = used before.size m.pins (entries_of m.files m.online) m.pool was.pool
 
-  -- what giving the blocks of the replaced version back asks for
+  -- what giving the blocks of the replaced version back requires
   pub may_replace : (mid : List Bool) (keeps : Bool) → HasTaken copy.blocks m.pool mid → keeps ≡ is_pinned_at m.pins (finmap.get (by_number m.files) rec.number) → keeps ≡ false
       → AllPairs (λ j k. j ≢ k) (copy_places (copy_at m.online rec.number)) × All (IsTaken mid) (copy_places (copy_at m.online rec.number))
   may_replace mid keeps taken is free =

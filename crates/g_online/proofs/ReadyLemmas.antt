@@ -1,4 +1,5 @@
 -- What a change of records brings about in memory is ready to be written.
+-- serves: with_new_copy, AdoptLemmas, AdoptedLemmas, BringStepLemmas, BytesLemmas, CloseLemmas, CloseMarkLemmas, EraseLemmas, FileLemmas, and 8 more
 use Rattle.std.proofs.Common.{◌≡◌, ◌≢◌, ℕ, Bool, true, List, ◌++◌, length, get_or, sym, ◌∙◌, ap, subst, arith, length-append}
 use Rattle.std.specs.Prelude.{All, AllPairs, is_some}
 use Rattle.std.proofs.Math.ListN.{get_or-append}
@@ -40,7 +41,7 @@ allowed_live change before m o is allowed = ap (λ (p : OnlineFacts). p.live) is
 pub allowed_here : (change : Change) (before : DiscState) (m : Memory) (o : OnlineFacts) → facts_of before m ≡ o → IsAllowed change o → IsAllowed change (facts_of before m)
 allowed_here change before m o is allowed = subst (IsAllowed change) (sym is) allowed
 
--- the rules that the change asks for
+-- the rules that the change requires
 pub rules_then : (change : Change) (before : DiscState) (m n : Memory) (o : OnlineFacts) → facts_of before m ≡ o → IsAllowed change o
     → contents_of before.held (directory_in n) ≡ changed_to (is_some before.held) (is_some m.pins) change (contents_of before.held (directory_in m))
     → KeepsRules (contents_of before.held (directory_in n))

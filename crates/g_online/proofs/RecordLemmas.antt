@@ -1,4 +1,5 @@
 -- The changes of the head and of users are ready to be written.
+-- serves: set_intent, set_user, tree (files), unjam_first (off), with_new_copy, AdoptLemmas, AdoptedLemmas, BringStepLemmas, CloseLemmas, and 8 more
 use Rattle.std.proofs.Common.{◌≡◌, ℕ, ◌+◌, ◌<◌, Bool, true, false, List, [], ◌∷◌, length, map, Option, Some, None, refl, sym, ◌∙◌, ap, subst, if◌then◌else◌}
 use Rattle.std.specs.Prelude.{All, is_some, slice_set}
 use Rattle.std.proofs.Math.ListN.{set}
@@ -34,7 +35,7 @@ keeps_marked k old new is = record { a = ap (λ (p : Remembered). p.a) is; b = a
 pub keeps_then : (x y z : Remembered) → KeepsPages x y → KeepsPages y z → KeepsPages x z
 keeps_then x y z first second = record { a = second.a ∙ first.a; b = second.b ∙ first.b }
 
--- without pinned versions nobody is touched
+-- without pinned versions no user is touched
 pub touched_stays : (held : Option (List (List ℕ))) (size next : ℕ) (files : List FileEntry) (touched : List ℕ) (pins : Option (List Pinned)) → PinsAre pins size next files touched
     → touched ≡ (if is_some (pins_of held pins) then touched else [])
 touched_stays held size next files touched None are = are
@@ -110,7 +111,7 @@ user_ready user copied before m pinned head users files k first pages o same pin
     (user_set_ready user before m first pages o is kept allowed marks remembers covers
     (subst (λ (j : ℕ). pages ≡ marked j first) at marks') remembers' (subst (λ (j : ℕ). CoversBut j first pages) at covers'))
 
--- what the tree asks for
+-- what the tree requires
 pub user_rules : (user copied : UserRec) (before : DiscState) (m : Memory) (o : OnlineFacts) → copied ≡ user → facts_of before m ≡ o → IsKept before m → IsAllowed (SetUser user) o
     → (copied.number < length m.users) × (name_of m.users copied.number ≡ copied.user) × IsRecords (slice_set m.users copied.number copied) m.files
 user_rules user copied before m o same is kept allowed =

@@ -1,4 +1,5 @@
--- The room that the pool tells is that of the files and the pinned versions.
+-- The room that the pool counts is that of the files and the pinned versions.
+-- serves: room, UnjamLemmas, WrittenLemmas
 use Rattle.std.proofs.Common.{◌≡◌, ℕ, ◌+◌, ◌==◌, Bool, true, false, ◌||◌, List, [], ◌∷◌, length, map, filter, not, Option, Some, None, All, refl, sym, ◌∙◌, ap, arith, if◌then◌else◌, cond, length-append}
 use Rattle.std.specs.List.{flat_map}
 use Rattle.std.proofs.lemmas.List.Elements.{All-head, All-tail}

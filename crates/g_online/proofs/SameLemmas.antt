@@ -1,4 +1,5 @@
 -- What is read at places that weren't written.
+-- serves: BegunLemmas, BesideLemmas, BringStepLemmas, BytesLemmas, PinLemmas, PutStepLemmas, ReadyLemmas, StepLemmas, UnjamLemmas
 use Rattle.std.proofs.Common.{◌≡◌, ℕ, true, ◌+◌, ◌-◌, ◌≤◌, List, [], ◌∷◌, ◌++◌, map, take, Option, Some, None, refl, sym, ◌∙◌, ap, arith}
 use Rattle.std.specs.Prelude.{All, Contains, slice_index_or}
 use Rattle.std.specs.List.{flat_map}
@@ -15,7 +16,7 @@ use Rattle.g_disc_contents.specs.Facts.{Pin}
 use Rattle.g_online.specs.declared.pinned.Pinned.{Pinned}
 use Rattle.g_online.specs.Invariant.{IsPinned, PinsAre, pin_of, pins_of}
 
--- the blocks of these numbers are as they were
+-- the blocks of these numbers are unchanged
 abbrev pub IsSame : List (List ℕ) → List (List ℕ) → ℕ → Type 0
 IsSame before after k = slice_index_or after k [] ≡ slice_index_or before k []
 
@@ -35,7 +36,7 @@ same_block before after k same high =
     ap (λ (i : ℕ). slice_index_or after i []) (sym at) ∙ sym (get_or-drop 2177 after (k - 2177) []) ∙ ap (λ (bs : List (List ℕ)). slice_index_or bs (k - 2177) []) same
     ∙ get_or-drop 2177 before (k - 2177) [] ∙ ap (λ (i : ℕ). slice_index_or before i []) at
 
--- where the copy area is as it was
+-- if the copy area is unchanged
 pub same_area : (size : ℕ) (before after : List (List ℕ)) (places : List ℕ) → copy_area after ≡ copy_area before → All (IsInArea size) places → AreSame places before after
 same_area size before after places same area = All-weaker (IsInArea size) (IsSame before after) (λ k is. same_block before after k same is.low) places area
 
@@ -63,7 +64,7 @@ with_files d files = record { head = d.head; users = d.users; files = files }
 pub same_contents_told : (before after : List (List ℕ)) (d : Directory) → AreSame (all_places d.files) before after → contents_of (Some after) d ≡ contents_of (Some before) d
 same_contents_told before after d same = ap (with_files d) (same_files before after d.files same)
 
--- THE CONTENTS of a directory are as they were
+-- the contents of a directory are unchanged
 pub same_contents : (before after : Option (List (List ℕ))) (d : Directory) → Changes (AreSame (all_places d.files)) before after → contents_of after d ≡ contents_of before d
 same_contents None after d changes = ap (λ (held : Option (List (List ℕ))). contents_of held d) (changes.untold refl)
 same_contents (Some b) after d changes =
@@ -86,7 +87,7 @@ same_pin_list before after (p ∷ ps) same =
     ap (λ (q : Pin). q ∷ map (pin_of (Some after)) ps) (same_pin before after p (All-head (λ (r : Pinned). AreSame r.blocks before after) p ps same))
     ∙ ap (λ (qs : List Pin). pin_of (Some before) p ∷ qs) (same_pin_list before after ps (All-tail (λ (r : Pinned). AreSame r.blocks before after) p ps same))
 
--- THE PINNED VERSIONS are as they were, where the copy area is
+-- the pinned versions are unchanged if the copy area is
 pub same_pins : (d : Directory) (before after : Option (List (List ℕ))) (size next : ℕ) (files : List FileEntry) (touched : List ℕ) (pins : Option (List Pinned)) → Changes (NewDirectory d) before after
     → PinsAre pins size next files touched → pins_of after pins ≡ pins_of before pins
 same_pins d before after size next files touched None changes are = refl

@@ -1,4 +1,5 @@
 -- A change that is one commit: what is known before it, and what it leaves.
+-- serves: add_user, adopt, adopt_ready, close_dump, erase_file, set_file, set_intent, set_user, unload, with_new_copy, AdoptLemmas, AdoptedLemmas, and 14 more
 use Rattle.std.proofs.Common.{◌≡◌, ℕ, ◌+◌, Bool, true, false, List, [], Option, Some, None, Result, Ok, Err, refl, sym, ◌∙◌, ap, subst, arith, inl, inr, if◌then◌else◌}
 use Rattle.std.specs.Prelude.{is_some, length, ◌<◌, ◌⊎◌, ◌↔◌, ◌≢◌, IsErrOf, OnErr, OnOk}
 use Rattle.std.specs.Option.{ForSome}
@@ -31,7 +32,8 @@ use Rattle.g_online.proofs.SameLemmas.{same_area, same_contents, same_pins, AreS
 use Rattle.g_online.proofs.TieLemmas.{tied}
 use Rattle.g_online.proofs.WriteLemmas.{same_pages}
 
--- NEW BYTES, as many blocks of them as the change needs, were written beside all that memory names, and there was room for them
+-- new bytes, as many blocks of them as the change needs, were written to blocks that nothing in memory names, and there was
+-- room for them
 pub record IsBeside (change : Change) (origin before : DiscState) (m : Memory) : Type 0 where
   pub contents : contents_of before.held (directory_in m) ≡ contents_of origin.held (directory_in m)
   pub pins : pins_of before.held m.pins ≡ pins_of origin.held m.pins
@@ -51,8 +53,8 @@ beside_none change disc m need = record {
   room = λ less. (let no : ⊥ = omega (arith, less, need) in no);
 }
 
--- THE MEMORY n IS READY to be written for a change of what m says, whose bytes are there: all that a commit asks for, and all
--- that is owed behind it
+-- the memory n is ready to be committed for a change of what m represents, whose bytes are written: everything that a
+-- commit requires, and everything that must be established afterwards
 pub record IsReadyFrom (change : Change) (origin before : DiscState) (m n : Memory) : Type 0 where
   pub was : IsKept before m
   pub lived : m.live ≡ true
@@ -75,7 +77,7 @@ pub record IsReadyFrom (change : Change) (origin before : DiscState) (m n : Memo
 abbrev pub IsReady : Change → DiscState → Memory → Memory → Type 0
 IsReady change before m n = IsReadyFrom change before before m n
 
--- the memory behind the commit
+-- the memory after the commit
 abbrev pub written : Memory → Side → Remembered → Memory
 written n next pages = record n { side = next; pages = pages }
 
@@ -87,12 +89,12 @@ pub pins_told : (held : Option (List (List ℕ))) (pins : Option (List Pinned)) 
 pins_told held None = refl
 pins_told held (Some pins) = refl
 
--- whether the disc tells stays
+-- whether the disc exposes its contents doesn't change
 pub both_told : {R : List (List ℕ) → List (List ℕ) → Type 0} (x y : Option (List (List ℕ))) → Changes R x y → is_some y ≡ is_some x
 both_told None y changes = ap (λ (h : Option (List (List ℕ))). is_some h) (changes.untold refl)
 both_told (Some b) y changes = ap (λ (h : Option (List (List ℕ))). is_some h) (changes.told b refl).1
 
--- what the commit asks for
+-- what the commit requires
 pub marked_for : (change : Change) {origin : DiscState} (before : DiscState) (m n : Memory) → IsReadyFrom change origin before m n → (online : List (ℕ × DiscCopy)) → online ≡ n.online
     → IsMarked before n.side n.pages (directory_of n.head n.users n.files online)
 marked_for change before m n ready online same = subst (λ (on : List (ℕ × DiscCopy)). IsMarked before n.side n.pages (directory_of n.head n.users n.files on)) (sym same) ready.marked
@@ -242,7 +244,7 @@ module _ (change : Change) {origin : DiscState} (before after : DiscState) (m n 
       ∙ ap (λ (told : Bool). changed_to told (is_some (pins_of origin.held m.pins)) change (contents_of origin.held (directory_in m)))
       (sym ready.beside.told ∙ ap (λ (h : Option (List (List ℕ))). is_some h) was)
 
-  -- what the disc holds, where the commit was stopped at any of its writes
+  -- what the disc holds, if the commit was stopped at any of its writes
   stop_holds : Changes (OldOrNew (directory_in n)) before.held after.held → ForSome after.held (AfterStop change (facts_of origin m))
   stop_holds content blocks told =
       let from = Changes-back (OldOrNew (directory_in n)) before.held after.held content blocks told in

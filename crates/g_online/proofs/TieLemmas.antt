@@ -1,4 +1,5 @@
 -- What callers know of a filestore, from what ties its memory to the disc.
+-- serves: arm (tied), bytes (tied), file_block (tied), is_online, pin (tied), pinned_block (tied), unpin (tied), AdoptedLemmas, BegunLemmas, and 11 more
 use Rattle.std.proofs.Common.{◌≡◌, ℕ, List, [], length, map, Option, Some, None, refl, sym, ◌∙◌, subst, arith, option_map}
 use Rattle.std.specs.Prelude.{All, IfSome, is_some, slice_index_or}
 use Rattle.std.specs.Option.{ForSome}
@@ -24,7 +25,7 @@ not_told a e = cc
 inside : (a b : List (List ℕ)) → (let one : Option (List (List ℕ)) = Some a in one ≡ Some b) → a ≡ b
 inside a b e = cc
 
--- something is there or not, whatever is made of it
+-- mapping preserves whether something is there
 pub some_made : {A B : Type 0} (f : A → B) (o : Option A) → is_some (option_map f o) ≡ is_some o
 some_made f None = refl
 some_made f (Some x) = refl
@@ -91,7 +92,7 @@ tied disc m kept = record {
   pinned = λ live. pins_tied disc.held disc.size m.head.next_stamp (facts_of disc m).layout.directory.files m.touched m.pins kept.whole (kept.agreed live).pins;
 }
 
--- WHERE THE DISC HOLDS WHAT IT HELD memory agrees with it as before
+-- IF THE DISC HOLDS WHAT IT HELD memory agrees with it as before
 stored_still : (before after : DiscState) (side : Side) (pages : Remembered) (d : Directory) → after.held ≡ before.held → after.size ≡ before.size → IsStored before side pages d → IsStored after side pages d
 stored_still before after side pages d held size was = record {
   gate = subst (GateNames side) (sym held) was.gate;

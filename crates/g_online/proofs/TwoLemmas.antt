@@ -1,4 +1,5 @@
--- A change that takes files off the disc before is two changes, one behind the other.
+-- A change that first takes files off the disc is two changes, one after the other.
+-- serves: fresh (causes), BringStepLemmas, NeedLemmas, NewBytesLemmas, PutStepLemmas, UnjamLemmas, WrittenLemmas, crates above
 use Rattle.std.proofs.Common.{◌≡◌, ◌⊎◌, ℕ, ◌+◌, ◌<◌, ◌≤◌, Bool, true, false, List, [], ◌∷◌, length, map, filter, Option, None, Result, Ok, Err, All, refl, sym, ◌∙◌, ap, subst, arith, inl, inr, if◌then◌else◌}
 use Rattle.std.specs.Prelude.{IfErr, OnErr, is_some, nat_lt}
 use Rattle.std.proofs.lemmas.Bool.{cond-true, lt-ltb}
@@ -154,7 +155,7 @@ module _ (unjam : List ℕ) (inner outer : Change) (two : IsTwo unjam inner oute
     only = inl stops;
   }
 
-  -- the first alone
+  -- only the first
   pub first_applied : (o p : OnlineFacts) (e : OnlineFault) → IsApplied (Unload unjam) o p (Err e) → e ≡ Stopped → (room_for outer o < need_of outer → ⊥) → IsApplied outer o p (Err e)
   first_applied o p e first stops room = record {
     ok = tt;
@@ -197,7 +198,7 @@ put_two rec bytes unjam = record {
   first = λ told pinned c. unload_first told pinned rec bytes unjam c;
 }
 
--- THE RECORD of a new version keeps the rules
+-- THE RECORD of a new version satisfies the rules
 pub record IsNew (rec : FileRec) (users : List UserRec) : Type 0 where
   pub file : IsFile rec
   pub number : rec.number < 1024
@@ -229,7 +230,7 @@ new_in told false rec bytes unjam c kept = new_of (record { rec = rec; online = 
 pub is_new : (rec : FileRec) (bytes unjam : List ℕ) (o : OnlineFacts) → IsAllowed (PutFile rec bytes unjam) o → IsNew rec o.contents.users
 is_new rec bytes unjam o allowed = new_in (is_some o.disc.held) (is_some o.pins) rec bytes unjam o.contents allowed.rules
 
--- MAY BE ASKED FOR too, where the files were taken off
+-- the rest is permitted too, after the files were taken off
 stamp_still : (told pinned : Bool) (unjam : List ℕ) (c : Contents) → (changed told pinned (Unload unjam) c).head.next_stamp ≡ c.head.next_stamp
 unfolding changed
 stamp_still told true unjam c = refl

@@ -1,4 +1,5 @@
 -- Files are taken off the disc by a commit of their own, before new bytes are written.
+-- serves: forget_all, unjam_first (off), BringStepLemmas, NeedLemmas, NewBytesLemmas, PutStepLemmas, WrittenLemmas
 use Rattle.std.proofs.Common.{◌≡◌, ◌⊎◌, ℕ, ◌+◌, ◌-◌, ◌<◌, ◌≤◌, Bool, true, false, List, [], ◌∷◌, ◌++◌, length, get_or, map, Option, None, Result, Ok, Err, All, AllPairs, refl, sym, ◌∙◌, ap, subst, arith, inl, inr, length-append, not}
 use Rattle.std.specs.Prelude.{OnErr, OnOk, is_some}
 use Rattle.std.specs.Option.{ForSome}
@@ -122,7 +123,7 @@ takes_off numbers pinned users files before after x y mid slice result same head
   only = only;
 }
 
--- WHAT IS LEFT keeps the rules
+-- WHAT IS LEFT satisfies the rules
 each_entry : (P : FileRec → Type 0) (es : List FileEntry) → All P (map (λ (e : FileEntry). e.0) es) → All (λ (e : FileEntry). P e.0) es
 each_entry P es all k d within =
     subst P (get_or-map (λ (e : FileEntry). e.0) es k d d.0 within) (all k d.0 (omega (arith, within, length-map es (λ (e : FileEntry). e.0))))
@@ -154,7 +155,7 @@ module _ (numbers : List ℕ) (before : DiscState) (m : Memory) (un : IsUnloadab
       subst (λ (fs : List FileEntry). PinsAre m.pins before.size m.head.next_stamp fs m.touched) (sym (entries_off numbers m.files m.online))
       (pins_off before.size m.head.next_stamp numbers (entries_of m.files m.online) m.touched m.pins un.copied un.was.pins)
 
-  -- THE ROOM, were they taken off
+  -- THE ROOM if they were taken off
   pub room_left : free_count m.pool + length (places_off numbers m.online) ≡ room_with (taken_off numbers (contents_of before.held (directory_in m)).files) (facts_of before m)
   room_left =
       let count : 2177 + free_count m.pool + length (used_places m.pins (entries_of m.files m.online)) ≡ before.size = un.was.pool.fresh.count in
@@ -225,7 +226,7 @@ module _ (numbers : List ℕ) (before : DiscState) (m : Memory) (un : IsUnloadab
         pins = subst (λ (k : ℕ). PinsAre m.pins before.size k left m.touched) (sym (next_kept (is_some m.pins) m.head)) left_pins;
       }
 
--- what the first commit works on, and what memory is behind it
+-- what the first commit works on, and the memory after it
 abbrev pub parts_of : Memory → Parts
 parts_of m = record { side = m.side; pages = m.pages; head = m.head; online = m.online; live = m.live }
 
@@ -249,19 +250,19 @@ module _ (numbers : List ℕ) (before after : DiscState) (m : Memory) (pool : Li
       applied (Unload numbers) before after m (record m { head = y.head; online = y.online; pool = pool; pages = off.mid }) y.side y.pages unjam_ready o is y.live result y.online refl off.ok off.stopped off.counts off.whole off.only off.lives
       off.dies
 
--- BEFORE THE BYTES are written: the files are taken off, where there are any, and the rest of the change may be asked for
+-- before the bytes are written: the files are taken off, if there are any, and the rest of the change is permitted
 pub record IsUnjammed (inner : Change) (unjam : List ℕ) (o : OnlineFacts) (disc : DiscState) (m : Memory) : Type 0 where
   pub kept : IsKept disc m
   pub live : m.live ≡ true
   pub allowed : IsAllowed inner (facts_of disc m)
   pub way : Way unjam o (facts_of disc m)
 
--- what is known of the files that are to be taken off
+-- what is known of the files that will be taken off
 pub may_take_off : (unjam : List ℕ) (inner outer : Change) → IsNeeding unjam inner outer → (before : DiscState) (m : Memory) (o : OnlineFacts) → facts_of before m ≡ o → IsKept before m → IsAllowed outer o → IsUnloadable unjam before m
 may_take_off unjam inner outer needing before m o is kept allowed =
     unloadable unjam before m (kept.agreed (allowed_live outer before m o is allowed)) (needing.fits (facts_of before m) (allowed_here outer before m o is allowed))
 
--- THE ROOM that the change is told
+-- the room that the change reports
 pub room_told : (unjam : List ℕ) (inner outer : Change) → IsNeeding unjam inner outer → (before : DiscState) (m : Memory) (o : OnlineFacts) → facts_of before m ≡ o → IsKept before m → IsAllowed outer o
     → free_count m.pool + length (places_off unjam m.online) ≡ room_for outer o
 room_told unjam inner outer needing before m o is kept allowed =

@@ -1,4 +1,5 @@
--- Files taken off the disc are ready to be written.
+-- Files that were taken off the disc are ready to be written.
+-- serves: unload, CloseLemmas, NeedLemmas, UnjamLemmas
 use Rattle.std.proofs.Common.{◌≡◌, ◌≢◌, ◌⊎◌, ℕ, zero, suc, ◌+◌, ◌-◌, ◌<◌, ◌==◌, ◌||◌, Bool, true, false, not, List, [], ◌∷◌, ◌++◌, length, get_or, map, filter, Option, Some, None, All, AllPairs, refl, sym, ◌∙◌, ap, subst, arith, inl, inr, slice_get, if◌then◌else◌}
 use Rattle.std.specs.Prelude.{Contains, is_some, sum_by}
 use Rattle.std.specs.List.{flat_map}
@@ -89,7 +90,7 @@ pub others_off : (numbers : List ℕ) (i : ℕ) (es : List FileEntry) → has nu
 others_off numbers i [] away = refl
 others_off numbers i (e ∷ es) away = found_off numbers i e (entry_at es i) (entry_at (map (off_entry numbers) es) i) away (others_off numbers i es away)
 
--- WHO IS CURRENT stays
+-- WHICH VERSIONS ARE CURRENT doesn't change
 current_off : (numbers : List ℕ) (es : List FileEntry) (s : ℕ) → is_current (map (off_entry numbers) es) s ≡ is_current es s
 current_off numbers [] s = refl
 current_off numbers (e ∷ es) s = ap (λ (b : Bool). (e.0.stamp == s) || b) (current_off numbers es s)
@@ -157,7 +158,7 @@ copies_off numbers files online are = record {
   files_are = All-filter (λ (c : ℕ × DiscCopy). not (has numbers c.0)) (λ (c : ℕ × DiscCopy). Contains (map (λ (r : FileRec). r.number) files) c.0) online are.files_are;
 }
 
--- THE BLOCKS of the files that are taken off are used no more
+-- THE BLOCKS of the files that are taken off are no longer used
 place_copy : (r : FileRec) (c : Option DiscCopy) → places_of (r, c) ≡ copy_places c
 place_copy r None = refl
 place_copy r (Some c) = refl
@@ -255,7 +256,7 @@ use_off f (n ∷ ns) files online rising there apart =
       sum_by-append f (copy_places (copy_at online n)) (places_off ns online),
     )
 
--- WHAT A CHANGE that takes files off may ask for
+-- WHAT A CHANGE that takes files off may require
 copied_one : (held : Option (List (List ℕ))) (files : List FileRec) (online : Copies) (f : File) → AllPairs (λ r s. r.number < s.number) files → Contains (map (file_of held) (entries_of files online)) f → is_some f.rec.tape ≡ true
     → All (λ (r : FileRec). r.number ≡ f.rec.number → is_some r.tape ≡ true) files
 copied_one held [] online f rising (k, inside, is) copied = (let no : ⊥ = omega (arith, inside) in absurd no)
@@ -335,7 +336,7 @@ used_before numbers before m un =
     used_same before.size (used_places m.pins (entries_of m.files m.online)) (places_off numbers m.online ++ used_places m.pins (entries_of m.files (without_copies numbers m.online))) m.pool un.blocks
     (record { fresh = un.was.pool.fresh; area = un.was.pool.area; apart = un.was.pool.apart })
 
--- what taking them off asks for
+-- what taking them off requires
 pub off_blocks : (numbers : List ℕ) (before : DiscState) (m : Memory) → IsUnloadable numbers before m → AllPairs (λ j k. j ≢ k) (places_off numbers m.online) × All (IsTaken m.pool) (places_off numbers m.online)
 off_blocks numbers before m un = may_give before.size (places_off numbers m.online) (used_places m.pins (entries_of m.files (without_copies numbers m.online))) m.pool (used_before numbers before m un)
 

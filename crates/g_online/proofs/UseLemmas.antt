@@ -1,4 +1,5 @@
--- Lists of blocks that are used: in whatever order, each once; and the pool on which just these are taken.
+-- Lists of blocks in use, each once and in any order; and the pool in which exactly these are taken.
+-- serves: EraseLemmas, OffLemmas, PinLostLemmas, PlaceLemmas, PoolLemmas, PutLemmas, PutStepLemmas, UnjamLemmas, UnloadLemmas, crates above
 use Rattle.std.proofs.Common.{◌≡◌, ◌≢◌, ℕ, zero, suc, ◌+◌, ◌-◌, ◌≤◌, ◌==◌, Bool, true, false, List, [], ◌∷◌, ◌++◌, length, Some, All, AllPairs, refl, sym, ◌∙◌, inl, inr, arith, if◌then◌else◌, subst, ⊎_elim, length-append}
 use Rattle.std.specs.Prelude.{Contains, slice_get, sum_by, ◌⊎◌}
 use Rattle.std.proofs.lemmas.Bool.{cases_eq, cond-false, cond-true, eq-eqb, ne_eqb}
@@ -8,11 +9,11 @@ use Rattle.std.proofs.lemmas.Option.{slice_get_within}
 use Rattle.g_blocks.specs.Pool.{ChangesOnly, IsInArea, IsFresh, IsFree, IsTaken, HasTaken, HasGiven}
 use Rattle.g_base.specs.Limits.{first_copy_block}
 
--- THE SAME NUMBERS, each as often, in whatever order
+-- the same numbers, each equally often, in any order
 abbrev pub SameUse : List ℕ → List ℕ → Type 0
 SameUse xs ys = (f : ℕ → ℕ) → sum_by f xs ≡ sum_by f ys
 
--- how often a number stands in a list
+-- how often a number occurs in a list
 abbrev here : ℕ → ℕ → ℕ
 here k j = if j == k then 1 else 0
 
@@ -130,7 +131,7 @@ both_apart xs ys one other away = times_apart (xs ++ ys) each
               ]
         ]
 
--- THE POOL on which just these are taken, each once, all of the copy area
+-- THE POOL in which exactly these are taken, each once, all in the copy area
 pub record IsUsed (size : ℕ) (used : List ℕ) (pool : List Bool) : Type 0 where
   pub fresh : IsFresh size used pool
   pub area : All (IsInArea size) used
@@ -155,7 +156,7 @@ contains_or_not xs k =
       | inr some ↦ inl (times_contains k xs (omega (arith, some)))
     ]
 
--- a block of none of these keeps its flag
+-- a block of none of these has the same flag
 flag_away : (blocks : List ℕ) (old new : List Bool) → ChangesOnly blocks old new → (block : ℕ) → first_copy_block ≤ block → (Contains blocks block → ⊥)
     → slice_get new (block - first_copy_block) ≡ slice_get old (block - first_copy_block)
 flag_away blocks old new changes block low away =
@@ -218,6 +219,6 @@ used_given size blocks used old new was given = record {
         let t = All-contains (IsTaken old) (blocks ++ used) k was.fresh.taken (Contains-append_right blocks used k there) in
         record { low = t.low; flag = flag_away blocks old new given.changes k t.low (λ one. parts_apart blocks used k was.apart one there) ∙ t.flag }
 
--- what giving back asks for
+-- what giving back requires
 pub may_give : (size : ℕ) (blocks used : List ℕ) (pool : List Bool) → IsUsed size (blocks ++ used) pool → AllPairs (λ j k. j ≢ k) blocks × All (IsTaken pool) blocks
 may_give size blocks used pool is = (left_apart blocks used is.apart, left_all (IsTaken pool) blocks used is.fresh.taken)

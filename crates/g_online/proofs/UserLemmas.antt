@@ -1,4 +1,5 @@
 -- A user more is ready to be written.
+-- serves: add_user, crates above
 use Rattle.std.proofs.Common.{◌≡◌, ◌≢◌, ℕ, zero, suc, ◌+◌, ◌<◌, ◌≤◌, Bool, true, false, List, [], ◌∷◌, ◌++◌, length, Option, Some, refl, sym, ◌∙◌, ap, subst, arith, slice_get, length-append, if◌then◌else◌}
 use Rattle.std.specs.Prelude.{is_some}
 use Rattle.g_disc.specs.Disc.{DiscState}
@@ -20,7 +21,7 @@ use Rattle.g_online.proofs.ReadyLemmas.{CoversBut, StillRemembers, allowed_live,
 use Rattle.g_online.proofs.RecordLemmas.{fits_still, keeps_marked, keeps_then, next_kept, recs_here}
 use Rattle.g_online.proofs.StepLemmas.{IsReady}
 
--- the others keep their places
+-- the others stay at their places
 pub slice_get-push : {X : Type 0} (xs : List X) (x : X) (i : ℕ) → i ≢ length xs → slice_get (xs ++ x ∷ []) i ≡ slice_get xs i
 slice_get-push [] x zero other = absurd (other refl)
 slice_get-push [] x (suc i) other = refl
@@ -102,7 +103,7 @@ added_ready user copied before m pinned head users files k first pages all touch
     (user_added_ready user before m first pages o is kept allowed marks remembers covers
     (subst (λ (j : ℕ). pages ≡ marked j first) at marks') remembers' (subst (λ (j : ℕ). CoversBut j first pages) at covers'))
 
--- what the tree asks for
+-- what the tree requires
 pub added_rules : (user copied : UserRec) (before : DiscState) (m : Memory) (users : List UserRec) (files : List FileRec) (o : OnlineFacts) → copied ≡ user → users ≡ m.users → files ≡ m.files
     → facts_of before m ≡ o → IsKept before m → IsAllowed (AddUser user) o → IsRecords (users ++ copied ∷ []) files
 added_rules user copied before m users files o same users_are files_are is kept allowed =

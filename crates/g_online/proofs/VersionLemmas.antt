@@ -1,4 +1,5 @@
 -- Records of files that are changed while their versions stay.
+-- serves: CloseNoteLemmas, FileLemmas
 use Rattle.std.proofs.Common.{◌≡◌, ◌≢◌, ◌⊎◌, ℕ, ◌<◌, ◌==◌, ◌||◌, Bool, true, List, [], ◌∷◌, ◌++◌, map, filter, not, Option, Some, None, All, AllPairs, refl, sym, ◌∙◌, ap, subst, arith, inl, inr, if◌then◌else◌}
 use Rattle.std.specs.Prelude.{⊤, IfSome}
 use Rattle.std.specs.List.{flat_map}
@@ -30,7 +31,7 @@ AllSame [] (f ∷ fs) = ⊥
 AllSame (e ∷ es) [] = ⊥
 AllSame (e ∷ es) (f ∷ fs) = IsSameEntry e f × AllSame es fs
 
--- what goes from one to the other goes from all to all
+-- a property that carries over from one to the other does so for all
 pub all_same : (P Q : FileEntry → Type 0) → ((e f : FileEntry) → IsSameEntry e f → P e → Q f) → (old new : List FileEntry) → AllSame old new → All P old → All Q new
 all_same P Q each [] [] same all = λ k d inside. absurd (omega arith)
 all_same P Q each [] (f ∷ fs) same all = absurd same
@@ -63,7 +64,7 @@ orphans_same old new same (Some pins) = λ i. flat_map (λ (p : Pinned). p.block
 used_same : (old new : List FileEntry) → AllSame old new → (pins : Option (List Pinned)) → used_places pins new ≡ used_places pins old
 used_same old new same pins = λ i. places_same old new same i ++ orphans_same old new same pins i
 
--- THE POOL is that of the files as they were
+-- the pool is that of the files before the change
 pub pool_same : (size : ℕ) (pins : Option (List Pinned)) (old new : List FileEntry) (pool : List Bool) → AllSame old new → IsPooled size pins old pool → IsPooled size pins new pool
 pool_same size pins old new pool same was =
     let used : used_places pins old ≡ used_places pins new = sym (used_same old new same pins) in
@@ -162,7 +163,7 @@ entries_same rec (r ∷ files) online all =
     let P : FileRec → Type 0 = λ s. s.number ≡ rec.number → IsVersion rec s in
     (entry_same online rec r (All-head P r files all), entries_same rec files online (All-tail P r files all))
 
--- the numbers are as they were
+-- the numbers are unchanged
 number_put : (rec r : FileRec) → (put_one rec r).number ≡ r.number
 number_put rec r = by_number (cases_eq r.number rec.number)
   where

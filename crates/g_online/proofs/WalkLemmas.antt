@@ -1,7 +1,8 @@
--- What is left of a list behind its first places.
+-- What remains of a list after its first places.
+-- serves: PinPutLemmas, crates above
 use Rattle.std.proofs.Common.{◌≡◌, ℕ, zero, suc, ◌+◌, ◌<◌, ◌≤◌, List, [], ◌∷◌, length, get_or, drop, ◌∙◌, ap, arith}
 
--- the item is the one at this place, and the others stand behind it
+-- the item is the one at this place, followed by the others
 pub record IsNext {X : Type 0} (xs : List X) (k : ℕ) (x : X) (rest : List X) : Type 0 where
   pub inside : k < length xs
   pub at : x ≡ get_or xs k x

@@ -1,4 +1,5 @@
 -- What one commit leaves.
+-- serves: commit (ok), StepLemmas
 use Rattle.std.proofs.Common.{◌≡◌, ℕ, Bool, List, Option, sym, ◌∙◌, ap, subst, slice_get}
 use Rattle.std.specs.Option.{ForSome}
 use Rattle.g_base.specs.ToldContent.{Changes}
@@ -12,7 +13,7 @@ use Rattle.g_dirs.specs.Directory.{Directory, IsDirectory}
 use Rattle.g_dirs.specs.Pages.{Covers, KeepsPages, Remembered, RemembersAll, Remembers, marks_of, pages_of}
 use Rattle.g_online.specs.Commit.{HasCommitted, IsMarked}
 
--- the blocks of the slot that was current keep their marks
+-- the blocks of the slot that was current have the same marks
 kept_side : (d : Directory) (side : Side) (old new : Remembered) → pages_of side new ≡ pages_of side old → marks_of side new ≡ marks_of side old → Covers d side old → Covers d side new
 kept_side d side old new pages marks was = record {
   block = λ k less free.

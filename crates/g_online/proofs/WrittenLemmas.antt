@@ -1,4 +1,5 @@
--- New bytes are written beside all that the disc holds.
+-- New bytes are written to blocks that nothing else uses.
+-- serves: BringStepLemmas, NeedLemmas, NewBytesLemmas, PutStepLemmas
 use Rattle.std.proofs.Common.{◌≡◌, ◌≢◌, ℕ, ◌<◌, ◌≤◌, Bool, false, List, [], length, Result, Ok, Err, All, AllPairs, refl, sym, ◌∙◌, ap, subst, arith, inl}
 use Rattle.std.specs.Option.{ForSome}
 use Rattle.g_base.specs.Block.{blocks_for}
@@ -35,7 +36,7 @@ pub record IsNewCopy (bytes : ℕ) (pool : List Bool) (copy : DiscCopy) : Type 0
 abbrev refusal : OnlineFault → Result (Unit {0}) OnlineFault
 refusal e = Err e
 
--- a change that takes no files off, and needs the blocks of so many bytes
+-- a change that takes no files off, and needs the blocks for this many bytes
 pub record NeedsFor (bytes : ℕ) (change : Change) : Type 0 where
   pub need : need_of change ≡ blocks_for bytes
   pub none : unjammed_by change ≡ []
@@ -78,7 +79,7 @@ module _ (inner : Change) (unjam : List ℕ) (bytes : ℕ) (copy : DiscCopy) (o 
     },
   )
 
-  -- and where they were all made
+  -- and if all of them were made
   pub written_beside : WritesOnly {T = Unit {0}} {E = OnlineFault} (length copy.blocks) origin before (Ok tt) → IsBeside inner origin before m
   written_beside counts = record {
     contents = beside_contents origin before m copy.blocks un.kept un.live new.free only size;

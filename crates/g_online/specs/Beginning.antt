@@ -1,4 +1,4 @@
--- HOW A FILESTORE BEGINS: loaded from its disc, or made on it anew.
+-- How an online filestore begins: it is loaded from its disc or created on it.
 use Rattle.std.specs.Prelude.{◌≡◌, ◌⊎◌, ℕ, ◌==◌, Bool, true, false, List, [], map, filter, None, is_some, if◌then◌else◌}
 use Rattle.std.specs.Option.{ForSome}
 use Rattle.g_base.specs.Counts.{RoseBy}
@@ -23,14 +23,14 @@ use Rattle.g_online.specs.declared.fault.OnlineFault.TheVariants.{NoFilestore, N
 use Rattle.g_online.specs.Change.{told_bytes}
 use Rattle.g_online.specs.Invariant.{Memory}
 
--- nothing is pinned or touched; all users are changed
+-- The filestore is live, no version is pinned, no user is touched, and every user counts as changed.
 pub record IsBegun (o : OnlineFacts) : Type 0 where
   pub live : o.live ≡ true
   pub pins : o.pins ≡ None
   pub touched : o.touched ≡ []
   pub changed : o.changed ≡ map (λ u. u.number) o.contents.users
 
--- so many commits, where nothing was remembered of the slots
+-- There were n commits, starting from a state in which no block of either slot was remembered. Only they wrote the disc.
 pub record WroteFirst (n : ℕ) (disc : DiscState) (new : OnlineFacts) : Type 0 where
   pub found : Layout
   pub unknown : found.pages ≡ nothing
@@ -39,7 +39,7 @@ pub record WroteFirst (n : ℕ) (disc : DiscState) (new : OnlineFacts) : Type 0 
   pub commits : Commits n found new.layout blocks
   pub writes : RoseBy blocks disc.writes new.disc.writes
 
--- LOADED: what the disc holds, and nothing was written
+-- The filestore was loaded: its contents are those that the disc holds, and nothing was written.
 pub record HasLoaded (disc : DiscState) (o : OnlineFacts) : Type 0 where
   pub begun : IsBegun o
   pub reads : ReadsByCause ⊥ disc o.disc
@@ -47,17 +47,17 @@ pub record HasLoaded (disc : DiscState) (o : OnlineFacts) : Type 0 where
   pub unknown : o.layout.pages ≡ nothing
   pub gate : GateNames o.layout.side disc.held
 
--- a file without a block: an empty one is on the disc
+-- A file without blocks: on the disc if it is empty, otherwise only on tape.
 abbrev pub first_file : Bool → FileRec → File
 first_file told r = if r.len == 0
     then record { rec = r; online = true; bytes = told_bytes told [] }
     else record { rec = r; online = false; bytes = None }
 
--- records whose files have no blocks
+-- The contents of a filestore with these records, whose files have no blocks.
 abbrev pub first_contents : Bool → Head → List UserRec → List FileRec → Contents
 first_contents told head users files = record { head = head; users = users; files = map (first_file told) files }
 
--- MADE ANEW, by one commit, whatever the disc held
+-- One commit created a filestore with the contents `made`, for any previous contents of the disc.
 pub record HasMade (made : Contents) (disc : DiscState) (o : OnlineFacts) : Type 0 where
   pub begun : IsBegun o
   pub contents : o.contents ≡ made
@@ -65,37 +65,39 @@ pub record HasMade (made : Contents) (disc : DiscState) (o : OnlineFacts) : Type
   pub wrote : WroteFirst 1 disc o
   pub told : is_some o.disc.held ≡ is_some disc.held
 
--- the disc holds what it held, or nothing as before
+-- After the call the disc holds exactly the contents that it held before, if any.
 pub record HoldsAsBefore (before after : List (List ℕ)) : Type 0 where
   pub kept : (c : Contents) → Holds before c → Holds after c
   pub only : (c : Contents) → Holds after c → Holds before c
 
--- stopped: what the disc held, or the new contents
+-- After an interruption the disc holds what it held before, or these new contents.
 pub record AsBeforeOr (contents : Contents) (before after : List (List ℕ)) : Type 0 where
   pub one : HoldsAsBefore before after ⊎ Holds after contents
 
--- what was read of a disc: the side that its gate names, and the directory that it stands for
+-- What was read from the disc: the slot that its gate names, and the directory that it represents, which satisfies its
+-- rules.
 pub record IsFound (disc : DiscState) (side : Side) (d : Directory) : Type 0 where
   pub gate : GateNames side disc.held
   pub stands : ForSome disc.held (λ blocks. StandsFor blocks d)
   pub records : AreRecords Two d
   pub rules : IsDirectory disc.size d
 
--- what a refusal to read a directory is to the filestore
+-- The filestore's fault for each fault of reading a directory.
 abbrev pub refusal_of : DirsFault → OnlineFault
 refusal_of dirs.ReadFault = ReadFault
 refusal_of dirs.NoFilestore = NoFilestore
 refusal_of dirs.Stopped = Stopped
 refusal_of dirs.NoMemory = NoMemory
 
--- the copies of the empty files
+-- The copies on disc of the empty files, which have no blocks.
 abbrev pub empty_copy : FileRec → ℕ × DiscCopy
 empty_copy r = (r.number, record { blocks = []; len = 0 })
 
+-- The copies of all empty files among these, by number.
 abbrev pub empty_copies : List FileRec → List (ℕ × DiscCopy)
 empty_copies files = map empty_copy (filter (λ r. r.len == 0) files)
 
--- what is in memory at the beginning
+-- What is in memory at the beginning.
 abbrev pub memory_of : Side → Remembered → List Bool → List UserRec → List FileRec → Head → List (ℕ × DiscCopy) → Memory
 memory_of side pages pool users files head online = record {
   side = side;

@@ -1,4 +1,4 @@
--- ONE COMMIT of a directory.
+-- One commit of a directory.
 use Rattle.std.specs.Prelude.{◌≡◌, ℕ, ◌+◌, ◌<◌}
 use Rattle.std.specs.Option.{ForSome}
 use Rattle.g_base.specs.ToldContent.{Changes}
@@ -11,7 +11,8 @@ use Rattle.g_dirs.specs.Directory.{AreRecords, Directory, IsDirectory}
 use Rattle.g_dirs.specs.Pages.{Covers, Remembered, RemembersAll, Remembers, pages_of, unwritten}
 use Rattle.g_online.specs.Invariant.{IsStored}
 
--- the directory may be written: it keeps the rules, and each change is marked
+-- The directory may be committed: it satisfies its rules, remembered blocks are right, and each block that may differ is
+-- marked.
 pub record IsMarked (disc : DiscState) (side : Side) (pages : Remembered) (d : Directory) : Type 0 where
   pub size : 2177 < disc.size
   pub gate : GateNames side disc.held
@@ -20,11 +21,12 @@ pub record IsMarked (disc : DiscState) (side : Side) (pages : Remembered) (d : D
   pub records : AreRecords Two d
   pub rules : IsDirectory disc.size d
 
--- the blocks that a commit writes
+-- The number of blocks that a commit writes, the gate included.
 abbrev pub commit_blocks : Directory → Side → Remembered → ℕ
 commit_blocks d side pages = unwritten d (pages_of (other side) pages) 1088 + 1
 
--- it was written
+-- The directory was committed: the disc represents it, the other slot is now current, and that slot is remembered
+-- completely.
 pub record HasCommitted (d : Directory) (before after : DiscState) (side next : Side) (old new : Remembered) : Type 0 where
   pub content : Changes (NewDirectory d) before.held after.held
   pub stored : IsStored after next new d

@@ -1,4 +1,4 @@
--- NEW BYTES: where they find room, and what is done before they are written.
+-- New bytes: where they find room, and what is done before they are written.
 use Rattle.std.specs.Prelude.{◌≡◌, ℕ, ◌+◌, Bool, false, List, Option, Some, None, Result, Ok, Err, OnOk, OnErr, if◌then◌else◌}
 use Rattle.std.specs.Option.{ForSome}
 use Rattle.g_base.specs.Block.{blocks_for}
@@ -24,34 +24,38 @@ use Rattle.g_online.specs.Commit.{HasCommitted, IsMarked, commit_blocks}
 use Rattle.g_online.specs.Copies.{without_copies}
 use Rattle.g_online.specs.Invariant.{AreWhole, head_after, is_pinned}
 
--- A CHANGE WITH NEW BYTES: they are those of a new version, or of the file of this number, which has them on tape alone
+-- A change with new bytes: those of a new version, or those of the file of this number, whose bytes are only on tape.
 abbrev pub with_bytes : Option FileRec → ℕ → List ℕ → List ℕ → Change
 with_bytes (Some rec) number bytes unjam = PutFile rec bytes unjam
 with_bytes None number bytes unjam = Bring number bytes unjam
 
--- what the record of a new version changes, if there is one: the head, the records, and the users who are changed or touched
+-- What the record of a new version, if there is one, changes: the head, the records, and the users who are changed or
+-- touched.
 abbrev pub stamped : Option FileRec → Head → Head
 stamped (Some rec) head = record head { next_stamp = head.next_stamp + 1 }
 stamped None head = head
 
+-- The records with that of the new version, if there is one.
 abbrev pub recs_with : Option FileRec → List FileRec → List FileRec
 recs_with (Some rec) files = with_file rec files
 recs_with None files = files
 
+-- The user numbers with the owner of the new version, if there is one.
 abbrev pub users_with : Option FileRec → List ℕ → List ℕ
 users_with (Some rec) numbers = with_number rec.owner numbers
 users_with None numbers = numbers
 
+-- The user numbers with the owner of the new version, if there is one and versions are pinned.
 abbrev pub noted_for : Bool → Option FileRec → List ℕ → List ℕ
 noted_for pinned (Some rec) numbers = if pinned then with_number rec.owner numbers else numbers
 noted_for pinned None numbers = numbers
 
--- whether the version of a file, where there is one, is pinned
+-- Whether the file exists and its version is pinned.
 abbrev pub is_pinned_at : Option (List Pinned) → Option FileRec → Bool
 is_pinned_at pins None = false
 is_pinned_at pins (Some r) = is_pinned pins r.stamp
 
--- these blocks were given back, and then the least free ones were taken for so many bytes
+-- The given blocks were returned to the pool, and then the lowest-numbered free blocks were taken for this many bytes.
 pub record TakesBeside (given : List ℕ) (bytes : ℕ) (old new : List Bool) (copy : DiscCopy) : Type 0 where
   pub between : List Bool
   pub gives : HasGiven given old between
@@ -59,7 +63,7 @@ pub record TakesBeside (given : List ℕ) (bytes : ℕ) (old new : List Bool) (c
   pub takes : HasTaken copy.blocks between new
   pub len : copy.len ≡ bytes
 
--- what a commit that takes files off the disc works on
+-- What a commit that takes files off the disc works on.
 pub record Parts : Type 0 where
   pub side : Side
   pub pages : Remembered
@@ -67,20 +71,21 @@ pub record Parts : Type 0 where
   pub online : List (ℕ × DiscCopy)
   pub live : Bool
 
+-- The directory of these users and files with the head and the copies of the parts.
 abbrev pub directory_with : List UserRec → List FileRec → Parts → Directory
 directory_with users files p = directory_of p.head users files p.online
 
--- nothing was done
+-- Nothing was done.
 pub record IsUntouched (before after : DiscState) (old new : Parts) (result : Result (Unit {0}) OnlineFault) : Type 0 where
   pub done : result ≡ Ok tt
   pub disc : after ≡ before
   pub parts : new ≡ old
 
--- THESE FILES ARE TAKEN OFF the disc by one commit, or it was stopped at one of its writes
+-- These files were taken off the disc by one commit, or the commit was stopped at one of its writes.
 pub record TakesFilesOff (numbers : List ℕ) (pinned : Bool) (users : List UserRec) (files : List FileRec) (before after : DiscState) (old new : Parts) (result : Result (Unit {0}) OnlineFault) : Type 0 where
   pub head : new.head ≡ head_after pinned old.head
   pub online : new.online ≡ without_copies numbers old.online
-  -- what is remembered where the changes are marked
+  -- what is remembered once the changes are marked
   pub mid : Remembered
   pub pages : KeepsPages old.pages mid
   pub marked : IsMarked before old.side mid (directory_with users files new)

@@ -1,4 +1,4 @@
--- WHAT A CHANGE LEAVES: done, or stopped at one of its writes.
+-- What a change leaves, whether it is completed or stopped at one of its writes.
 use Rattle.std.specs.Prelude.{◌≡◌, ◌≢◌, ◌⊎◌, ℕ, ◌+◌, ◌<◌, true, false, List, [], length, is_some, None, if◌then◌else◌, nat_lt, Result, Err, OnOk, IfErr, IsErrOf, ◌↔◌}
 use Rattle.std.specs.Option.{ForSome}
 use Rattle.g_base.specs.Counts.{RoseBy}
@@ -11,10 +11,12 @@ use Rattle.g_online.specs.declared.fault.OnlineFault.{OnlineFault}
 use Rattle.g_online.specs.declared.fault.OnlineFault.TheVariants.{DiscFull, NoMemory, Stopped}
 use Rattle.g_online.specs.Change.{changed as changed_to, unjammed, unjammed_by, need_of, takes_memory, changed_after, touched_after, closed}
 
--- the commits of a change: one, and one before it where files are taken off the disc
+-- The number of commits of a change: one, preceded by another if files are taken off the disc.
 abbrev pub commits_of : Change → ℕ
 commits_of change = if nat_lt 0 (length (unjammed_by change)) then 2 else 1
 
+-- The change was completed. The contents are the changed ones, the pins are unchanged, and the disc was written only by the
+-- commits and the blocks that the change needs.
 pub record HasChanged (change : Change) (old new : OnlineFacts) : Type 0 where
   pub live : new.live ≡ true
   pub contents : new.contents ≡ changed_to (is_some old.disc.held) (is_some old.pins) change old.contents
@@ -25,17 +27,20 @@ pub record HasChanged (change : Change) (old new : OnlineFacts) : Type 0 where
   pub commits : Commits (commits_of change) old.layout new.layout blocks
   pub writes : RoseBy (need_of change + blocks) old.disc.writes new.disc.writes
 
--- the disc holds what it held, or that without the files that were taken off it, or what it was to hold
+-- After an interrupted change the disc holds the old contents, or these without the files that were taken off, or the new
+-- contents.
 pub record AfterStop (change : Change) (old : OnlineFacts) (blocks : List (List ℕ)) : Type 0 where
   pub one : Holds blocks old.contents
       ⊎ (((0 < length (unjammed_by change)) × Holds blocks (unjammed (is_some old.pins) change old.contents))
       ⊎ Holds blocks (changed_to true (is_some old.pins) change old.contents))
 
+-- The change was stopped at a write. The filestore is no longer live, and the disc, if it exposes its contents, holds one
+-- of those that an interruption may leave.
 pub record HasStopped (change : Change) (old new : OnlineFacts) : Type 0 where
   pub live : new.live ≡ false
   pub holds : ForSome new.disc.held (AfterStop change old)
 
--- the dump is closed, and its versions wait no more
+-- The dump is closed, and its versions are no longer pinned.
 pub record HasClosed (last : ℕ) (old new : OnlineFacts) : Type 0 where
   pub live : new.live ≡ true
   pub contents : new.contents ≡ closed last old
@@ -46,16 +51,19 @@ pub record HasClosed (last : ℕ) (old new : OnlineFacts) : Type 0 where
   pub commits : Commits 1 old.layout new.layout blocks
   pub writes : RoseBy blocks old.disc.writes new.disc.writes
 
+-- The closing was stopped at a write. The filestore is no longer live, and the disc holds the old contents or those of the
+-- closed dump.
 pub record StoppedClosing (last : ℕ) (old new : OnlineFacts) : Type 0 where
   pub live : new.live ≡ false
   pub holds : ForSome new.disc.held (λ blocks. Holds blocks old.contents ⊎ Holds blocks (closed last old))
 
--- the blocks that would be free, were the files taken off that the change takes off
+-- The number of blocks that would be free if the files that the change takes off the disc were taken off.
 abbrev pub room_for : Change → OnlineFacts → ℕ
 room_for change o = room_with (taken_off (unjammed_by change) o.contents.files) o
 
--- HOW A CHANGE IS ANSWERED: done; or stopped at one of its writes; or refused, and all is as it was, the counts too. Room is
--- refused just where the blocks that it needs would not be free; memory may be wanting anywhere else, if the change takes any.
+-- How a change is answered: it is completed, or stopped at one of its writes, or refused with everything unchanged, counts
+-- included. `DiscFull` is returned if and only if the blocks that the change needs would not be free. Otherwise memory may
+-- run out, if the change allocates at all.
 pub record IsApplied (change : Change) (old new : OnlineFacts) (result : Result (Unit {0}) OnlineFault) : Type 0 where
   pub ok : OnOk result (HasChanged change old new)
   pub stopped : result ≡ Err Stopped → HasStopped change old new

@@ -1,4 +1,4 @@
--- THE VERSIONS OF A DUMP: which wait, how they are pinned, and how the commit is answered that closes it.
+-- The versions of a dump: which ones wait, how they are pinned, and how the commit that closes the dump is answered.
 use Rattle.std.specs.Prelude.{◌≡◌, ◌⊎◌, ℕ, ◌+◌, ◌<◌, true, List, [], ◌∷◌, take, All, AllPairs, Contains, Some, None, is_some, Result, Err, OnOk, OnErr}
 use Rattle.std.specs.Option.{ForSome}
 use Rattle.std.specs.List.{flat_map}
@@ -10,23 +10,23 @@ use Rattle.g_online.specs.declared.fault.OnlineFault.{OnlineFault}
 use Rattle.g_online.specs.declared.fault.OnlineFault.TheVariants.{Stopped}
 use Rattle.g_online.specs.Outcomes.{HasClosed, StoppedClosing}
 
--- a version that waits to be dumped: not empty, and without a copy on tape
+-- The version waits to be dumped: it isn't empty and has no copy on tape.
 pub record IsWaiting (f : File) : Type 0 where
   pub filled : 0 < f.rec.len
   pub none : f.rec.tape ≡ None
 
--- the order of a dump: by owner, then by number
+-- The order of a dump: by owner, then by number.
 abbrev pub ComesBefore : File → File → Type 0
 ComesBefore f g = (f.rec.owner < g.rec.owner) ⊎ ((f.rec.owner ≡ g.rec.owner) × (f.rec.number < g.rec.number))
 
--- these are the versions that wait, all of them, in the order of a dump
+-- These are all versions that wait, in the order of a dump.
 pub record AreWaiting (files waiting : List File) : Type 0 where
   pub from : All (Contains files) waiting
   pub each : All IsWaiting waiting
   pub every : (f : File) → Contains files f → IsWaiting f → Contains waiting f
   pub in_order : AllPairs ComesBefore waiting
 
--- the version of a file is pinned: its place on tape is noted, and its bytes stand in its blocks
+-- The version of a file is pinned: its place on tape is noted, and its blocks contain its bytes.
 pub record IsPinnedAt (serial at : ℕ) (f : File) (p : Pin) : Type 0 where
   pub online : f.online ≡ true
   pub stamp : p.stamp ≡ f.rec.stamp
@@ -34,13 +34,13 @@ pub record IsPinnedAt (serial at : ℕ) (f : File) (p : Pin) : Type 0 where
   pub copy : p.copy ≡ record { serial = serial; first = at }
   pub bytes : ForSome p.blocks (λ blocks. f.bytes ≡ Some (take p.len (flat_map (λ b. b) blocks)))
 
--- these are, and their places on tape lie end to end from block `at` of the reel on
+-- Each of these files is pinned, and their places on tape lie end to end, starting at block `at` of the reel.
 abbrev pub ArePinnedFrom : ℕ → ℕ → List File → List Pin → Type 0
 ArePinnedFrom serial at [] pins = pins ≡ []
 ArePinnedFrom serial at (f ∷ fs) pins =
     (pin : Pin) × (rest : List Pin) × (pins ≡ pin ∷ rest) × IsPinnedAt serial at f pin × ArePinnedFrom serial (at + blocks_for f.rec.len) fs rest
 
--- the versions that wait are pinned, and nothing else has changed
+-- The versions that wait are pinned, no user is touched any more, and nothing else has changed.
 pub record HasPinned (serial first : ℕ) (old new : OnlineFacts) : Type 0 where
   pub waiting : List File
   pub are : AreWaiting old.contents.files waiting
@@ -48,7 +48,7 @@ pub record HasPinned (serial first : ℕ) (old new : OnlineFacts) : Type 0 where
   pub pinned : ArePinnedFrom serial first waiting pins
   pub rest : new ≡ record old { pins = Some pins; touched = [] }
 
--- HOW A CLOSING IS ANSWERED: done, or stopped at one of its writes
+-- How the closing of a dump is answered: it is completed, or stopped at one of its writes.
 pub record IsClosing (last : ℕ) (old new : OnlineFacts) (result : Result (Unit {0}) OnlineFault) : Type 0 where
   pub ok : OnOk result (HasClosed last old new)
   pub stopped : OnErr result (StoppedClosing last old new)

@@ -1,4 +1,4 @@
-//! The copies on tape of a dump that was completed.
+//! The tape copies of a completed dump.
 ghost use Rattle.std.specs.Prelude.{◌≡◌, IfOk, map};
 ghost use Rattle.g_tree.specs.Records.{IsRecords};
 ghost use Rattle.g_disc_contents.specs.Contents.{copied_rec, copy_of};
@@ -17,7 +17,7 @@ use g_tree::Tree;
 use std::alloc::Global;
 
 impl<D: Disc> Online<D> {
-    /// Notes these copies on tape, by stamp, and the number of their dump: what `Change::Adopt` says.
+    /// Notes these copies on tape, by stamp, and the number of their dump, as `Change::Adopt` says.
     pub fn adopt(&mut self, alloc: Global, last: u64, copies: &CopyList) -> Result<(), OnlineFault>
         requires allowed { IsAllowed (Change.Adopt last copies.now) self.old }
         ensures { IsApplied (Change.Adopt last copies.now) self.old self.new result }
@@ -46,7 +46,7 @@ impl<D: Disc> Online<D> {
     }
 }
 
-/// The tree of the same users and of the files with these copies.
+/// The tree of the same users, and of the files with these copies.
 pub(crate) fn noted(
     alloc: Global,
     tree: &Tree,
@@ -67,7 +67,7 @@ pub(crate) fn noted(
     Tree::from_records(alloc, users, files)
 }
 
-/// The same users once more.
+/// A copy of the list of users.
 fn copied_users(alloc: Global, users: &[UserRec]) -> Result<Vec<UserRec>, NoMemory>
     ensures { IfOk result (λ copied. copied.items ≡ users.now) }
 {
@@ -99,7 +99,7 @@ fn copied_files(
     Ok(copied)
 }
 
-/// The file with its copy, where one is noted for its stamp.
+/// The file with its copy, if one is noted for its stamp.
 fn with_tape(file: &FileRec, copies: &[(u64, TapeCopy)]) -> FileRec
     ensures { result ≡ copied_rec copies.now file.now }
 {
@@ -109,7 +109,7 @@ fn with_tape(file: &FileRec, copies: &[(u64, TapeCopy)]) -> FileRec
     }
 }
 
-/// The first copy of this stamp, or else the one there was.
+/// The first copy of this stamp, or the old copy if there is none.
 fn tape_of(copies: &[(u64, TapeCopy)], stamp: u64, old: Option<TapeCopy>) -> Option<TapeCopy>
     ensures { result ≡ copy_of copies.now stamp old }
 {

@@ -8,9 +8,10 @@ use g_disc::Disc;
 use std::alloc::Global;
 
 impl<D: Disc> Online<D> {
-    /// Makes this change: it is in the disc whole, or not at all. `Stopped`: a write failed, and no further call may be made
-    /// but `arm` and `into_disc`. `DiscFull`: too few blocks would be free. `NoMemory`: there are enough; it never comes of
-    /// `SetUser`, `EraseFile`, `Unload` and `SetIntent`, which take no memory. With these two nothing has changed.
+    /// Makes this change, which is on the disc completely or not at all. `Stopped`: a write failed, and only `arm` and
+    /// `into_disc` may be called afterwards. `DiscFull`: too few blocks would be free. `NoMemory`: enough blocks would be
+    /// free, but memory ran out. `SetUser`, `EraseFile`, `Unload` and `SetIntent` allocate nothing and never return it.
+    /// After `DiscFull` and `NoMemory` nothing has changed.
     pub fn apply(&mut self, alloc: Global, change: &Change) -> Result<(), OnlineFault>
         requires allowed { IsAllowed change.now self.old }
         ensures { IsApplied change.now self.old self.new result }

@@ -1,4 +1,4 @@
-//! The bytes of a file come back to the disc.
+//! A file's bytes are brought back to the disc.
 ghost use Rattle.g_online.specs.AllowedChanges.{IsAllowed};
 ghost use Rattle.g_online.specs.Outcomes.{IsApplied};
 
@@ -10,8 +10,8 @@ use g_tree::NumberList;
 use std::alloc::Global;
 
 impl<D: Disc> Online<D> {
-    /// Puts the bytes of a file back on the disc, which has them on tape alone: what `Change::Bring` says. Files of `unjam`
-    /// and refusals are as those of `put_file`.
+    /// Brings back the bytes of a file that are only on tape, as `Change::Bring` says. The files of `unjam` and the
+    /// refusals are as for `put_file`.
     pub fn bring(
         &mut self,
         alloc: Global,

@@ -1,4 +1,4 @@
-//! The bytes of a file that is on the disc, whole or by the block.
+//! The bytes of a file that is on the disc, in full or block by block.
 ghost use Rattle.std.specs.Prelude.{◌≡◌, ◌⊎◌, ◌<◌, true, Contains, Err, IfErr, IfOk, OnErr, OnOk, length, slice_get};
 ghost use Rattle.std.specs.Option.{ForSome};
 ghost use Rattle.g_base.specs.Block.{blocks_for};
@@ -18,8 +18,8 @@ use g_name::Text;
 use std::alloc::Global;
 
 impl<D: Disc> Online<D> {
-    /// The bytes of the file of this number, read from the disc. An empty file asks no disc. Nothing changes but the
-    /// count of failed reads.
+    /// Returns the bytes of the file of this number, read from the disc. An empty file causes no read. Only the count of
+    /// failed reads may change.
     pub fn bytes(&mut self, alloc: Global, number: u16) -> Result<Text, OnlineFault>
         requires live { self.old.live ≡ true }
         requires online { (f : File) × Contains self.old.contents.files f
@@ -47,9 +47,9 @@ impl<D: Disc> Online<D> {
         }
     }
 
-    /// Reads block `part` of the file of this number, counted from 0; the file is on the disc and has that block. What
-    /// stands in `into` behind the file's end is not said. Nothing changes but the count of failed reads. Where it answers
-    /// `ReadFault`, nothing is known of `into`.
+    /// Reads block `part` of the file of this number, counted from 0. The file must be on the disc and have that block. The
+    /// bytes of `into` after the end of the file are unspecified. Only the count of failed reads may change. On `ReadFault`
+    /// the contents of `into` are unspecified.
     pub fn file_block(
         &mut self,
         number: u16,

@@ -1,4 +1,4 @@
-//! What a commit may change.
+//! What one commit may change.
 ghost use Rattle.std.specs.Prelude.{◌≡◌};
 
 use g_entry::{FileRec, Intent, TapeCopy, UserRec};
@@ -6,7 +6,7 @@ use g_name::Text;
 use g_tree::NumberList;
 use std::marker::Model;
 
-/// Places on tape by stamp. Contracts see a list. It is made from a `Vec` and gives it back without taking memory.
+/// Places on tape by stamp. Contracts see a list. It converts from a `Vec` and back without allocating.
 #[derive(Drop)]
 pub struct CopyList {
     copies: Vec<(u64, TapeCopy)>,
@@ -45,35 +45,35 @@ impl From<CopyList> for Vec<(u64, TapeCopy)> {
     }
 }
 
-/// A change of the filestore, which is in the disc whole or not at all. Lists of numbers are those of files.
+/// A change of the filestore, which reaches the disc completely or not at all. The lists of numbers are file numbers.
 #[derive(Drop)]
 pub enum Change {
-    /// A user behind the others.
+    /// Adds a user after the others.
     AddUser(UserRec),
-    /// The record of a user who is there, with number and name as they were.
+    /// Replaces the record of an existing user; number and name are unchanged.
     SetUser(UserRec),
-    /// A new version, of the next stamp, under a new number or in the place of the file of its number. The files of
-    /// `unjam` are taken off the disc before.
+    /// Adds a new version, which has the next stamp, under a new number or in place of the file of its number. The files of
+    /// `unjam` are taken off the disc first.
     PutFile {
         rec: FileRec,
         bytes: Text,
         unjam: NumberList,
     },
-    /// The record of a file that is there, with number, owner, stamp, length and copy on tape as they were.
+    /// Replaces the record of an existing file; number, owner, stamp, length and copy on tape are unchanged.
     SetFile(FileRec),
-    /// The file of this number goes.
+    /// Erases the file of this number.
     EraseFile(u16),
-    /// These files are taken off the disc; they have copies on tape.
+    /// Takes these files, which have copies on tape, off the disc.
     Unload(NumberList),
-    /// The bytes of a file that isn't on the disc. The files of `unjam` are taken off before.
+    /// Brings back the bytes of a file that isn't on the disc. The files of `unjam` are taken off first.
     Bring {
         number: u16,
         bytes: Text,
         unjam: NumberList,
     },
-    /// The intent of the head.
+    /// Sets the intent of the head.
     SetIntent(Option<Intent>),
-    /// The copies of a dump that was completed, by stamp, and its number.
+    /// Notes the copies of a completed dump, by stamp, and its number.
     Adopt {
         last: u64,
         copies: CopyList,

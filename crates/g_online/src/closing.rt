@@ -19,11 +19,10 @@ use g_tree::Tree;
 use std::mem;
 
 impl<D: Disc> Online<D> {
-    /// Closes the dump of number `last` by one commit: the pinned versions that are still those of files get the places on
-    /// tape that were noted for them, the head gets the number and has no intent, and the versions are let go, whose blocks
-    /// are free again where no file has them. It takes no memory. Who was touched since they were pinned counts as changed,
-    /// and nobody else. After `Stopped` the disc holds the old contents or the new ones, and the filestore takes no further
-    /// call.
+    /// Closes the dump with number `last` by one commit. Pinned versions that some file still has get the tape places that
+    /// were noted for them. The head gets the number and has no intent. The pins are removed, and their blocks are free
+    /// again unless a file has them. It allocates nothing. Exactly the users touched since the pinning count as changed.
+    /// After `Stopped` the disc holds the old contents or the new ones, and the filestore accepts no further call.
     pub fn close_dump(&mut self, last: u64) -> Result<(), OnlineFault>
         requires live { self.old.live ≡ true }
         requires pinned { is_some self.old.pins ≡ true }
@@ -54,7 +53,7 @@ impl<D: Disc> Online<D> {
     }
 }
 
-/// Puts the noted places on tape into the records of those versions that are still there, and marks just these records.
+/// Writes the noted tape places into the records of versions that still exist, and marks exactly these records.
 fn note_copies(tree: &mut Tree, pages: &mut Pages, notes: &[(u64, TapeCopy)])
     requires { IsRecords tree.old.users (map (copied_rec notes.now) tree.old.files) }
     ensures users { tree.new.users ≡ tree.old.users }
@@ -67,7 +66,7 @@ fn note_copies(tree: &mut Tree, pages: &mut Pages, notes: &[(u64, TapeCopy)])
     }
 }
 
-/// The same of the file of this number, if there is one.
+/// Does so for the file of this number, if there is one.
 fn note_copy(tree: &mut Tree, pages: &mut Pages, notes: &[(u64, TapeCopy)], number: u16)
     requires below { number < 1024 }
     requires rules { IsRecords tree.old.users (map (noted_at notes.now number) tree.old.files) }
@@ -85,7 +84,7 @@ fn note_copy(tree: &mut Tree, pages: &mut Pages, notes: &[(u64, TapeCopy)], numb
     pages.changed(FIRST_FILE_BLOCK + u32::from(number));
 }
 
-/// The record with the place on tape that is noted for its version; none where it stays as it is.
+/// The record with the tape place that is noted for its version, or none if it doesn't change.
 fn with_copy(file: &FileRec, notes: &[(u64, TapeCopy)]) -> Option<FileRec>
     ensures some { IfSome result (λ noted. noted ≡ copied_rec notes.now file.now) }
     ensures none { IfNone result (copied_rec notes.now file.now ≡ file.now) }

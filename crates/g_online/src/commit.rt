@@ -1,4 +1,4 @@
-//! One commit of the directory in memory.
+//! One commit of the directory that is in memory.
 ghost use Rattle.std.specs.Prelude.{◌≡◌, OnErr, OnOk, false};
 ghost use Rattle.std.specs.Option.{ForSome};
 ghost use Rattle.g_base.specs.ToldContent.{Changes};
@@ -16,9 +16,9 @@ use g_entry::Head;
 use g_slots::Slots;
 use g_tree::Tree;
 
-/// Makes the directory of these records the one that the disc stands for. It writes the blocks of the slot that isn't
-/// current which are marked and aren't remembered as they are to be, and then the gate. The blocks are made in `writer`,
-/// whatever it has. Where a write fails the filestore is live no more.
+/// Commits the directory of these records. It writes the marked blocks of the slot that isn't current, unless their
+/// remembered content is already right, and then the gate. `writer` is scratch space for the blocks, whose previous
+/// contents don't matter. If a write fails the filestore is no longer live.
 pub(crate) fn commit<D: Disc>(
     disc: &mut D,
     slots: &mut Slots,

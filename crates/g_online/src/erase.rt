@@ -1,4 +1,4 @@
-//! A file goes.
+//! A file is erased.
 ghost use Rattle.std.specs.Prelude.{◌≡◌, ◌≢◌, All, AllPairs, false};
 ghost use Rattle.std.specs.Option.{option_copied};
 ghost use Rattle.g_blocks.specs.Pool.{IsTaken};
@@ -17,7 +17,7 @@ use g_copy::DiscCopy;
 use g_disc::Disc;
 
 impl<D: Disc> Online<D> {
-    /// Takes a file out, and gives its blocks back unless its version is pinned: what `Change::EraseFile` says.
+    /// Erases a file and frees its blocks unless its version is pinned, as `Change::EraseFile` says.
     pub fn erase_file(&mut self, number: u16) -> Result<(), OnlineFault>
         requires allowed { IsAllowed (Change.EraseFile number) self.old }
         ensures { IsApplied (Change.EraseFile number) self.old self.new result }
@@ -58,7 +58,7 @@ pub(crate) fn is_kept(pins: &Option<PinList>, stamp: u64) -> bool
     }
 }
 
-/// Gives the blocks of a copy back to the pool, or keeps them.
+/// Returns the blocks of a copy to the pool, unless they must stay.
 pub(crate) fn give_unless(keeps: bool, pool: &mut Pool, copy: Option<&DiscCopy>)
     requires apart { keeps ≡ false → AllPairs (λ j k. j ≢ k) (copy_places (option_copied copy)) }
     requires taken { keeps ≡ false → All (IsTaken pool.old) (copy_places (option_copied copy)) }

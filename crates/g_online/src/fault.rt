@@ -1,4 +1,4 @@
-//! What can stand in the way of the filestore.
+//! The faults of the filestore.
 use g_base::NoMemory;
 use g_plain::StoreFault;
 use std::alloc::AllocError;
@@ -7,20 +7,20 @@ use thiserror::Error;
 /// Why a call on the filestore was refused.
 #[derive(Clone, Copy, Debug, PartialEq, Eq, Error)]
 pub enum OnlineFault {
-    /// The new bytes take `need` blocks, and only `room` would be free.
+    /// The new bytes need `need` blocks, and only `room` would be free.
     #[error("{need} blocks are needed and {room} are free")]
     DiscFull { need: u32, room: u32 },
     /// A read of the disc failed; nothing has changed.
     #[error("the disc could not be read")]
     ReadFault,
-    /// A write of the disc failed. The disc holds the old contents, or the new ones, or, where files were taken off for the
-    /// change, the old ones without what was taken off. The filestore takes no further call.
+    /// A write of the disc failed. The disc holds the old contents or the new ones. If files were taken off for the change,
+    /// it may also hold the old contents without those files. The filestore accepts no further call.
     #[error("the disc could not be written")]
     Stopped,
     /// The disc holds no filestore.
     #[error("the disc holds no filestore")]
     NoFilestore,
-    /// The memory was refused; nothing has changed.
+    /// Memory ran out; nothing has changed.
     #[error("out of memory")]
     NoMemory,
 }
@@ -53,7 +53,7 @@ impl From<OnlineFault> for StoreFault {
 
     ghost from_gives = { λ fault e. e ≡ store_fault_of fault };
 
-    /// The fault as a store tells it.
+    /// The fault as the store reports it.
     fn from(fault: OnlineFault) -> StoreFault {
         match fault {
             OnlineFault::DiscFull { need, room } => StoreFault::DiscFull { need, room },

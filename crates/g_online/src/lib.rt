@@ -1,4 +1,4 @@
-//! The filestore that is online: one commit a change, whole or not at all.
+//! The online filestore: each change is one commit, completely done or not at all.
 #![tactic(auto)]
 
 mod adopt;

@@ -1,4 +1,4 @@
-//! The beginnings of a filestore that is online: it is loaded from its disc, or made on it anew.
+//! How an online filestore begins: it is loaded from its disc or created on it.
 ghost use Rattle.std.specs.Prelude.{◌≡◌, ◌≢◌, ◌⊎◌, ◌<◌, ◌≤◌, ℕ, AllPairs, IfErr, IfOk, List, map, is_some, [], OnErr};
 ghost use Rattle.std.specs.Option.{ForSome};
 ghost use Rattle.g_base.specs.ToldContent.{Changes};
@@ -31,9 +31,9 @@ use g_tree::Tree;
 use std::alloc::Global;
 
 impl<D: Disc> Online<D> {
-    /// The filestore that the disc holds, in either format (docs/FORMATS.md). Nothing is remembered of its slots, and all
-    /// users count as changed. Nothing is written. A refusal hands the disc back, which holds what it held: `NoFilestore`
-    /// comes exactly where it holds no filestore, `ReadFault` where a block couldn't be read.
+    /// Loads the filestore that the disc holds, in either format (docs/FORMATS.md). No block of its slots is remembered,
+    /// and all users count as changed. Nothing is written. A refusal returns the disc, whose contents are unchanged:
+    /// `NoFilestore` only if it holds no filestore, `ReadFault` if and only if a read failed, otherwise `NoMemory`.
     pub fn load(alloc: Global, mut disc: D) -> Result<Online<D>, (OnlineFault, D)>
         requires low { 2177 < (D.state disc).size }
         requires high { (D.state disc).size ≤ 1_048_576 }
@@ -70,10 +70,10 @@ impl<D: Disc> Online<D> {
         }
     }
 
-    /// Makes a filestore of these records on the disc by one commit, whatever it held: all files are offline but the empty
-    /// ones. Nothing is remembered of the slots before, and all users count as changed. A refusal hands the disc back. Where
-    /// a write failed, `Stopped`, it holds what it held or the new filestore; with `ReadFault`, which comes where the gate
-    /// couldn't be read, and `NoMemory` it is as it was.
+    /// Creates a filestore of these records on the disc by one commit, for any previous contents. All files are offline
+    /// except the empty ones. No block of the slots is remembered from before, and all users count as changed. A refusal
+    /// returns the disc. After `Stopped`, when a write failed, the disc holds what it held before or the new filestore.
+    /// After `ReadFault`, when the gate couldn't be read, and after `NoMemory` its contents are unchanged.
     pub fn fresh(
         alloc: Global,
         mut disc: D,
@@ -131,7 +131,7 @@ impl<D: Disc> Online<D> {
     }
 }
 
-/// The filestore of these parts, with nothing pinned or touched.
+/// Assembles the filestore from these parts, with nothing pinned or touched.
 fn begin<D: Disc>(
     disc: D,
     slots: Slots,
@@ -167,7 +167,7 @@ fn begin<D: Disc>(
     }
 }
 
-/// The current slot and the directory that it holds.
+/// Reads the current slot and the directory that it holds.
 fn find<D: Disc>(alloc: Global, disc: &mut D) -> Result<(Slots, Dirs), OnlineFault>
     requires { 2177 < (D.state disc.old).size }
     ensures found { IfOk result (λ found. IsFound (D.state disc.old) found.0
@@ -189,7 +189,7 @@ fn find<D: Disc>(alloc: Global, disc: &mut D) -> Result<(Slots, Dirs), OnlineFau
     }
 }
 
-/// What a refusal of the directory is to the filestore.
+/// The filestore's fault for a fault of reading the directory.
 fn refusal(fault: DirsFault) -> OnlineFault
     ensures { result ≡ refusal_of fault }
 {
@@ -201,7 +201,7 @@ fn refusal(fault: DirsFault) -> OnlineFault
     }
 }
 
-/// Nothing remembered, and the pool on which the blocks of these copies are taken.
+/// Pages with nothing remembered, and the pool in which the blocks of these copies are taken.
 fn pool_of(alloc: Global, size: u32, online: &[FileCopy]) -> Result<(Pages, Pool), NoMemory>
     requires low { 2177 < size }
     requires high { size ≤ 1_048_576 }
@@ -228,7 +228,7 @@ fn collected(alloc: Global, online: &[FileCopy]) -> Result<Vec<u32>, NoMemory>
     Ok(places)
 }
 
-/// The copies of the empty files, which have no block.
+/// The copies of the empty files, which have no blocks.
 fn empty_copies(alloc: Global, files: &FileTable) -> Result<Vec<FileCopy>, NoMemory>
     ensures { IfOk result (λ online. online.items ≡ empty_copies files.now) }
 {

@@ -1,11 +1,11 @@
-//! Rising numbers of users.
+//! User numbers in rising order.
 ghost use Rattle.std.specs.Prelude.{◌≡◌, ◌<◌, ◌≤◌, []};
 ghost use Rattle.g_disc_contents.specs.Contents.{with_number};
 
 use arrayvec::ArrayVec;
 use std::marker::Model;
 
-/// Numbers of users, rising, at most 63. Contracts see a list.
+/// At most 63 user numbers in rising order. Contracts see a list.
 #[derive(Drop)]
 pub(crate) struct UserNumbers {
     numbers: ArrayVec<u8, 63>,
@@ -32,7 +32,7 @@ impl UserNumbers {
         }
     }
 
-    /// Puts a number in its place among the others, if it isn't there.
+    /// Inserts a number at its place, if it isn't there.
     pub(crate) fn put(&mut self, number: u8)
         requires { number < 63 }
         ensures { self.new ≡ with_number number self.old }

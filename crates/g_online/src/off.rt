@@ -21,7 +21,7 @@ use g_disc::Disc;
 use g_tree::NumberList;
 
 impl<D: Disc> Online<D> {
-    /// Takes files off the disc, which have copies on tape: what `Change::Unload` says.
+    /// Takes files that have copies on tape off the disc, as `Change::Unload` says.
     pub fn unload(&mut self, numbers: &NumberList) -> Result<(), OnlineFault>
         requires allowed { IsAllowed (Change.Unload numbers.now) self.old }
         ensures { IsApplied (Change.Unload numbers.now) self.old self.new result }
@@ -48,7 +48,7 @@ impl<D: Disc> Online<D> {
     }
 }
 
-/// Takes the copies of these files out of the list, gives their blocks back and marks their records.
+/// Removes the copies of these files from the list, frees their blocks and marks their records.
 pub(crate) fn take_off(pool: &mut Pool, pages: &mut Pages, online: &mut CopyTable, numbers: &[u16])
     requires once { AllPairs (λ m n. m ≢ n) numbers.now }
     requires below { All (λ n. n < 1024) numbers.now }
@@ -63,7 +63,7 @@ pub(crate) fn take_off(pool: &mut Pool, pages: &mut Pages, online: &mut CopyTabl
     }
 }
 
-/// The same of one file.
+/// Does so for one file.
 fn take_one_off(pool: &mut Pool, pages: &mut Pages, online: &mut CopyTable, number: u16)
     requires below { number < 1024 }
     requires apart { AllPairs (λ j k. j ≢ k) (copy_places (copy_at online.old number)) }

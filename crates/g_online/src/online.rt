@@ -1,4 +1,4 @@
-//! The filestore that is online: the disc, and in memory what it holds.
+//! The online filestore: the disc, and what it holds, in memory.
 ghost use Rattle.std.specs.Prelude.{◌≡◌, ◌≤◌, true, Contains, Some};
 ghost use Rattle.g_base.specs.Fuse.{armed_with};
 ghost use Rattle.g_disc_contents.specs.Contents.{File, recs_in};
@@ -16,10 +16,10 @@ use g_slots::Slots;
 use g_tree::Tree;
 use std::marker::Model;
 
-/// A disc whose filestore is known in memory: its head, users and files, where the bytes of the files that are on the
-/// disc lie, and which copy blocks are free. Contracts see the facts of an online filestore (docs/DEFINITIONS.md).
+/// A disc with its filestore in memory: head, users and files, where the bytes of the online files lie, and which copy
+/// blocks are free. Contracts see the facts of an online filestore (docs/DEFINITIONS.md).
 ///
-/// After a change that answered `Stopped` it isn't live: the disc can be taken out of it, and no other call be made.
+/// After a change that returned `Stopped` it isn't live: the disc can be taken out of it, and it accepts no other call.
 #[derive(Drop)]
 pub struct Online<D: Disc> {
     pub(crate) disc: D,
@@ -34,7 +34,7 @@ pub struct Online<D: Disc> {
     pub(crate) touched: UserNumbers,
     pub(crate) live: bool,
 
-    // Where the blocks of every write are made.
+    // Scratch space in which the blocks of every write are built.
     pub(crate) writer: BlockWriter,
 }
 
@@ -91,7 +91,7 @@ impl<D: Disc> Online<D> {
         self.head
     }
 
-    /// How many copy blocks are free. Those of pinned versions that no file has any more aren't.
+    /// The number of free copy blocks. The blocks of pinned versions aren't free, even if no file has them any more.
     pub fn room(&self) -> u32
         requires live { self.now.live ≡ true }
         ensures room { result ≡ room_of self.now }
@@ -109,14 +109,14 @@ impl<D: Disc> Online<D> {
         self.online.get(number).is_some()
     }
 
-    /// The users whose directory may not be the one that the completed dumps hold, in rising number.
+    /// The users whose directory may differ from the one in the completed dumps, in rising order of number.
     pub fn changed(&self) -> &[u8]
         ensures { result.now ≡ self.now.changed }
     {
         self.changed.as_slice()
     }
 
-    /// Sets the fuse of the disc, so that its `k`-th next write fails.
+    /// Arms the disc, so that its `k`-th next write fails.
     pub fn arm(&mut self, k: u32)
         requires { 1 ≤ k }
         ensures armed { self.new ≡ record self.old {
@@ -127,7 +127,7 @@ impl<D: Disc> Online<D> {
         self.disc.arm(k);
     }
 
-    /// The disc as it then is, also after a stop.
+    /// Returns the disc in its current state, also after a failed write.
     pub fn into_disc(self) -> D
         ensures { D.state result ≡ self.disc }
     {

@@ -1,4 +1,4 @@
-//! The versions that are pinned, and what is noted for each beside them.
+//! The pinned versions, and what is noted for each of them.
 ghost use Rattle.std.specs.Prelude.{◌≡◌, ◌==◌, IfOk};
 ghost use Rattle.std.specs.List.{list_any};
 ghost use Rattle.g_online.specs.DumpedVersions.{noted_in};
@@ -10,8 +10,8 @@ use g_entry::TapeCopy;
 use std::alloc::Global;
 use std::marker::Model;
 
-/// Pinned versions in their order, and beside them the stamp of each with the place on tape that is noted for it: a look for
-/// a stamp goes over few bytes a version, and touches no version. Contracts see the versions.
+/// Pinned versions in their order. A parallel list has each version's stamp with the tape place that is noted for it, so
+/// that a search for a stamp scans few bytes and touches no version. Contracts see the versions.
 #[derive(Drop)]
 pub(crate) struct PinList {
     versions: Vec<Pinned>,
@@ -45,7 +45,7 @@ impl PinList {
         self.versions.as_slice()
     }
 
-    /// The stamp of each version and the place that is noted for it.
+    /// The stamp of each version, and the place noted for it.
     pub(crate) fn notes(&self) -> &[(u64, TapeCopy)]
         ensures { result.now ≡ noted_in self.now }
     {

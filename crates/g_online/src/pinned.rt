@@ -2,8 +2,8 @@
 use g_base::BlockList;
 use g_entry::TapeCopy;
 
-/// The version of a stamp: its bytes, the copy on tape that is noted for it, and its blocks on disc, which stay until the
-/// dump ends, whatever becomes of the file.
+/// A version by its stamp: its length, the copy on tape noted for it, and its blocks on disc. The blocks stay until the
+/// dump ends, even if the file is erased or gets a new version.
 #[derive(Drop)]
 pub(crate) struct Pinned {
     pub(crate) stamp: u64,

@@ -1,4 +1,4 @@
-//! The versions of a dump: they are pinned when it is opened, read while it is written, and let go when it ends.
+//! The versions of a dump: they are pinned when it is opened, read while it is written, and unpinned when it ends.
 ghost use Rattle.std.specs.Prelude.{◌≡◌, ◌≢◌, ◌+◌, ◌<◌, ◌≤◌, ◌^◌, All, AllPairs, IfOk, List, None, OnErr, OnOk, Some, length, slice_get, true, [], ◌∷◌};
 ghost use Rattle.std.specs.Option.{ForSome, option_copied};
 ghost use Rattle.g_base.specs.Block.{blocks_for};
@@ -24,10 +24,10 @@ use g_tree::Tree;
 use std::alloc::Global;
 
 impl<D: Disc> Online<D> {
-    /// Pins the versions that wait to be dumped: those of files that aren't empty and have no copy on tape, by owner and
-    /// then by number. Their blocks stay until `unpin` or `close_dump`, whatever becomes of the files. For each a place on
-    /// the reel `serial` is noted, that of the first from block `first` on, each other behind the one before it. It takes
-    /// all memory that the closing needs; without memory nothing has changed.
+    /// Pins the versions that wait to be dumped, by owner and then by number: those of files that aren't empty and have no
+    /// copy on tape. Their blocks stay until `unpin` or `close_dump`, even if the files are erased or replaced. For each
+    /// version a place on the reel `serial` is noted: the first from block `first` on, each other one directly after its
+    /// predecessor. It allocates all memory that the closing needs. Out of memory, nothing has changed.
     pub fn pin(&mut self, alloc: Global, serial: u32, first: u32) -> Result<(), NoMemory>
         requires live { self.old.live ≡ true }
         requires none { self.old.pins ≡ None }
@@ -48,7 +48,7 @@ impl<D: Disc> Online<D> {
         Ok(())
     }
 
-    /// Lets the pinned versions go. The blocks that no file has any more are free again.
+    /// Removes the pins. The blocks that no file has any more become free.
     pub fn unpin(&mut self)
         requires live { self.old.live ≡ true }
         ensures free { self.new ≡ record self.old { pins = None; touched = [] } }
@@ -63,8 +63,8 @@ impl<D: Disc> Online<D> {
         self.touched = UserNumbers::new();
     }
 
-    /// Reads block `part` of the `i`-th pinned version, both counted from 0. Nothing changes but the count of failed reads.
-    /// Where it answers `ReadFault`, nothing is known of `into`.
+    /// Reads block `part` of the `i`-th pinned version, both counted from 0. Only the count of failed reads may change. On
+    /// `ReadFault` the contents of `into` are unspecified.
     pub fn pinned_block(&mut self, i: usize, part: u32, into: &mut Block) -> Result<(), OnlineFault>
         requires live { self.old.live ≡ true }
         requires there { (pins : List Pin) × (self.old.pins ≡ Some pins) × (pin : Pin)
@@ -117,7 +117,7 @@ fn place_of(pins: &[Pinned], i: usize, part: u32) -> Option<u32>
     }
 }
 
-/// Gives the blocks of those versions back to the pool that no file has any more.
+/// Returns the blocks of those versions that no file has any more to the pool.
 pub(crate) fn free_orphaned_pins(pool: &mut Pool, pins: &[Pinned], files: &FileTable)
     requires apart { AllPairs (λ j k. j ≢ k) (lost_places files.now pins.now) }
     requires taken { All (IsTaken pool.old) (lost_places files.now pins.now) }
@@ -128,7 +128,7 @@ pub(crate) fn free_orphaned_pins(pool: &mut Pool, pins: &[Pinned], files: &FileT
     }
 }
 
-/// The same of one version.
+/// Does so for one version.
 fn give_one_lost(pool: &mut Pool, pin: &Pinned, files: &FileTable)
     requires apart { AllPairs (λ j k. j ≢ k) (lost_of files.now pin.now) }
     requires taken { All (IsTaken pool.old) (lost_of files.now pin.now) }
@@ -141,14 +141,14 @@ fn give_one_lost(pool: &mut Pool, pin: &Pinned, files: &FileTable)
     }
 }
 
-/// Whether the version of this stamp is a file's.
+/// Whether some file has the version of this stamp.
 fn is_stamp_current(files: &FileTable, stamp: u64) -> bool
     ensures { result ≡ is_stamp_current files.now stamp }
 {
     files.iter().any(|file| file.stamp == stamp)
 }
 
-/// The versions that wait, by owner and then by number, with their places on tape end to end from block `first` on.
+/// The versions that wait, by owner and then by number, with their tape places end to end from block `first` on.
 fn waiting_versions(
     alloc: Global,
     tree: &Tree,
@@ -172,7 +172,7 @@ fn waiting_versions(
     Ok(pins)
 }
 
-/// Puts the versions of this owner that wait behind the others. `at` is the block behind the last place on tape.
+/// Appends the versions of this owner that wait. `at` is the block after the last place on tape.
 fn pin_owner(
     pins: &mut Vec<Pinned>,
     at: &mut u32,
@@ -196,7 +196,7 @@ fn pin_owner(
     Ok(())
 }
 
-/// The same of one file.
+/// Does so for one file.
 fn pin_file(
     pins: &mut Vec<Pinned>,
     at: &mut u32,

@@ -1,4 +1,5 @@
-//! New bytes: they find room and are written beside all that the disc holds, before a commit names them.
+//! New bytes: they find room and are written without touching anything that the disc holds. Only then does a commit name
+//! them.
 ghost use Rattle.std.specs.Prelude.{◌≡◌, ◌≢◌, ◌⊎◌, ◌↔◌, ◌+◌, ◌<◌, ◌≤◌, ◌^◌, All, AllPairs, Err, IfErr, IfOk, IfSome, IsErrOf, Ok, OnErr, OnOk, [], false, length, true};
 ghost use Rattle.std.specs.Option.{ForSome, option_copied};
 ghost use Rattle.std.specs.FinMap as finmap;
@@ -39,9 +40,10 @@ use g_tree::{NumberList, Tree};
 use std::alloc::Global;
 
 impl<D: Disc> Online<D> {
-    /// Puts a new version in, under a new number or in the place of the file of its number: what `Change::PutFile` says.
-    /// The files of `unjam` are taken off the disc before, by a commit of its own. Blocks and memory are seen to first, so
-    /// that a refusal leaves all as it was: `DiscFull` comes exactly where the blocks that would be free are too few.
+    /// Adds a new version, under a new number or in place of the file of its number, as `Change::PutFile` says. The files
+    /// of `unjam` are taken off the disc first, by a commit of their own. Blocks and memory are reserved before anything is
+    /// written, so a refusal leaves everything unchanged. `DiscFull` is returned if and only if too few blocks would be
+    /// free.
     pub fn put_file(
         &mut self,
         alloc: Global,
@@ -56,8 +58,9 @@ impl<D: Disc> Online<D> {
         self.with_new_copy(alloc, number, Some(rec), bytes, unjam)
     }
 
-    /// Puts bytes into blocks of their own and makes them those of the file of this number: of the version of this record,
-    /// or, without one, of the version that has them on tape. What `Change::PutFile` or `Change::Bring` says.
+    /// Writes bytes into blocks of their own and makes them those of the file of this number: of the version of this
+    /// record, or, without a record, of the version whose bytes are only on tape. `Change::PutFile` and `Change::Bring` say
+    /// what it does.
     pub(crate) fn with_new_copy(
         &mut self,
         alloc: Global,
@@ -134,8 +137,8 @@ impl<D: Disc> Online<D> {
     }
 }
 
-/// Sees to blocks and memory for a new copy of `len` bytes. The blocks of the files that are to be taken off are given back
-/// for it. Where it refuses, all is as before.
+/// Reserves blocks and memory for a new copy of `len` bytes. The blocks of the files that will be taken off are freed for
+/// it. A refusal leaves everything unchanged.
 fn make_ready(
     alloc: Global,
     pool: &mut Pool,
@@ -170,7 +173,7 @@ fn make_ready(
     }
 }
 
-/// Makes room for one more file in the list of files; false without memory.
+/// Reserves memory for one more file in the list of files; false if memory runs out.
 fn make_room(tree: &mut Tree) -> bool
     ensures users { tree.new.users ≡ tree.old.users }
     ensures files { tree.new.files ≡ tree.old.files }
@@ -182,8 +185,8 @@ fn make_room(tree: &mut Tree) -> bool
     }
 }
 
-/// Takes the n least free blocks for a copy of `len` bytes, where there is room in the list of files. Blocks that aren't
-/// there are told first.
+/// Takes the n lowest-numbered free blocks for a copy of `len` bytes, if the list of files has room. `DiscFull` takes
+/// precedence over `NoMemory`.
 fn take_blocks(
     alloc: Global,
     lists: bool,
@@ -218,7 +221,7 @@ fn take_blocks(
     }
 }
 
-/// Gives the blocks of these files back to the pool.
+/// Returns the blocks of these files to the pool.
 fn give_all(pool: &mut Pool, online: &CopyTable, numbers: &[u16])
     requires apart { AllPairs (λ j k. j ≢ k) (places_off numbers.now online.now) }
     requires taken { All (IsTaken pool.old) (places_off numbers.now online.now) }
@@ -229,7 +232,7 @@ fn give_all(pool: &mut Pool, online: &CopyTable, numbers: &[u16])
     }
 }
 
-/// The same of one file.
+/// Does so for one file.
 fn give_one(pool: &mut Pool, online: &CopyTable, number: u16)
     requires apart { AllPairs (λ j k. j ≢ k) (copy_places (copy_at online.now number)) }
     requires taken { All (IsTaken pool.old) (copy_places (copy_at online.now number)) }
@@ -238,7 +241,7 @@ fn give_one(pool: &mut Pool, online: &CopyTable, number: u16)
     give_unless(false, pool, online.get(number));
 }
 
-/// Takes them again, which needs no memory.
+/// Takes the blocks of these files again, which allocates nothing.
 fn retake_all(pool: &mut Pool, online: &CopyTable, numbers: &[u16])
     requires apart { AllPairs (λ j k. j ≢ k) (places_off numbers.now online.now) }
     requires free { All (IsFree pool.old) (places_off numbers.now online.now) }
@@ -249,7 +252,7 @@ fn retake_all(pool: &mut Pool, online: &CopyTable, numbers: &[u16])
     }
 }
 
-/// The same of one file.
+/// Does so for one file.
 fn retake_one(pool: &mut Pool, online: &CopyTable, number: u16)
     requires apart { AllPairs (λ j k. j ≢ k) (copy_places (copy_at online.now number)) }
     requires free { All (IsFree pool.old) (copy_places (copy_at online.now number)) }
@@ -258,7 +261,7 @@ fn retake_one(pool: &mut Pool, online: &CopyTable, number: u16)
     retake_copy(pool, online.get(number));
 }
 
-/// Takes the blocks of a copy again, if it is one.
+/// Takes the blocks of a copy again, if there is one.
 fn retake_copy(pool: &mut Pool, copy: Option<&DiscCopy>)
     requires apart { AllPairs (λ j k. j ≢ k) (copy_places (option_copied copy)) }
     requires free { All (IsFree pool.old) (copy_places (option_copied copy)) }
@@ -270,7 +273,7 @@ fn retake_copy(pool: &mut Pool, copy: Option<&DiscCopy>)
     }
 }
 
-/// Takes these files off the disc by one commit, if there are any. Their blocks aren't looked at.
+/// Takes these files off the disc by one commit, if there are any. It doesn't touch their blocks.
 fn unjam_first<D: Disc>(
     disc: &mut D,
     slots: &mut Slots,
@@ -310,7 +313,7 @@ fn unjam_first<D: Disc>(
     commit(disc, slots, pages, live, head, tree, online, writer)
 }
 
-/// Takes the copies of these files out of the list, and marks their records.
+/// Removes the copies of these files from the list, and marks their records.
 fn forget_all(pages: &mut Pages, online: &mut CopyTable, numbers: &[u16])
     requires below { All (λ n. n < 1024) numbers.now }
     ensures copies { online.new ≡ without_copies numbers.now online.old }
@@ -321,7 +324,7 @@ fn forget_all(pages: &mut Pages, online: &mut CopyTable, numbers: &[u16])
     }
 }
 
-/// The same of one file.
+/// Does so for one file.
 fn forget_one(pages: &mut Pages, online: &mut CopyTable, number: u16)
     requires below { number < 1024 }
     ensures copies { online.new ≡ without_copy number online.old }
@@ -331,7 +334,7 @@ fn forget_one(pages: &mut Pages, online: &mut CopyTable, number: u16)
     pages.changed(FIRST_FILE_BLOCK + u32::from(number));
 }
 
-/// Writes the bytes into the blocks of their copy. Where a write fails the filestore is live no more.
+/// Writes the bytes into the blocks of their copy. If a write fails the filestore is no longer live.
 fn write_new<D: Disc>(
     disc: &mut D,
     live: &mut bool,
@@ -365,7 +368,7 @@ fn write_new<D: Disc>(
     }
 }
 
-/// Whether the version of the file of this number, if there is one, is pinned, so that its blocks stay.
+/// Whether the file of this number exists and its version is pinned, so that its blocks stay.
 fn is_kept_at(pins: &Option<PinList>, tree: &Tree, number: u16) -> bool
     ensures { result ≡ is_pinned_at pins.now
         (finmap.get (by_number tree.now.files) number) }
@@ -376,7 +379,7 @@ fn is_kept_at(pins: &Option<PinList>, tree: &Tree, number: u16) -> bool
     }
 }
 
-/// Puts a new copy in the place of the one of its file, whose blocks go back to the pool unless they are kept.
+/// Puts a new copy in place of the file's old one, whose blocks are returned to the pool unless they must stay.
 fn replace_copy(keeps: bool, pool: &mut Pool, online: &mut CopyTable, number: u16, copy: BoxedCopy)
     requires below { number < 1024 }
     requires apart { keeps ≡ false → AllPairs (λ j k. j ≢ k) (copy_places (copy_at online.old number)) }
@@ -388,7 +391,7 @@ fn replace_copy(keeps: bool, pool: &mut Pool, online: &mut CopyTable, number: u1
     online.put(number, copy);
 }
 
-/// The head behind the record of a new version, if there is one: the next stamp is one more.
+/// The head after the record of a new version, if there is one: the next stamp rises by one.
 fn stamped(head: &Head, rec: &Option<FileRec>) -> Head
     requires { head.now.next_stamp ≤ 2 ^ 62 }
     ensures { result ≡ stamped rec.now head.now }
@@ -402,7 +405,7 @@ fn stamped(head: &Head, rec: &Option<FileRec>) -> Head
     }
 }
 
-/// Puts the record of a new version in, if there is one, and notes that the directory of its owner has changed.
+/// Inserts the record of a new version, if there is one, and notes that its owner's directory has changed.
 fn put_record(
     tree: &mut Tree,
     changed: &mut UserNumbers,

@@ -1,4 +1,4 @@
-//! The copies of a dump that holds every version: made ready before it is written, and noted by one commit behind it.
+//! The copies of a dump that holds every version: they are prepared before it is written, and noted by one commit after it.
 ghost use Rattle.std.specs.Prelude.{◌≡◌, ℕ, IfOk, List, None, map, true};
 ghost use Rattle.g_entry.specs.declared.file_rec.TapeCopy.{TapeCopy};
 ghost use Rattle.g_tree.specs.Records.{IsRecords};
@@ -16,7 +16,7 @@ use g_tree::Tree;
 use std::alloc::Global;
 use std::marker::Model;
 
-/// Users and records of files with their copies on tape, for which all memory was taken. Contracts see both lists.
+/// Users and records of files with their copies on tape, for which all memory is allocated. Contracts see both lists.
 #[derive(Drop)]
 pub struct Ready {
     tree: Tree,
@@ -31,8 +31,8 @@ impl Model for Ready {
 }
 
 impl<D: Disc> Online<D> {
-    /// The users, and the records of files with these copies on tape, by stamp: what `adopt_ready` will put in their place.
-    /// It takes all memory that is needed for it, and nothing changes.
+    /// The users, and the records of files with these copies on tape, by stamp, which `adopt_ready` will install. It
+    /// allocates everything that is needed for it, and nothing changes.
     pub fn ready_adopt(&self, alloc: Global, copies: &[(u64, TapeCopy)]) -> Result<Ready, NoMemory>
         requires live { self.now.live ≡ true }
         requires rules { IsRecords self.now.contents.users
@@ -46,10 +46,10 @@ impl<D: Disc> Online<D> {
         Ok(Ready { tree })
     }
 
-    /// Notes these copies by one commit, with the number `last` of their dump and without an intent. Nobody counts as
-    /// changed then, as every version has a copy. It takes no memory. Since they were made ready nothing but the intent may
-    /// have changed. After `Stopped` the disc holds the old contents or the new ones, and the filestore takes no further
-    /// call.
+    /// Notes these copies by one commit, with the number `last` of their dump and without an intent. No user counts as
+    /// changed then, since every version has a copy. It allocates nothing. Only the intent may have changed since the
+    /// copies were prepared. After `Stopped` the disc holds the old contents or the new ones, and the filestore accepts no
+    /// further call.
     pub fn adopt_ready(&mut self, last: u64, ready: Ready) -> Result<(), OnlineFault>
         requires live { self.old.live ≡ true }
         requires none { self.old.pins ≡ None }

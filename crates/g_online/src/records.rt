@@ -16,7 +16,7 @@ use g_disc::Disc;
 use g_entry::{FileRec, Head, Intent, UserRec};
 
 impl<D: Disc> Online<D> {
-    /// Sets the intent of the head: what `Change::SetIntent` says.
+    /// Sets the intent of the head, as `Change::SetIntent` says.
     pub fn set_intent(&mut self, intent: Option<Intent>) -> Result<(), OnlineFault>
         requires allowed { IsAllowed (Change.SetIntent intent) self.old }
         ensures { IsApplied (Change.SetIntent intent) self.old self.new result }
@@ -35,7 +35,7 @@ impl<D: Disc> Online<D> {
         )
     }
 
-    /// Replaces the record of a user: what `Change::SetUser` says.
+    /// Replaces the record of a user, as `Change::SetUser` says.
     pub fn set_user(&mut self, user: &UserRec) -> Result<(), OnlineFault>
         requires allowed { IsAllowed (Change.SetUser user.now) self.old }
         ensures { IsApplied (Change.SetUser user.now) self.old self.new result }
@@ -56,7 +56,7 @@ impl<D: Disc> Online<D> {
         )
     }
 
-    /// Puts a user behind the others: what `Change::AddUser` says.
+    /// Adds a user after the others, as `Change::AddUser` says.
     pub fn add_user(&mut self, user: &UserRec) -> Result<(), OnlineFault>
         requires allowed { IsAllowed (Change.AddUser user.now) self.old }
         ensures { IsApplied (Change.AddUser user.now) self.old self.new result }
@@ -83,7 +83,7 @@ impl<D: Disc> Online<D> {
         )
     }
 
-    /// Replaces the record of a file, whose version stays: what `Change::SetFile` says.
+    /// Replaces the record of a file, whose version stays the same, as `Change::SetFile` says.
     pub fn set_file(&mut self, rec: FileRec) -> Result<(), OnlineFault>
         requires allowed { IsAllowed (Change.SetFile rec) self.old }
         ensures { IsApplied (Change.SetFile rec) self.old self.new result }
@@ -112,8 +112,8 @@ impl<D: Disc> Online<D> {
     }
 }
 
-/// Notes that the directory of this user has changed, for the dumps to come; and while versions are pinned also for the
-/// time when they are let go.
+/// Notes that the directory of this user has changed, for later dumps; and, while versions are pinned, also for the time
+/// after they are unpinned.
 pub(crate) fn mark_user_changed(
     changed: &mut UserNumbers,
     touched: &mut UserNumbers,
@@ -130,7 +130,7 @@ pub(crate) fn mark_user_changed(
     }
 }
 
-/// The head of the next commit, which carries an intent only while versions are pinned.
+/// The head of the next commit, which has an intent only while versions are pinned.
 pub(crate) fn kept_head(head: &Head, pinned: bool) -> Head
     ensures { result ≡ head_after pinned head.now }
 {
@@ -144,8 +144,8 @@ pub(crate) fn kept_head(head: &Head, pinned: bool) -> Head
     }
 }
 
-/// Makes the head that of the next commit, which carries an intent only while versions are pinned. Its block is marked only
-/// where that changes it, so that a head that stays is neither encoded nor compared.
+/// Replaces the head by that of the next commit, which has an intent only while versions are pinned. Its block is marked
+/// only if the head changes, so an unchanged head is neither encoded nor compared.
 fn carry_head(head: &mut Head, pages: &mut Pages, pinned: bool)
     ensures head { head.new ≡ head_after pinned head.old }
     ensures keeps { KeepsPages pages.old pages.new }

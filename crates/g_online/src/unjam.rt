@@ -1,8 +1,8 @@
-//! Which files are taken off the disc so that a new version finds room.
+//! Which files are taken off the disc to make room for a new version.
 use g_tree::NumberList;
 
-/// The files that are taken off the disc to make room, by number, the oldest versions first, and how many blocks are free
-/// then.
+/// The files to be taken off the disc to make room, by number, oldest versions first, and the number of blocks that are
+/// free afterwards.
 #[derive(Drop)]
 pub struct Unjam {
     pub take: NumberList,

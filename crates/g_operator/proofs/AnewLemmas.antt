@@ -1,5 +1,6 @@
--- TO BEGIN ANEW: reels are mounted and devices armed beside a new disc as beside any, and FORMAT makes of devices to begin anew with what it makes
--- of a new disc beside the same reels, or leaves them to begin anew with.
+-- Starting over: reels are mounted and devices armed with a new disc as with any other. FORMAT makes of devices for
+-- starting over what it makes of a new disc and the same reels, or leaves them as devices for starting over.
+-- serves: arm_disc (blank), arm_tape (blank), mount (blank), rise_line (anew), stop_disc_line (anew), stop_tape_line (anew), unmount (blank), and 2 more
 use Rattle.std.proofs.Common.{◌≡◌, ◌<◌, ℕ, true, false, Bool, List, [], ◌∷◌, Option, Some, None, map, find, nat_lt, option_map, refl, sym, ◌∙◌, ap, subst, inl, inr}
 use Rattle.std.specs.Prelude.{All, Result, Ok, Err, IfOk, codes, replicate, if◌then◌else◌}
 use Rattle.std.specs.List.{AllByRecursion}
@@ -51,12 +52,12 @@ use Rattle.g_day.proofs.LabelLemmas.{parts_with}
 use Rattle.g_operator.proofs.RiseLemmas.{CameUp, comes_up, format_down, not_made}
 use Rattle.g_operator.proofs.WayLemmas.{unrisen_line}
 
--- what a disc counts has its causes, whatever it holds before and behind
+-- what a disc counts has its causes, for any contents before and after
 causes_beside : {P Q : Type 0} (old new : DiscState) (a b : Option (List (List ℕ))) → Causes P Q old new → Causes P Q (record old { held = a }) (record new { held = b })
 causes_beside old new a b is =
     record { size = is.size; arms = is.arms; later = is.later; reads_kept = is.reads_kept; reads_rose = is.reads_rose; writes_kept = is.writes_kept; writes_rose = is.writes_rose }
 
--- DEVICES TO BEGIN ANEW WITH stay so: a reel is turned, or a device armed
+-- devices for starting over stay so when a reel is mounted or unmounted, or a device armed
 blank_rack : (d : Devices) (rack : Rack) → rack ≡ d.rack → AreBlank d → (let e : Devices = record d { rack = rack } in AreBlank e)
 blank_rack d rack is blank = subst (λ (r : Rack). let e : Devices = record d { rack = r } in AreBlank e) (sym is) blank
 
@@ -143,7 +144,7 @@ module _ (d : Devices) (blank : AreBlank d) where
       belongs = λ told given. belongs_now;
     }
 
--- IT ISN'T MADE: refused for a failed read, or cut by a failed write, as it would be beside a new disc
+-- no store is made: refused because of a failed read, or interrupted by a failed write, as it would be with a new disc
 read_refused : (s after : State) (m : Option ℕ) → m ≡ None
     → (let answer : Result (Unit {0}) StoreFault = Err DiscReadFault in Event {A = Unit {0}} (first_fault (fault_from RackNotEmpty m ∷ (true, DiscReadFault) ∷ (false, Stopped) ∷ [])) tt s after answer s)
 read_refused s after None none = (refl, refl)
@@ -213,7 +214,7 @@ module _ (d e : Devices) (more : 2177 < d.disc.size) (blank : AreBlank d) where
         (read_as (with_new_disc e) there.state there.stands).belong;
   }
 
--- ITS LINE: from a new disc where a store comes up; and beside a new disc where none does
+-- its line: from a new disc if a store results, and with a new disc if none does
 module _ (disc : DiscState) (rack : Rack) (c : CrewState) (count : ℕ) (ready : (let d : Devices = record { disc = disc; rack = rack } in IsReady (Down d) c))
     (failure : Option Failure) (c' : CrewState) (before after : Option (List ℕ)) (faults faults' : ℕ) where
   abbrev devices : Devices
@@ -272,7 +273,7 @@ module _ (disc : DiscState) (rack : Rack) (c : CrewState) (count : ℕ) (ready :
   anew_unrisen rise.Start fault disc' rack' is tells = tt
   anew_unrisen rise.Restore fault disc' rack' is tells = tt
 
--- a system that is up isn't one to begin anew
+-- a system that is up isn't one for starting over
 pub anew_up : (how : Rise) (s : StoreFacts) (c : CrewState) (count : ℕ) (failure : Option Failure) (new : Seen) (before after : Option (List ℕ)) (faults faults' : ℕ)
     → AnewLine (line_of how) (seen (Up s) c count) failure new before after faults faults'
 anew_up rise.Format s c count failure new before after faults faults' = λ blank. absurd blank
@@ -291,7 +292,7 @@ pub same_aside : {what : Operator} {failure : Option Failure} {old old' new : Se
 same_aside {what = what} {failure = failure} {new = new} {before = before} {after = after} {faults = faults} {faults' = faults'} opens did =
     subst (λ (s : Seen). WentAside what s failure new before after faults faults') opens did
 
--- A LINE OVER DEVICES TO BEGIN ANEW WITH, whichever it is
+-- any line on devices for starting over
 aside_first : (what : Operator) (old : Seen) (failure : Option Failure) (new : Seen) (before after : Option (List ℕ)) (faults faults' : ℕ)
     → (what ≡ line.Format → ⊥) → WentAside what old failure new before after faults faults' → GoesFirst what old failure new before after faults faults'
 aside_first what old failure new before after faults faults' isnt went blank = inl (record { went = went.line; blank = went.blank blank; unwell = λ none same well. isnt same })

@@ -1,4 +1,5 @@
--- A LINE THAT ASKS A STORE, on a system that is up or down.
+-- A LINE THAT CALLS THE STORE, on a system that is up or down.
+-- serves: dump_line, migrate_line, process_line
 use Rattle.std.proofs.Common.{◌≡◌, ℕ, ◌++◌, List, [], Option, Some, refl, sym, subst}
 use Rattle.std.specs.Prelude.{Result, Ok, Err, codes}
 use Rattle.g_name.specs.declared.path.Path.{Path}
@@ -42,7 +43,8 @@ down_asked what by said lifts no_disc no_tape d e c c' count ready NotStarted is
     (down_line what by said lifts no_disc no_tape d c count ready failure before after faults faults' puts))
 down_asked what by said lifts no_disc no_tape d e c c' count ready fault is same failure before after faults faults' tells = let never : ⊥ = cc in absurd never
 
--- A LINE THAT ASKS, by what a store grants and refuses, and what is said of what is granted: what it does under a store, and under none
+-- a line that calls the store, by what the store grants and refuses, and what is printed for what is granted: its effect
+-- with a store, and without one
 pub record AsksBy {A : Type 0} (what : Operator) (asks : StoreFacts → Result A StoreFault → StoreFacts → Type 0) (said : A → List ℕ) : Type 0 where
   pub granted : (s t : StoreFacts) (c : CrewState) → IsReady (Up s) c → (count : ℕ) (reply : A) → asks s (Ok reply) t → (failure : Option Failure) (before after : Option (List ℕ)) (faults faults' : ℕ)
       → Puts failure (operator_line count (said reply)) before after faults faults' → DidLine what (seen (Up s) c count) failure (seen (Up t) c count) before after faults faults'

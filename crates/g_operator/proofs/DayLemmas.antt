@@ -1,4 +1,5 @@
--- A DAY that is taken apart and put together: what was done over its parts was done over it.
+-- A DAY that is taken apart and reassembled: what was done to its parts was done to it.
+-- serves: dump_line, job_line, login_line, logout_line, migrate_line, process_line, rise_line (line), shut_line, stop_disc_line (anew, line), and 3 more
 use Rattle.std.proofs.Common.{◌≡◌, ℕ, List, Option, sym, subst}
 use Rattle.g_script.specs.declared.operator.Operator.{Operator}
 use Rattle.g_day.specs.declared.progress.Failure.{Failure}

@@ -1,4 +1,5 @@
 -- A STATE OF DEVICES is down already.
+-- serves: AnewLemmas, crates above
 use Rattle.std.proofs.Common.{◌≡◌, ℕ, List, [], Option, Some, None, refl, sym, ◌∙◌, ap}
 use Rattle.std.specs.Prelude.{option_map}
 use Rattle.g_disc_contents.specs.Contents.{Contents}

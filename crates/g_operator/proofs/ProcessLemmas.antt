@@ -1,4 +1,5 @@
 -- PROCESS on a store that is up: the one line that writes tapes, so that a write that fails in it is the disc's or the rack's.
+-- serves: AskLemmas
 use Rattle.std.proofs.Common.{◌≡◌, ◌⊎◌, ◌≤◌, ◌-◌, ◌^◌, ◌==◌, ℕ, Bool, true, false, not, List, [], ◌∷◌, Option, Some, None, MatchOption, is_some, nat_lt, refl, ◌∙◌, ap, inl, inr}
 use Rattle.std.specs.Prelude.{Result, Ok, Err}
 use Rattle.std.specs.List.{AllZip}
@@ -75,7 +76,7 @@ module _ (old new : StoreFacts) (answer : Result ℕ StoreFault) (is : ProcessCa
       by (inl (rose, still)) = dump_failed was now rose still
       by (inr (rose, still)) = rack_failed was now still rose
 
--- A STOP TAKES THE STATE DOWN: none of the refusals is one
+-- A STOP TAKES THE STATE DOWN: no refusal is a stop
 not_early : (a : Bool) (u : Option ℕ) (d b : Bool) (n : ℕ) → first_fault ((a, NoTape) ∷ fault_from RackNotMounted u ∷ (d, DumpOpen n) ∷ (b, CountersSpent) ∷ []) ≡ Some Stopped → ⊥
 not_early true u d b n is = cc
 not_early false (Some m) d b n is = cc
@@ -123,7 +124,7 @@ module _ (s : State) (k : Holding) (serial : ℕ) (u : State) where
       early_down o (process_refuses s k serial)
       (not_early (lacks s serial) (first_reel (λ r. not r.mounted) s.reels) (is_some s.open_dump) (k.last == 2 ^ 62 - 1) (open_number s.open_dump)) step
 
--- no count of the disc falls in it, and none of the tapes
+-- no counter of the disc or of the tapes falls in it
 process_reads : (answer : Result ℕ StoreFault) (old new : StoreFacts) → ProcessCause old new answer → old.online.disc.read_faults ≤ new.online.disc.read_faults
 process_reads (Err DiscReadFault) old new is = Rose-later (is.disc_read refl)
 process_reads answer old new is = stands_still old.online.disc.read_faults new.online.disc.read_faults (is.disc_read_only (λ e. let no : ⊥ = cc in no))

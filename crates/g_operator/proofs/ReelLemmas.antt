@@ -1,4 +1,5 @@
 -- REELS under a store that is up, and under no store.
+-- serves: mount (aside, steps), unmount (aside, steps)
 use Rattle.std.proofs.Common.{◌≡◌, ℕ, ◌<◌, ◌≤◌, Bool, true, false, List, [], ◌∷◌, Option, Some, None, refl, sym, ◌∙◌, ap, subst}
 use Rattle.std.specs.Prelude.{◌⊎◌, ◌≢◌, All, Contains, IfSome, Result, Ok, Err, if◌then◌else◌, is_none, not}
 use Rattle.std.proofs.lemmas.Option.{none-some, same_Some}
@@ -29,7 +30,7 @@ use Rattle.g_day.proofs.GrowLemmas.{grow_itself, grow_turned}
 use Rattle.g_day.proofs.UpLemmas.{leads_by}
 use Rattle.g_day.proofs.LabelLemmas.{labels_with}
 
--- what holds of a system and an answer holds of what is the same
+-- what holds of a system and an answer holds of equal ones
 pub as_known : (On : SystemFacts → Result (Unit {0}) StoreFault → SystemFacts → Type 0) (f d e : SystemFacts) (told answer : Result (Unit {0}) StoreFault) → f ≡ d → told ≡ answer → On d answer e → On f told e
 as_known On f d e told answer is same on =
     subst (λ (x : SystemFacts). On x told e) (sym is) (subst (λ (a : Result (Unit {0}) StoreFault). On d a e) (sym same) on)
@@ -59,7 +60,7 @@ belong_turned s is held reels b = record {
   disc = λ blocks c at holds. disc_turned s is reels b.text b.shelf c (b.disc blocks c at holds);
 }
 
--- the devices with that reel turned, and the state behind it
+-- the devices with that reel mounted or unmounted, and the state afterwards
 abbrev turned_devices : ℕ → Bool → Devices → Devices
 turned_devices s is d = record d { rack = changed s (with_mounted is) d.rack }
 

@@ -1,4 +1,5 @@
--- FORMAT, START AND RESTORE on a system that is down: it comes up, or isn't made, by the step of its state.
+-- FORMAT, START and RESTORE on a system that is down: it is brought up, or not made, by the step of its state.
+-- serves: AnewLemmas, WayLemmas
 use Rattle.std.proofs.Common.{◌≡◌, ℕ, ◌<◌, ◌≤◌, ◌++◌, false, List, [], ◌∷◌, Option, Some, None, refl, sym, ◌∙◌, ap, subst, inl, inr}
 use Rattle.std.specs.Prelude.{not, ◌≢◌, Bool, MatchBool, MatchOption, option_map, Result, Ok, Err, codes}
 use Rattle.g_disc.specs.Disc.{Causes, DiscState}
@@ -51,13 +52,13 @@ use Rattle.g_day.proofs.PutLemmas.{puts_grown, told_grown}
 pub plain_ok : {A : Type 0} (reply : A) → (let answer : Result A StoreFault = Ok reply in OutcomeTold Plain answer)
 plain_ok reply = record { told = tt; disc_read = λ e. let no : ⊥ = cc in absurd no; tape_read = λ e. let no : ⊥ = cc in absurd no; cut = λ e. let no : ⊥ = cc in absurd no }
 
--- a refusal but for want of memory is the step's
+-- a refusal is the step's, unless memory ran out
 leads_down : {A : Type 0} (by : State → Outcome → Result A StoreFault → State → Type 0) (s : State) (disc : DiscState) (rack : Rack) (fault : StoreFault) (disc' : DiscState) (rack' : Rack) → fault ≢ NoMemory
     → StepsDown by s disc rack fault disc' rack' → LeadsDown by s disc rack fault disc' rack'
 leads_down by s disc rack NoMemory disc' rack' other steps = absurd (other refl)
 leads_down by s disc rack fault disc' rack' other steps = steps
 
--- where there were neither jobs nor accounts, there are none behind a fault
+-- if there were neither jobs nor accounts, there are none after a fault
 gone : (fault : StoreFault) (count : ℕ) (c : CrewState) (failure : Option Failure) (c' : CrewState) (before after : Option (List ℕ)) (faults faults' : ℕ) → c.jobs ≡ [] → c.accounts ≡ []
     → TellsFault fault count c failure c' before after faults faults' → (c'.jobs ≡ []) × (c'.accounts ≡ [])
 gone NoMemory count c failure c' before after faults faults' jobs accounts tells =
@@ -67,7 +68,7 @@ gone Stopped count c failure c' before after faults faults' jobs accounts tells 
 gone fault count c failure c' before after faults faults' jobs accounts tells =
     let (same, puts) = tells in (ap (λ (k : CrewState). k.jobs) same ∙ jobs, ap (λ (k : CrewState). k.accounts) same ∙ accounts)
 
--- A STORE THAT CAME UP over devices of which this is given
+-- a store that was brought up on devices with this premise
 pub record CameUp {A : Type 0} (given : Type 0) (by : State → Outcome → Result A StoreFault → State → Type 0) (disc : DiscState) (rack : Rack) (reply : A) (new : StoreFacts) : Type 0 where
   pub running : new.spent ≡ false
   pub keeps : IsStore new
@@ -83,7 +84,7 @@ pub came_up : {A : Type 0} (given : Type 0) (by : State → Outcome → Result A
 came_up given by count_of disc rack reply new m =
     record { running = m.running; keeps = m.keeps; causes = m.causes; tapes = m.tapes; tape_read = m.tape_read; told = m.told; step = m.step; belongs = m.belongs }
 
--- the events of one line, which brings the system up
+-- the event of the line that brings the system up
 module _ {A : Type 0} (what : Operator) (given : Type 0) (by : State → Outcome → Result A StoreFault → State → Type 0) (said : A → List ℕ)
     (lifts : (o : Outcome) (w next : World) → Asks o (not w.store.up) Running (λ r s. by w.store o r s × IsTold o r) (λ x. up_with (said x)) w next → LineGives o what w next) (counts : (o : Outcome) (d e : Devices) → EventCounted o [] [] d e → CountedBy what o d e)
     (no_disc : disc_arms what ≡ []) (no_tape : tape_arms what ≡ []) (disc : DiscState) (rack : Rack) (c : CrewState) (count : ℕ) (gives : (let d : Devices = record { disc = disc; rack = rack } in BelongTogether d) → given) where
@@ -100,7 +101,7 @@ module _ {A : Type 0} (what : Operator) (given : Type 0) (by : State → Outcome
       (subst (λ b. MatchBool (not b) ((r' : Result A StoreFault) × (s' : State) × (by w.store o r' s' × IsTold o r') × (next ≡ tells (λ x t v. up_with (said x) t v) r' s' w)) ((o ≡ Plain) × (next ≡ line_refused Running w))) (sym m.stands.0)
       (r, s, (step, told.told), is))
 
-  -- IT COMES UP
+  -- the system is brought up
   module _ (reply : A) (new : StoreFacts) (makes : CameUp given by disc rack reply new) (empty : c.accounts ≡ []) (c' : CrewState) where
     abbrev added : List ℕ
     added = operator_line count (said reply)
@@ -248,7 +249,7 @@ module _ {A : Type 0} (what : Operator) (given : Type 0) (by : State → Outcome
         grows = told_grown fault count c failure c' before_text after faults faults' tells;
       }
 
--- WHAT IS DOWN stays down where the system doesn't come up
+-- what is down stays down if the system isn't brought up
 event_down : {A : Type 0} (f : Option StoreFault) (reply : A) (s after : State) (fault : StoreFault) (u : State) → s.up ≡ false → Event f reply s after (Err fault) u → u.up ≡ false
 event_down None reply s after fault u was (isnt, is) = let never : ⊥ = cc in absurd never
 event_down (Some Stopped) reply s after fault u was (same, inl is) = ap (λ (t : State). t.up) is
@@ -323,7 +324,7 @@ module _ (disc : DiscState) (rack : Rack) (c : CrewState) (count : ℕ) (ready :
       not_made line.Restore (Belong disc.held rack) RestoreStep (λ n. codes "RESTORED FROM DUMP " ++ decimal n) (λ o w next it. it) (λ o d e it. it) refl refl disc rack c count (λ it. it.belong) fault disc' rack' is.refuses
       (λ s o u step. restore_told s o (Err fault) u step) (restore_down fault) failure c' before_text after faults faults' ready tells
 
--- a system that is up doesn't come up
+-- a system that is up isn't brought up again
 pub running_line : {A : Type 0} (what : Operator) (by : State → Outcome → Result A StoreFault → State → Type 0) (said : A → List ℕ)
     → ((o : Outcome) (w next : World) → Asks o (not w.store.up) Running (λ r s. by w.store o r s × IsTold o r) (λ x. up_with (said x)) w next → LineGives o what w next) → disc_arms what ≡ [] → tape_arms what ≡ []
     → (s : StoreFacts) (c : CrewState) → IsReady (Up s) c → (count : ℕ) (failure : Option Failure) (before_text after : Option (List ℕ)) (faults faults' : ℕ)

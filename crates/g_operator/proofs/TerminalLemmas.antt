@@ -1,4 +1,5 @@
--- THE LINES OF TERMINALS: a job comes in at one, a line is typed there, and it is logged out.
+-- The lines of terminals: a job is accepted at one, a line is typed there, and it is logged out.
+-- serves: log_out_at (left), login_line, logout_line, seat_job (seated), type_at (typed), type_line
 use Rattle.std.proofs.Common.{◌≡◌, ℕ, ◌+◌, ◌==◌, ◌++◌, All, Bool, true, false, List, [], ◌∷◌, Option, Some, None, append-nil, cond, refl, sym, ◌∙◌, ap, subst, inl, inr, arith}
 use Rattle.std.specs.Prelude.{◌⊎◌, Err, IfOk, Ok, Result, find, if◌then◌else◌, codes}
 use Rattle.std.proofs.lemmas.List.{append_assoc}
@@ -56,7 +57,7 @@ more_none : (before : Option (List ℕ)) → before ≡ with_more before []
 more_none None = refl
 more_none (Some bytes) = ap (λ (l : List ℕ). let o : Option (List ℕ) = Some l in o) (sym (append-nil bytes))
 
--- WHAT THE CREW ANSWERS: it isn't taken in, and is told why
+-- the crew's answer: the job isn't accepted, and the reason is printed
 pub sent_away_is : (known : Bool) (login : NewLogin) (count : ℕ) (c : CrewState) (w : NotSeated) (failure : Option Failure) (c' : CrewState) (before after : Option (List ℕ)) (old new : ℕ)
     → RefusesLoginAsIn c known login.terminal login.user login.time (let answer : Result ℕ NotSeated = Err w in printed_login answer) → c' ≡ c → TellsSeat w count failure before after old new
     → SeatsJob known login count c failure c' before after old new
@@ -106,7 +107,7 @@ module _ (login : NewLogin) (s : StoreFacts) (known : Bool) (known_is : (u : Sta
   abbrev before_login : Seen
   before_login = seen (Up s) c count
 
-  -- it comes in
+  -- it is accepted
   module _ (granted : (w : World) → IsCrewOf w c → knows_user w.store login.user ≡ known → login_refusal w login.terminal login.user login.time ≡ None) where
     sits_does : (w : World) → Matches w before_login → DoesLine (login_of_line login) w (Up s) (Up s) (login_text count c.next_job login)
     sits_does w m = record {
@@ -137,7 +138,7 @@ module _ (login : NewLogin) (s : StoreFacts) (known : Bool) (known_is : (u : Sta
   abbrev DidLogin : Option Failure → CrewState → Option (List ℕ) → Option (List ℕ) → ℕ → ℕ → Type 0
   DidLogin failure c' before after faults faults' = DidLine (login_of_line login) before_login failure (seen (Up s) c' count) before after faults faults'
 
-  -- by how it came out
+  -- by its outcome
   pub seated_line : (failure : Option Failure) (c' : CrewState) (before after : Option (List ℕ)) (faults faults' : ℕ) → SeatsJob known login count c failure c' before after faults faults' → DidLogin failure c' before after faults faults'
   seated_line failure c' before after faults faults' (inl sits) =
       subst (λ (k : CrewState). DidLogin failure k before after faults faults') (sym sits.crew)
@@ -148,7 +149,7 @@ module _ (login : NewLogin) (s : StoreFacts) (known : Bool) (known_is : (u : Sta
       (says_refused (login_of_line login) refl refl away.text (Up s) c count (away_gives away.text away.refuses) failure before after faults faults' ready away.put)
   seated_line failure c' before after faults faults' (inr (inr nothing)) = nothing_done (login_of_line login) refl refl (Up s) c count ready failure c' before after faults faults' nothing
 
--- where the system knows the user or doesn't, or is down
+-- if the system knows the user or doesn't, or is down
 pub login_on : (login : NewLogin) (f : SystemFacts) (known : Bool) → KnowsIn login.user f (Some known) → (c : CrewState) → IsReady f c → (count : ℕ) (failure : Option Failure) (c' : CrewState) (before after : Option (List ℕ)) (faults faults' : ℕ)
     → SeatsJob known login count c failure c' before after faults faults' → DidLine (login_of_line login) (seen f c count) failure (seen f c' count) before after faults faults'
 login_on login f known knows c ready count failure c' before after faults faults' seats =

@@ -1,4 +1,5 @@
 -- A REEL'S LINE: it was mounted or unmounted, or it was refused.
+-- serves: mount_line (anew, line), unmount_line (anew, line)
 use Rattle.std.proofs.Common.{◌≡◌, ℕ, ◌<◌, ◌≤◌, ◌++◌, List, [], Option, refl, sym, ◌∙◌, ap, subst}
 use Rattle.std.specs.Prelude.{◌≢◌, Result, Ok, Err, codes}
 use Rattle.g_disc.specs.Disc.{DiscState}
@@ -54,7 +55,7 @@ told_refusal : (done : Unit {0} → State → World → World) (fault : StoreFau
 told_refusal done Stopped u w other = absurd (other refl)
 told_refusal done fault u w other = refl
 
--- what is told of a reel
+-- the text about a reel
 abbrev pub added_by : List ℕ → ℕ → Result (Unit {0}) StoreFault → List ℕ
 added_by text count (Ok u) = operator_line count text
 added_by text count (Err fault) = refusal_text count fault
@@ -126,7 +127,7 @@ module _ (what : Operator) (no_disc : disc_arms what ≡ []) (no_tape : tape_arm
     grows = puts_grown puts;
   }
 
--- A LINE THAT TURNS A REEL: the step that the store makes, and the text that tells it
+-- a line that mounts or unmounts a reel: the step of the store, and the text that reports it
 pub record Turns (what : Operator) (by : State → Result (Unit {0}) StoreFault → State → Type 0) (text : List ℕ) : Type 0 where
   pub no_disc : disc_arms what ≡ []
   pub no_tape : tape_arms what ≡ []
@@ -138,7 +139,7 @@ mounts_line serial = record { no_disc = refl; no_tape = refl; lifts = λ w next 
 pub unmounts_line : (serial : ℕ) → Turns (line.Unmount serial) (λ s a u. UnmountStep s serial a u) (tape_text serial (codes "UNMOUNTED"))
 unmounts_line serial = record { no_disc = refl; no_tape = refl; lifts = λ w next r s step is. (r, s, (refl, step), is) }
 
--- as it is told to the day, and beside a new disc
+-- for the day itself, and with a new disc
 module _ {what : Operator} {by : State → Result (Unit {0}) StoreFault → State → Type 0} {text : List ℕ} (turns : Turns what by text) {old : SystemFacts} {c : CrewState} {count : ℕ} {day : Seen}
     (day_is : seen old c count ≡ day) (ready : IsReady day.system day.crew) where
   ready_here : IsReady old c

@@ -1,4 +1,5 @@
 -- THE THREE LINES THAT BRING A SYSTEM UP, by which it is.
+-- serves: rise_line (line), AnewLemmas
 use Rattle.std.proofs.Common.{◌≡◌, false, ℕ, ◌++◌, List, [], Option, None, refl, sym, subst, inl, inr}
 use Rattle.std.specs.Prelude.{Result, IfOk, codes}
 use Rattle.std.specs.Fmt.{decimal}
@@ -59,7 +60,7 @@ raised_runs rise.Restore disc rack new made (number, is, text) = is.makes.runnin
 
 module _ (disc : DiscState) (rack : Rack) (c : CrewState) (count : ℕ) (ready : (let d : Devices = record { disc = disc; rack = rack } in IsReady (Down d) c))
     (failure : Option Failure) (c' : CrewState) (before after : Option (List ℕ)) (faults faults' : ℕ) where
-  -- it comes up
+  -- the system is brought up
   pub risen_line : {E : Type 0} (how : Rise) (new : StoreFacts) (made : Result (List ℕ) E) → Raises how disc rack new made → (failure ≡ None → Opens new.online.contents.users c c')
       → ((what : List ℕ) → IfOk made (λ text. text ≡ what) → Puts failure (operator_line count what) before after faults faults')
       → (let d : Devices = record { disc = disc; rack = rack } in DidLine (line_of how) (seen (Down d) c count) failure (seen (Up new) c' count) before after faults faults')

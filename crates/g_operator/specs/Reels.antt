@@ -1,4 +1,4 @@
--- REELS ARE MOUNTED AND UNMOUNTED, whether the system is up or down, by the steps of its state.
+-- Reels are mounted and unmounted, whether the system is up or down, by the steps of its state.
 use Rattle.std.specs.Prelude.{◌≡◌, ◌≢◌, ℕ, Result, Err}
 use Rattle.g_plain.specs.declared.faults.StoreFault.{StoreFault}
 use Rattle.g_plain.specs.declared.faults.StoreFault.TheVariants.{Stopped}
@@ -7,13 +7,13 @@ use Rattle.g_store_model.specs.State.{State}
 use Rattle.g_run_model.specs.Devices.{Devices}
 use Rattle.g_day.specs.System.{Down, DumpsGrow, StandsAs, SystemBelongs, SystemFacts, Up, devices_in, labels}
 
--- a store that is up isn't spent, and what is down stays down
+-- A store that is up isn't spent by it, what is down stays down, and the disc is unchanged.
 abbrev pub StaysAsUp : SystemFacts → SystemFacts → Type 0
 StaysAsUp (Up s) (Up t) = (t.spent ≡ s.spent) × (t.online.disc ≡ s.online.disc)
 StaysAsUp (Down d) (Down e) = e.disc ≡ d.disc
 StaysAsUp old new = ⊥
 
--- no block was read or written, no count moved, nobody armed a device; and the state went by this step
+-- No block was read or written, no counter moved, no device was armed; and the state changed by this step.
 pub record StepsReels (by : State → Result (Unit {0}) StoreFault → State → Type 0) (old : SystemFacts) (answer : Result (Unit {0}) StoreFault) (new : SystemFacts) : Type 0 where
   pub stays : StaysAsUp old new
   pub only : (fault : StoreFault) → answer ≡ Err fault → fault ≢ Stopped
@@ -26,8 +26,10 @@ pub record StepsReels (by : State → Result (Unit {0}) StoreFault → State →
   pub dumps : DumpsGrow (devices_in old).rack (devices_in new).rack
   pub step : (s : State) → StandsAs old s → (u : State) × StandsAs new u × by s answer u
 
+-- The reel was mounted, or the mount was refused.
 abbrev pub MountsOn : ℕ → SystemFacts → Result (Unit {0}) StoreFault → SystemFacts → Type 0
 MountsOn serial old answer new = StepsReels (λ s a u. MountStep s serial a u) old answer new
 
+-- The reel was unmounted, or the unmount was refused.
 abbrev pub UnmountsOn : ℕ → SystemFacts → Result (Unit {0}) StoreFault → SystemFacts → Type 0
 UnmountsOn serial old answer new = StepsReels (λ s a u. UnmountStep s serial a u) old answer new

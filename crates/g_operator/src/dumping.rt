@@ -1,5 +1,5 @@
-//! What the operator asks of a store: a dump is opened, all versions are put on one reel, a file is taken off the disc. A system that
-//! is down refuses it.
+//! What the operator requests from a store: a dump is opened, all versions are consolidated on one reel, a file is taken
+//! off the disc. A system that is down refuses it.
 ghost use Rattle.std.specs.Prelude.{◌≡◌, ◌++◌, IfOk, codes};
 ghost use Rattle.g_operator.specs.Asking.{AsksOf, Processed};
 ghost use Rattle.g_day.specs.Parts.{DidLine, IsReady};
@@ -20,7 +20,8 @@ use g_plain::StoreFault;
 use g_tape::Tapes;
 use std::alloc::Global;
 
-/// DUMP: a dump is opened on the reel. `NotStarted`: the system is down; else the refusals of an opening (docs/MANUAL.md).
+/// DUMP: a dump is opened on the reel. `NotStarted`: the system is down; otherwise the refusals of an opening
+/// (docs/MANUAL.md).
 pub(crate) fn dump_line<K: Sink, D: Disc, T: Tapes>(
     alloc: Global,
     day: Day<D, T>,
@@ -55,8 +56,8 @@ fn opens<D: Disc, T: Tapes>(
     }
 }
 
-/// PROCESS: every version is written onto the reel as one dump, and the other reels are released. `NotStarted`; else the refusals of
-/// a store (docs/MANUAL.md).
+/// PROCESS: every version is written to the reel as one dump, and the other reels are released. `NotStarted`; otherwise the
+/// refusals of a store (docs/MANUAL.md).
 pub(crate) fn process_line<K: Sink, D: Disc, T: Tapes>(
     alloc: Global,
     day: Day<D, T>,
@@ -76,7 +77,7 @@ pub(crate) fn process_line<K: Sink, D: Disc, T: Tapes>(
     }
 }
 
-/// All versions of a store that is up go onto the reel.
+/// All versions of a store that is up are consolidated on the reel.
 fn processes<D: Disc, T: Tapes>(
     alloc: Global,
     system: &mut System<D, T>,
@@ -91,7 +92,7 @@ fn processes<D: Disc, T: Tapes>(
     }
 }
 
-/// What is told of it.
+/// The text that reports it.
 fn processed(alloc: Global, serial: u32, number: u64) -> Result<Text, NoMemory>
     ensures { IfOk result (λ text. text ≡ processed_text serial number) }
 {
@@ -101,7 +102,7 @@ fn processed(alloc: Global, serial: u32, number: u64) -> Result<Text, NoMemory>
     Ok(text)
 }
 
-/// MIGRATE: the file that the path names is taken off the disc. `NotStarted`; else the refusals of a migration.
+/// MIGRATE: the file that the path names is taken off the disc. `NotStarted`; otherwise the refusals of a migration.
 pub(crate) fn migrate_line<K: Sink, D: Disc, T: Tapes>(
     alloc: Global,
     day: Day<D, T>,
@@ -136,7 +137,7 @@ fn migrates<D: Disc, T: Tapes>(
     }
 }
 
-/// What is told of a migration.
+/// The text that reports a migration.
 fn migrated(alloc: Global, full: &Full) -> Result<Text, NoMemory>
     ensures { IfOk result (λ text. text ≡ codes "MIGRATED " ++ full_text full.now) }
 {

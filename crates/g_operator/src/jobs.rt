@@ -1,4 +1,4 @@
-//! A job comes in, and the system is shut.
+//! A job is accepted, and the system is shut down.
 ghost use Rattle.std.specs.Prelude.{◌≡◌, ◌+◌, ◌<◌, ◌≤◌, ◌++◌, IfOk, codes};
 ghost use Rattle.g_day.specs.Jobs.{KnowsIn, TakesJob, TellsWhy};
 ghost use Rattle.g_day.specs.Parts.{DidLine, IsReady};
@@ -21,7 +21,8 @@ use g_plain::StoreFault;
 use g_tape::Tapes;
 use std::alloc::Global;
 
-/// JOB: the job comes in behind the others. `NotStarted`: the system is down; then `NoUser`, 64 jobs are there, TIME, MONEY.
+/// JOB: the job is added after the others. `NotStarted`: the system is down; then `NoUser`, 64 unfinished jobs, TIME,
+/// MONEY.
 pub(crate) fn job_line<K: Sink, D: Disc, T: Tapes>(
     alloc: Global,
     day: Day<D, T>,
@@ -55,7 +56,7 @@ pub(crate) fn knows<D: Disc, T: Tapes>(system: &System<D, T>, user: &User) -> Op
     }
 }
 
-/// The job comes in to a system that is up, where its user is known or isn't.
+/// A job for a system that is up, whose user may be known or not.
 fn take_job<K: Sink, D: Disc, T: Tapes>(
     alloc: Global,
     day: Day<D, T>,
@@ -84,7 +85,7 @@ fn take_job<K: Sink, D: Disc, T: Tapes>(
     }
 }
 
-/// Tells why a job isn't taken in; of want of memory nothing.
+/// Reports why a job isn't accepted. Nothing is printed if memory ran out.
 pub(crate) fn turned_away<K: Sink>(
     alloc: Global,
     count: u64,
@@ -102,7 +103,7 @@ pub(crate) fn turned_away<K: Sink>(
     }
 }
 
-/// The line that tells of a job that came in, made in one text.
+/// The line that reports an accepted job, built in one text.
 pub(crate) fn came_in(
     alloc: Global,
     count: u64,
@@ -121,7 +122,7 @@ pub(crate) fn came_in(
     Ok(text)
 }
 
-/// What is told of a job that isn't taken in.
+/// The text for a job that isn't accepted.
 fn refusal(alloc: Global, why: NotTaken) -> Result<Text, NoMemory>
     requires { IsPrinted why }
     ensures { IfOk result (λ text. text ≡ codes "REFUSED " ++ refusal_line why) }
@@ -131,7 +132,7 @@ fn refusal(alloc: Global, why: NotTaken) -> Result<Text, NoMemory>
     Ok(text)
 }
 
-/// SHUT: the system goes down, and each unfinished job is cut off. `NotStarted`; `DumpOpen`: a dump is open.
+/// SHUT: the system goes down, and each unfinished job is broken off. `NotStarted`; `DumpOpen`: a dump is open.
 pub(crate) fn shut_line<K: Sink, D: Disc, T: Tapes>(
     alloc: Global,
     day: Day<D, T>,

@@ -1,4 +1,4 @@
-//! The operator's lines: each is done on a system that is up or down, and what became of it is told.
+//! The operator's lines: each is done on a system that is up or down, and its result is printed.
 #![tactic(auto)]
 
 mod arming;

@@ -17,7 +17,7 @@ use g_script::Operator;
 use g_tape::Tapes;
 use std::alloc::Global;
 
-/// Does what the operator asks, and tells what became of it (docs/MANUAL.md, "The operator's lines").
+/// Does what the operator's line says, and prints the result (docs/MANUAL.md, "The operator's lines").
 pub fn operator_line<K: Sink, D: Disc, T: Tapes>(
     alloc: Global,
     day: Day<D, T>,
@@ -28,7 +28,7 @@ pub fn operator_line<K: Sink, D: Disc, T: Tapes>(
     requires within { IsWithin what }
     requires numbers { day.crew.next_job + 1 < 18446744073709551616 }
     ensures line { DidLine what day result.failure result.day (K.written out.old) (K.written out.new) (K.faults out.old) (K.faults out.new) }
-    // To begin anew: lines of a system that is down, beside a new disc.
+    // For starting over: lines of a system that is down, with a new disc.
     ensures anew { AnewLine what day result.failure result.day (K.written out.old) (K.written out.new) (K.faults out.old) (K.faults out.new) }
 {
     match what {

@@ -40,7 +40,7 @@ pub(crate) fn mount_line<K: Sink, D: Disc, T: Tapes>(
     }
 }
 
-/// UNMOUNT: the reel is taken off. `NoTape`, `NotMounted`, `TapeBusy`: the open dump is on it.
+/// UNMOUNT: the reel is unmounted. `NoTape`, `NotMounted`, `TapeBusy`: the open dump is on it.
 pub(crate) fn unmount_line<K: Sink, D: Disc, T: Tapes>(
     alloc: Global,
     day: Day<D, T>,

@@ -1,4 +1,4 @@
-//! The system comes up: by FORMAT, START or RESTORE.
+//! The system is brought up by FORMAT, START or RESTORE.
 ghost use Rattle.std.specs.Prelude.{◌≡◌, ◌++◌, ◌<◌, ◌≤◌, ℕ, List, None, [], IfErr, IfOk, codes, false};
 ghost use Rattle.std.specs.Fmt.{decimal};
 ghost use Rattle.g_cache.specs.CachedDisc.{cached_with};
@@ -23,8 +23,8 @@ use g_store::{Refused, Store, format, restore, start};
 use g_tape::Tapes;
 use std::alloc::Global;
 
-/// How a system comes up: as a new filestore; from what the disc holds, where a dump whose mark was written may be adopted; or from
-/// the tree that the last completed dump opened on.
+/// How a system is brought up: as a new filestore; from what the disc holds, adopting a dump whose mark was written; or
+/// from the tree on which the last completed dump opened.
 #[derive(Clone, Copy, PartialEq, Eq)]
 pub(crate) enum Rise {
     Format,
@@ -32,7 +32,8 @@ pub(crate) enum Rise {
     Restore,
 }
 
-/// FORMAT, START or RESTORE. `Running`: the system is up; else the refusals of a store that is made so (docs/MANUAL.md).
+/// FORMAT, START or RESTORE. `Running`: the system is up; otherwise the refusals of that call of the store
+/// (docs/MANUAL.md).
 pub(crate) fn rise_line<K: Sink, D: Disc, T: Tapes>(
     alloc: Global,
     day: Day<D, T>,
@@ -72,15 +73,15 @@ pub(crate) fn rise_line<K: Sink, D: Disc, T: Tapes>(
     }
 }
 
-/// A store that was made, and what is told of it.
+/// A store that was made, and the text that reports it.
 #[derive(Drop)]
 struct Raised<D: Disc, T: Tapes> {
     store: Running<D, T>,
     made: Result<Text, NoMemory>,
 }
 
-/// A store over both devices. A refusal hands them back; without memory for the box of the store or the cache before the disc they
-/// are as they were.
+/// A store on both devices. A refusal returns them. If there is no memory for the box of the store or the cache of the
+/// disc, they are unchanged.
 fn raise<D: Disc, T: Tapes>(
     alloc: Global,
     disc: D,
@@ -101,7 +102,7 @@ fn raise<D: Disc, T: Tapes>(
     }
 }
 
-/// The same in a box that is there, over a disc that is in its cache.
+/// Does so in an existing box, on a disc that is in its cache.
 fn raise_in<D: Disc, T: Tapes>(
     alloc: Global,
     place: EmptyBox<D, T>,
@@ -130,7 +131,7 @@ fn raise_in<D: Disc, T: Tapes>(
     }
 }
 
-/// A store, and the line that tells it, where there is memory for the line.
+/// A store, and the line that reports it, if there is memory for the line.
 fn made_by<D: Disc, T: Tapes>(
     alloc: Global,
     disc: CachedDisc<D>,
@@ -157,8 +158,8 @@ fn made_by<D: Disc, T: Tapes>(
     }
 }
 
-/// What a system that comes up needs memory for: a box for its store, and a cache before its disc. Where there is none, the disc comes
-/// back as it was.
+/// Allocates what a system needs to be brought up: a box for its store, and a cache for its disc. If memory runs out the
+/// disc is returned unchanged.
 fn box_and_cache<D: Disc, T: Tapes>(
     alloc: Global,
     disc: D,
@@ -178,7 +179,7 @@ fn box_and_cache<D: Disc, T: Tapes>(
     }
 }
 
-/// The system is up: each user's accounts open, and the line that tells it is put.
+/// The system is up: each user's accounts open, and the line that reports it is written.
 fn comes_up<K: Sink, D: Disc, T: Tapes>(
     alloc: Global,
     raised: Raised<D, T>,
@@ -214,7 +215,7 @@ fn comes_up<K: Sink, D: Disc, T: Tapes>(
     }
 }
 
-/// What is told of a RESTORE.
+/// The text that reports a RESTORE.
 fn restored(alloc: Global, number: u64) -> Result<Text, NoMemory>
     ensures { IfOk result (λ text. text ≡ codes "RESTORED FROM DUMP " ++ decimal number) }
 {

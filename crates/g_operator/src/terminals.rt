@@ -1,4 +1,4 @@
-//! Terminals: a job comes in at one, a line is typed there, it is logged out; and a stop behind what was put at one.
+//! Terminals: a job is accepted at one, a line is typed there, it is logged out.
 ghost use Rattle.std.specs.Prelude.{◌≡◌, ◌+◌, ◌<◌, ◌≤◌, ◌++◌, Some, IfOk, codes};
 ghost use Rattle.g_day.specs.Parts.{DidLine, IsReady};
 ghost use Rattle.g_day.specs.System.{facts_of};
@@ -26,8 +26,8 @@ use g_plain::StoreFault;
 use g_tape::Tapes;
 use std::alloc::Global;
 
-/// LOGIN: a job comes in at the terminal, and the first line of its file is put there. `NotStarted`: the system is down; then
-/// `NoUser`, the terminal is busy, 64 jobs are there, TIME, MONEY.
+/// LOGIN: a job is accepted at the terminal, and the first line of its file is printed there. `NotStarted`: the system is
+/// down; then `NoUser`, the terminal is busy, 64 unfinished jobs, TIME, MONEY.
 pub(crate) fn login_line<K: Sink, D: Disc, T: Tapes>(
     alloc: Global,
     day: Day<D, T>,
@@ -47,7 +47,7 @@ pub(crate) fn login_line<K: Sink, D: Disc, T: Tapes>(
     }
 }
 
-/// The job comes in to a system that is up, where its user is known or isn't.
+/// A terminal's job for a system that is up, whose user may be known or not.
 fn seat_job<K: Sink, D: Disc, T: Tapes>(
     alloc: Global,
     day: Day<D, T>,
@@ -76,7 +76,7 @@ fn seat_job<K: Sink, D: Disc, T: Tapes>(
     }
 }
 
-/// What is told of a terminal's job that came in, and what is put at the terminal.
+/// The line that reports an accepted terminal's job, and the text for the terminal.
 fn logged_in(
     alloc: Global,
     crew: &Crew,
@@ -95,7 +95,7 @@ fn logged_in(
     Ok(text)
 }
 
-/// Tells why a terminal's job isn't taken in; of want of memory nothing.
+/// Reports why a terminal's job isn't accepted. Nothing is printed if memory ran out.
 fn seat_refused<K: Sink>(alloc: Global, count: u64, why: NotSeated, out: &mut K) -> Option<Failure>
     ensures { TellsSeat why count result (K.written out.old) (K.written out.new) (K.faults out.old) (K.faults out.new) }
 {
@@ -108,7 +108,7 @@ fn seat_refused<K: Sink>(alloc: Global, count: u64, why: NotSeated, out: &mut K)
     }
 }
 
-/// What is told of a LOGIN of a busy terminal.
+/// The text for a LOGIN at a busy terminal.
 fn busy(alloc: Global, terminal: u8) -> Result<Text, NoMemory>
     ensures { IfOk result (λ text. text ≡ codes "REFUSED " ++ busy_text terminal) }
 {
@@ -117,7 +117,7 @@ fn busy(alloc: Global, terminal: u8) -> Result<Text, NoMemory>
     Ok(text)
 }
 
-/// What is told of a TYPE or LOGOUT where there is no such job.
+/// The text for a TYPE or LOGOUT without such a job.
 fn no_terminal(alloc: Global, terminal: u8) -> Result<Text, NoMemory>
     ensures { IfOk result (λ text. text ≡ codes "REFUSED " ++ none_text terminal) }
 {
@@ -136,8 +136,8 @@ fn is_up<D: Disc, T: Tapes>(system: &System<D, T>) -> bool
     }
 }
 
-/// TYPE: a line is put behind the document of the terminal's job, and nothing is told. `NotStarted`; or the terminal has no
-/// unfinished job, or was logged out.
+/// TYPE: a line is appended to the document of the terminal's job, and nothing is printed. `NotStarted`; or the terminal
+/// has no unfinished job, or was logged out.
 pub(crate) fn type_line<K: Sink, D: Disc, T: Tapes>(
     alloc: Global,
     day: Day<D, T>,
@@ -184,7 +184,7 @@ fn type_at<K: Sink, D: Disc, T: Tapes>(
     }
 }
 
-/// LOGOUT: no line comes any more at the terminal, and nothing is told. `NotStarted`; or the terminal has no unfinished job, or
+/// LOGOUT: the terminal gets no more lines, and nothing is printed. `NotStarted`; or the terminal has no unfinished job, or
 /// was logged out.
 pub(crate) fn logout_line<K: Sink, D: Disc, T: Tapes>(
     alloc: Global,

@@ -1,4 +1,5 @@
--- The words of orders and the orders of words are each other's.
+-- Encoding and decoding are inverse: each order has one word, and each word that has an order has one.
+-- serves: decode (found), encode (read), function_in, crates above
 use Rattle.std.proofs.Common.{◌≡◌, ℕ, ◌*◌, ◌-◌, ◌/◌, ◌<◌, ◌≤◌, ◌%◌, ◌^◌, Bool, true, false, ◌&&◌, ◌||◌, refl, ap, ◌∙◌, ◌⊎◌, inl, inr, arith}
 use Rattle.std.specs.Prelude.{Some, is_some, ◌==◌, nat_lt, nat_le, not, if◌then◌else◌}
 use Rattle.std.proofs.lemmas.Bool.{ltb-true, leb-true, eqb-true, le-leb, lt-ltb, and_from}
@@ -67,7 +68,7 @@ fields_of-word_of o h = elim (limits o h) [ inl p ↦ plain_back o p | inr b ↦
 pub decoded-word_of : (o : Fields) → is_order o.x o.f o.m o.n ≡ true → decoded (word_of o) ≡ Some o
 decoded-word_of o h = rw (fields_of-word_of o h, h) refl
 
--- the number of a word whose upper bits are those of a branch is that of a branch, and else it is those bits
+-- the function number of a word: even for a branch, otherwise the seven bits of F unchanged
 even_branch : (w : ℕ) → is_branch (w / 2 ^ 14 % 2 ^ 7) ≡ true → is_branch (2 * (w / 2 ^ 15 % 2 ^ 6)) ≡ true
 even_branch w is =
     let range = both_true (nat_le 0o50 (w / 2 ^ 14 % 2 ^ 7)) (nat_lt (w / 2 ^ 14 % 2 ^ 7) 0o100) is in

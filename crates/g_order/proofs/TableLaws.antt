@@ -1,4 +1,5 @@
--- What every function number of the table keeps.
+-- Invariants of every function number in the table.
+-- serves: function_at, CodingLaws, crates above
 use Rattle.std.proofs.Common.{◌≡◌, arith, ℕ, ◌-◌, ◌%◌, Bool, true, false, ◌&&◌, ◌||◌, List, [], ◌∷◌, refl, ap, ◌∙◌, inl, inr}
 use Rattle.std.specs.Prelude.{Some, is_some, ◌==◌, nat_lt, not, if◌then◌else◌}
 use Rattle.std.proofs.lemmas.Bool.{eqb-true}
@@ -52,7 +53,7 @@ same_true true false h = cc
 same_true false true h = cc
 same_true false false h = refl
 
--- each row whose key is its function number has a branch where that is one's
+-- in each row whose key is its function number, the function is a branch if and only if the number is a branch's
 row_kind : (rs : List (ℕ × Function)) (key : ℕ) (function : Function) → list_all (λ (r : ℕ × Function). same_bool (is_branch r.0) (is_jump r.1)) rs ≡ true → row rs key ≡ Some function → is_branch key ≡ is_jump function
 row_kind [] key function h found = cc
 row_kind (r ∷ rs) key function h found =
@@ -65,7 +66,7 @@ row_kind (r ∷ rs) key function h found =
       | inr e ↦ row_kind rs key function parts.1 (rw e.0 at found)
     ]
 
--- and of the rows with this kind of function each has it
+-- if the function of every row has this kind, so has each function found
 row_all : (rs : List (ℕ × Function)) (key : ℕ) (function : Function) (b : Bool) → list_all (λ (r : ℕ × Function). same_bool b (is_jump r.1)) rs ≡ true → row rs key ≡ Some function → b ≡ is_jump function
 row_all [] key function b h found = cc
 row_all (r ∷ rs) key function b h found =
@@ -78,7 +79,7 @@ row_all (r ∷ rs) key function b h found =
       | inr e ↦ row_all rs key function b parts.1 (rw e.0 at found)
     ]
 
--- a function is that of a branch where its number is
+-- a function is a branch if and only if its number is a branch's
 pub kind_of_function : (f x : ℕ) (function : Function) → function_of f x ≡ Some function → is_branch f ≡ is_jump function
 unfolding function_of
 kind_of_function f x function found =

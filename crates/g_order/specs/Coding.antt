@@ -1,7 +1,7 @@
--- An order as contracts speak of it: by its four fields.
+-- Orders in contracts: by their four fields.
 use Rattle.g_order.specs.Order.{Fields}
 use Rattle.g_order.specs.declared.orders.Order.{Order}
 
--- the fields of an order
+-- The fields of an order.
 abbrev pub fields : Order → Fields
 fields o = record { x = o.x; f = o.f; m = o.m; n = o.n }

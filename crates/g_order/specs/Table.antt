@@ -1,11 +1,11 @@
--- The table of function numbers: what an order with this F, and at two of them with this X, does.
+-- The table of function numbers: what an order with this F, and for two of them with this X, does.
 use Rattle.std.specs.Prelude.{ℕ, Option, Some, None, List, [], ◌∷◌, ◌==◌, if◌then◌else◌}
 use Rattle.g_order.specs.declared.functions.Operation.TheVariants.{Take, Add, Negate, Subtract, And, Or, Differ}
 use Rattle.g_order.specs.declared.functions.Condition.TheVariants.{Zero, NotZero, NotNegative, Negative, Always, Overflow, OverflowReset, NoOverflow, NoOverflowReset}
 use Rattle.g_order.specs.declared.functions.Function.{Function}
 use Rattle.g_order.specs.declared.functions.Function.TheVariants.{Load, Store, LoadNumber, LoadCharacter, StoreZero, DepositCharacter, Multiply, Branch, Call, Exit, ShiftLeft, ShiftRight, Null, Move, Transfer, Halt, Display, Delete}
 
--- each F that is one order, whatever its X
+-- Each F that determines the order, for every X.
 abbrev pub by_f : List (ℕ × Function)
 by_f =
     (0o000, Load Take) ∷ (0o001, Load Add) ∷ (0o002, Load Negate) ∷ (0o003, Load Subtract)
@@ -29,12 +29,12 @@ branches_by_x =
 abbrev pub texts_by_x : List (ℕ × Function)
 texts_by_x = (0, Halt) ∷ (1, Display) ∷ (2, Delete) ∷ []
 
--- the row that a key has in a list
+-- The function that a list has for a key: that of the first row with this key.
 abbrev pub row : List (ℕ × Function) → ℕ → Option Function
 row [] key = None
 row (r ∷ rs) key = if key == r.0 then Some r.1 else row rs key
 
--- the function of an order, or none where the table has no row for it
+-- The function of an order, or none if the table has no row for it.
 unfoldable pub function_of : ℕ → ℕ → Option Function
 function_of f x =
     if f == 0o074 then row branches_by_x x else (if f == 0o160 then row texts_by_x x else row by_f f)

@@ -1,4 +1,4 @@
-//! The words that hold orders, both ways.
+//! Encoding and decoding of orders as words.
 
 ghost use Rattle.std.specs.Prelude.{◌≡◌, ◌<◌, ◌^◌, ◌/◌, ◌%◌, Some, None, true, false, MatchOption, MatchResult, IsOkAnd, IfSome, IfOk, IfErr, IsTrue};
 ghost use Rattle.g_order.specs.Order.{Fields, are_operands, fields_of, is_branch, is_order, decoded, word_of};
@@ -35,7 +35,7 @@ fn read(word: Word) -> Option<Order>
     }
 }
 
-/// What a word does and its order, if it has one. The table is looked up once.
+/// The function and the order of a word, if it has one. The table is searched once.
 #[inline(always)]
 pub fn read_order(word: Word) -> Option<(Function, Order)>
     ensures order { MatchOption result (decoded word ≡ None) (λ r. decoded word ≡ Some (fields r.1)) }

@@ -65,9 +65,9 @@ pub enum Function {
     Multiply,
     /// BZE, BNZ, BPZ, BNG, BRN, BVS, BVSR, BVC, BVCR.
     Branch(Condition),
-    /// CALL: goes to a routine and keeps the way back in `x`.
+    /// CALL: jumps to a routine and stores the return address in `x`.
     Call,
-    /// EXIT: goes back by `x`.
+    /// EXIT: returns by `x`.
     Exit,
     /// The shifts to the left, circular or logical by N.
     ShiftLeft,
@@ -87,7 +87,7 @@ pub enum Function {
     Delete,
 }
 
-/// The function of orders with this F and X, or `None` where the table has no row for them.
+/// The function of orders with this F and X, or `None` if the table has no row for them.
 #[inline(always)]
 #[tactic(auto, unfolding(crate::specs::Table::function_of))]
 pub fn function_of(f: u32, x: u32) -> Option<Function>
@@ -137,9 +137,8 @@ pub fn function_of(f: u32, x: u32) -> Option<Function>
     Some(function)
 }
 
-/// The function of the words that have this number in the seven bits of F, and this X. The last of these bits belongs to the
-/// address of a branch, so that a branch has two such numbers: its own, and the odd one behind it where its address is 2^14
-/// or more, as few are.
+/// The function of the words that have this number in the seven bits of F, and this X. The last of these bits belongs to the address of a branch, so
+/// a branch has two such numbers: its own, and the next odd one if its address is 2^14 or more, which is rare.
 #[inline(always)]
 pub(crate) fn function_at(number: u32, x: u32) -> Option<Function>
     requires number { number < 2 ^ 7 }

@@ -6,13 +6,12 @@ ghost use Rattle.g_order.specs.Table as table;
 
 use crate::functions::{Function, function_of};
 
-/// An order, by the fields of its word. All fields keep what the word has, also those that the order doesn't
-/// look at.
+/// An order, by the fields of its word. The fields store what the word has, including fields that the order doesn't use.
 #[derive(Clone, Copy, PartialEq, Eq)]
 pub struct Order {
     /// The accumulator, 0 to 7.
     pub x: u8,
-    /// The function number, below 128. That of a branch is even.
+    /// The function number, below 128. A branch has an even one.
     pub f: u8,
     /// The modifier, 0 to 3. A branch has 0.
     pub m: u8,
@@ -22,7 +21,7 @@ pub struct Order {
 }
 
 impl Order {
-    /// The order with these fields, or `None` where no row of the table has them.
+    /// The order with these fields, or `None` if no row of the table matches them.
     pub fn new(x: u8, f: u8, m: u8, n: u16) -> Option<Order>
         ensures valid { IsSome result ↔ IsTrue (is_order x f m n) }
         ensures x { IfSome result (λ o. o.x ≡ x) }

@@ -1,4 +1,5 @@
--- What the loops of the layout keep.
+-- Invariants of the loops of the layout.
+-- serves: put_line, trimmed_len (trimmed)
 use Rattle.std.proofs.Common.{◌≡◌, ℕ, suc, ◌+◌, ◌-◌, ◌/◌, ◌%◌, ◌<◌, ◌≤◌, List, [], ◌∷◌, ◌++◌, length, map, take, get_or, refl, sym, ◌∙◌, ap, arith, false}
 use Rattle.std.specs.Prelude.{slice_index, slice_set, nat_eq}
 use Rattle.std.specs.List.{range_with_len}
@@ -28,7 +29,7 @@ trimmed_less bytes end some within e =
     let split : take end bytes ≡ take (end - 1) bytes ++ 32 ∷ [] = ap (λ n. take n bytes) (sym whole) ∙ more ∙ ap (λ b. take (end - 1) bytes ++ b ∷ []) e in
     sym (ap trimmed split ∙ trimmed-space (take (end - 1) bytes))
 
--- behind another byte nothing is trimmed
+-- after another byte nothing is trimmed
 pub trimmed_whole : (bytes : List ℕ) (end : ℕ) → 0 < end → end ≤ length bytes → (get_or bytes (end - 1) 0 ≡ 32 → ⊥) → take end bytes ≡ trimmed (take end bytes)
 trimmed_whole bytes end some within apart =
     let last = get_or bytes (end - 1) 0 in
@@ -37,7 +38,7 @@ trimmed_whole bytes end some within apart =
     let split : take end bytes ≡ take (end - 1) bytes ++ last ∷ [] = ap (λ n. take n bytes) (sym whole) ∙ more in
     split ∙ sym (ap trimmed split ∙ trimmed-other (take (end - 1) bytes) last (ne_eqb last 32 apart))
 
--- words put over others, the first and the rest
+-- words written over others, the first and the rest
 pub with_words_next : (words : List ℕ) (from j n : ℕ) (f : ℕ → ℕ) → j < n → with_words words (from + j) (map f (range_with_len j (n - j))) ≡ with_words (slice_set words (from + j) (f j)) (from + (j + 1)) (map f (range_with_len (j + 1) (n - (j + 1))))
 with_words_next words from j n f below =
     let left : n - j ≡ suc (n - (j + 1)) = omega arith in

@@ -10,13 +10,13 @@ use Rattle.g_peri.specs.declared.ordered.OrderEvent.TheVariants as came
 use Rattle.g_peri.specs.JobUnits.{Held}
 use Rattle.g_peri.specs.Transfer.{transfer, puts_by}
 
--- what one order leaves, and what it comes to
+-- The state after one order, and its event.
 pub record Ordered : Type 0 where
   pub units : Held
   pub machine : Machine
   pub event : OrderEvent
 
--- a transfer that the units refuse is an illegal order: the program's next address is that of the order again
+-- A transfer that the units refuse makes its order illegal: the program's next address is that of the order again.
 abbrev pub transferred : Held → Machine → Option (Held × Machine) → Ordered
 transferred units p (Some both) = record { units = both.0; machine = both.1; event = came.Ran }
 transferred units p None = record {
@@ -25,6 +25,7 @@ transferred units p None = record {
   event = came.Illegal (slice_index p.words (preceding p.next)) (preceding p.next);
 }
 
+-- The state after an order whose step left this program and this event.
 abbrev pub ordered_by : Held → Machine → Event → Ordered
 ordered_by units p event.Ran = record { units = units; machine = p; event = came.Ran }
 ordered_by units p (event.Peri area) = transferred units p (transfer units p area)
@@ -33,11 +34,11 @@ ordered_by units p (event.Displayed text) = record { units = units; machine = p;
 ordered_by units p (event.Deleted text) = record { units = units; machine = p; event = came.Deleted text }
 ordered_by units p (event.Illegal word at) = record { units = units; machine = p; event = came.Illegal word at }
 
--- ONE ORDER WITH ITS TRANSFER
+-- ONE ORDER WITH ITS TRANSFER.
 abbrev pub order_with : Held → Machine → Ordered
 order_with units p = ordered_by units (order p).0 (order p).1
 
--- whether what an order asks for puts bytes behind an output
+-- The request of an order appends bytes to an output.
 abbrev pub event_puts : Held → Machine → Event → Bool
 event_puts units p event.Ran = false
 event_puts units p (event.Peri area) = puts_by units p area
@@ -46,19 +47,19 @@ event_puts units p (event.Displayed text) = false
 event_puts units p (event.Deleted text) = false
 event_puts units p (event.Illegal word at) = false
 
--- how one order with its transfer answers: memory is asked for only where bytes are put behind an output, and want of
--- it leaves units and program as they were
+-- The result of one order with its transfer. Memory is allocated only if bytes are appended to an output; if it runs out, units and program are
+-- unchanged.
 abbrev pub Orders : Result OrderEvent NoMemory → Held → Machine → Held → Machine → Type 0
 Orders (Ok event) units p units' p' = order_with units p ≡ record { units = units'; machine = p'; event = event }
 Orders (Err _) units p units' p' = (event_puts units (order p).0 (order p).1 ≡ true) × (units' ≡ units) × (p' ≡ p)
 
--- how the transfer of an order that has been passed answers: for want of memory the program is before the order again
+-- The result of the transfer of an order that the program has passed; if memory runs out, the program is before the order again.
 abbrev pub Transferred : Result OrderEvent NoMemory → Held → Machine → Held → Machine → ℕ → Type 0
 Transferred (Ok event) units p units' p' area =
     transferred units p (transfer units p area) ≡ record { units = units'; machine = p'; event = event }
 Transferred (Err _) units p units' p' area = (puts_by units p area ≡ true) × (units' ≡ units) × (p' ≡ going_to p (preceding p.next))
 
--- an illegal order is that at the next address, and leaves units and program as they were
+-- An illegal order is the one at the next address, and leaves units and program unchanged.
 abbrev pub Stays : OrderEvent → Held → Machine → Held → Machine → Type 0
 Stays came.Ran units p units' p' = ⊤
 Stays (came.Halted text) units p units' p' = ⊤

@@ -8,7 +8,7 @@ use crate::unit::Unit;
 use g_mill::Program;
 use std::marker::Model;
 
-/// What a control area tells. Contracts see its three numbers.
+/// The contents of a control area. Contracts see its three numbers.
 #[derive(Drop)]
 pub(crate) struct Control {
     pub unit: Unit,
@@ -30,7 +30,7 @@ impl Model for Control {
     ghost invariant = { λ c. (c.count ≤ 160) × (c.from < 2 ^ 15) };
 }
 
-/// What a control area tells, if area and buffer stand in the program and there is such a unit and such a count.
+/// The contents of a control area, if area and buffer are in the program and unit and count are in range.
 pub(crate) fn read_control(program: &Program, area: u16) -> Option<Control>
     ensures value { result ≡ control_of program.now area }
     ensures area { IfSome result (λ _. (area + 4 ≤ size program.now) × (area + 4 ≤ 2 ^ 15)) }

@@ -7,7 +7,7 @@ use g_mill::split_line;
 use g_name::Text;
 use std::marker::Model;
 
-/// A text of which some lines have been taken. Contracts see the lines that are left.
+/// A text, some lines of which have been taken. Contracts see the lines that are left.
 #[derive(Drop)]
 pub(crate) struct Deck {
     text: Text,
@@ -26,7 +26,7 @@ impl Model for Deck {
 }
 
 impl Deck {
-    /// The deck of a text of which no line has been taken.
+    /// The deck of a text; no line has been taken.
     pub(crate) fn new(text: Text) -> Deck
         ensures { result ≡ lines text }
     {

@@ -1,4 +1,4 @@
-//! How lines stand in words, and what a printer leaves of them.
+//! The layout of lines in words, and the bytes that a printer prints of them.
 
 ghost use Rattle.std.specs.Prelude.{◌≡◌, ◌+◌, ◌^◌, ◌<◌, ◌≤◌, length, take};
 ghost use Rattle.g_mill.specs.Machine.{size, words_for};
@@ -7,7 +7,7 @@ ghost use Rattle.g_peri.specs.Layout as layout;
 use g_mill::Program;
 use g_word::{Word, code_of};
 
-/// How many bytes are left without the spaces at the end.
+/// The number of bytes without the trailing spaces.
 pub(crate) fn trimmed_len(bytes: &[u8]) -> usize
     ensures within { result ≤ length bytes.now }
     ensures trimmed { take result bytes.now ≡ layout.trimmed bytes.now }
@@ -19,7 +19,7 @@ pub(crate) fn trimmed_len(bytes: &[u8]) -> usize
     end
 }
 
-/// Puts a line into a buffer of a program, with spaces behind, or its first characters where it is too long.
+/// Writes a line into a buffer of a program, filled up with spaces; of a line that is too long, the first characters.
 pub(crate) fn put_line(program: &mut Program, from: u16, count: u8, line: &[u8])
     requires in_range { from < 2 ^ 15 }
     requires within { from + words_for count ≤ size program.old }
@@ -46,7 +46,7 @@ fn packed(line: &[u8], count: u8, place: usize) -> Word
         .with_char(3, code_at(line, count, place + 3))
 }
 
-/// The character at a place of a line, or a space where the line or the buffer has none.
+/// The character at a place of a line, or a space if the line or the buffer has none.
 fn code_at(line: &[u8], count: u8, place: usize) -> u8
     ensures value { result ≡ layout.code_at line.now count place }
     ensures small { result < 64 }

@@ -9,20 +9,20 @@ use g_base::NoMemory;
 use g_mill::{Event, Program, Text40};
 use g_word::Word;
 
-/// What one order of a program came to, with its transfer where it asked for one.
+/// The event of one order of a program, with its transfer if it requested one.
 #[derive(Drop, PartialEq, Eq)]
 pub enum OrderEvent {
-    /// The order was done, and its transfer.
+    /// The order was executed, with its transfer.
     Ran,
     /// The program halted and waits to be resumed.
     Halted(Text40),
-    /// The program displays a text and goes on.
+    /// The program displays a text and continues.
     Displayed(Text40),
     /// The program deletes itself.
     Deleted(Text40),
-    /// There is no such order, it needs words past the program, or its transfer is illegal. Nothing changed.
+    /// The order is illegal, it needs words past the program's end, or its transfer is illegal. Nothing changed.
     Illegal {
-        /// The word of the order, or 0 where the program has no word at `at`.
+        /// The word of the order, or 0 if the program has no word at `at`.
         word: Word,
         /// The address of the order.
         at: u16,
@@ -30,8 +30,8 @@ pub enum OrderEvent {
 }
 
 impl Units {
-    /// Does the next order of a program, and the transfer that it may ask for. An illegal order changes neither
-    /// units nor program, and neither does want of memory, so the order can be tried again.
+    /// Executes the next order of a program, and the transfer that it may request. An illegal order changes neither units nor program, and neither
+    /// does running out of memory, so the order can be tried again.
     pub fn one_order(&mut self, program: &mut Program) -> Result<OrderEvent, NoMemory>
         ensures ordered { Orders result self.old program.old self.new program.new }
         ensures illegal { IfOk result
@@ -48,7 +48,7 @@ impl Units {
         }
     }
 
-    /// Does the transfer that the order at an address asks for, behind which the program goes on.
+    /// Makes the transfer that the order at an address requests; the program is already past the order.
     fn transfer(
         &mut self,
         program: &mut Program,

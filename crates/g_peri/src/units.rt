@@ -24,7 +24,7 @@ use std::alloc::Global;
 use std::marker::Model;
 use thiserror::Error;
 
-/// How many bytes an output may have, which becomes a file.
+/// The maximum length of an output in bytes; an output becomes a file.
 const LIMIT: usize = MAX_FILE_BYTES as usize;
 
 /// Why a unit isn't assigned or released.
@@ -50,7 +50,7 @@ pub enum PeriFault {
 pub struct Units {
     readers: Vec<Option<Deck>>,
     writers: Writers,
-    /// None was assigned yet, so that a job's end needn't look at each.
+    /// No unit was assigned yet, so that the end of a job needn't check each.
     is_unused: bool,
     alloc: Global,
 }
@@ -72,7 +72,7 @@ impl Model for Units {
 }
 
 impl Units {
-    /// Units of which none is assigned.
+    /// The units of a job, none assigned.
     pub fn new(alloc: Global) -> Result<Units, NoMemory>
         ensures { IfOk result (λ u. u ≡ held.vacant) }
     {
@@ -86,7 +86,7 @@ impl Units {
         })
     }
 
-    /// Whether no unit was assigned since they were made; behind that of one they aren't unused any more. It looks at none.
+    /// Whether no unit was assigned since they were created; once one was, they count as used. Checks no unit.
     pub fn are_unused(&self) -> bool
         ensures { result ≡ true → self.now ≡ held.vacant }
     {
@@ -104,8 +104,7 @@ impl Units {
         }
     }
 
-    /// Puts a text into a card reader, whose lines a program then reads. The path isn't kept, since a card reader
-    /// gives nothing back.
+    /// Loads a text into a card reader, whose lines a program then reads. The path isn't stored, since a card reader has no output.
     pub fn assign_input(&mut self, unit: Unit, _path: Path, bytes: Text) -> Result<(), UnitFault>
         requires { held.is_reader unit.kind ≡ true }
         ensures exact { IsOk result ↔ (held.is_assigned self.old unit ≡ false) }
@@ -122,7 +121,7 @@ impl Units {
         Ok(())
     }
 
-    /// Makes a printer or a punch ready, whose output the path is for.
+    /// Assigns a printer or a punch; its output is for the path.
     pub fn assign_output(&mut self, unit: Unit, path: Path) -> Result<(), UnitFault>
         requires { held.is_reader unit.kind ≡ false }
         ensures exact { IsOk result ↔ (held.is_assigned self.old unit ≡ false) }
@@ -141,7 +140,7 @@ impl Units {
         Ok(())
     }
 
-    /// Takes what a unit holds: the path and the bytes of an output, and of a card reader nothing.
+    /// Takes what a unit holds: path and bytes of an output, and nothing of a card reader.
     pub fn release(&mut self, unit: Unit) -> Result<Option<(Path, Text)>, UnitFault>
         ensures exact { IsOk result ↔ (held.is_assigned self.old unit ≡ true) }
         ensures refused { IfErr result (λ e. e ≡ UnitFault.NotAssigned) }
@@ -163,8 +162,8 @@ impl Units {
         }
     }
 
-    /// Does the transfer that a program asks for by a control area, the reply last. An illegal one changes nothing,
-    /// and the program's next address is that of the order again, as it wasn't done. Want of memory changes nothing.
+    /// Makes the transfer that a program requests by a control area; the reply is written last. An illegal one changes nothing, except that the
+    /// program's next address is that of the order again, as it wasn't executed. If memory runs out, nothing changes.
     pub fn peri(&mut self, program: &mut Program, area: u16) -> Result<(), PeriFault>
         ensures { Transfers result self.old program.old self.new program.new area }
     {
@@ -181,7 +180,7 @@ impl Units {
         }
     }
 
-    /// Does a transfer but for the reply, which it answers.
+    /// Makes a transfer except for writing the reply, and returns the reply.
     fn answer(&mut self, program: &mut Program, control: &Control) -> Result<u16, NoMemory>
         requires { control.now.from + words_for control.now.count ≤ size program.old }
         ensures size { size program.new ≡ size program.old }
@@ -197,7 +196,7 @@ impl Units {
         }
     }
 
-    /// Gives a program the next line of a card reader, and answers the reply.
+    /// Reads the next line of a card reader into the program, and returns the reply.
     fn read(&mut self, program: &mut Program, control: &Control) -> u16
         requires reader { control.now.unit < 8 }
         requires within { control.now.from + words_for control.now.count ≤ size program.old }
@@ -218,7 +217,7 @@ impl Units {
         if is_longer { 3 } else { 0 }
     }
 
-    /// Passes the next line of a card reader.
+    /// Takes the next line of a card reader.
     fn pass(&mut self, place: usize)
         requires { place < 8 }
         ensures { self.new ≡ held.with_reader self.old place
@@ -230,7 +229,7 @@ impl Units {
         }
     }
 
-    /// Takes the characters of a program to a printer or a punch, and answers the reply.
+    /// Writes the characters of a program to a printer or a punch, and returns the reply.
     fn write(&mut self, program: &Program, control: &Control) -> Result<u16, NoMemory>
         requires writer { 8 ≤ control.now.unit }
         requires within { control.now.from + words_for control.now.count ≤ size program.now }
@@ -243,7 +242,7 @@ impl Units {
         self.append(place, added(program, control, place).as_slice())
     }
 
-    /// Puts bytes behind an output that has room for them, and answers the reply.
+    /// Appends bytes to an output that has room for them, and returns the reply.
     fn append(&mut self, place: usize, bytes: &[u8]) -> Result<u16, NoMemory>
         requires { place < 16 }
         ensures written { (program : Machine) → MatchResult result
@@ -263,7 +262,7 @@ impl Units {
         Ok(0)
     }
 
-    /// Puts bytes behind an output.
+    /// Appends bytes to an output.
     fn extend(&mut self, place: usize, bytes: &[u8]) -> Result<(), NoMemory>
         requires place { place < 16 }
         requires room { has_room (held.at_place self.old.writers place) bytes.now ≡ true }

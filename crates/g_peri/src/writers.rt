@@ -1,4 +1,4 @@
-//! The places for output of a job: of eight line printers and eight tape punches.
+//! The outputs of a job: eight line printers and eight tape punches.
 
 ghost use Rattle.std.specs.Prelude.{◌≡◌, ◌++◌, ◌<◌, replicate, slice_set, None, IfOk, OnErr, OnOk};
 ghost use Rattle.std.specs.Option.{option_map};
@@ -9,8 +9,8 @@ use g_name::{Path, Text};
 use std::alloc::Global;
 use std::marker::Model;
 
-/// The outputs of the printers, and behind them of the punches, each with its path, or none. Contracts see one list of sixteen.
-/// They lie in two lists, since each job makes them: one list of all would be more than an allocator has ready.
+/// The outputs of the printers, followed by those of the punches, each with its path, or none. Contracts see one list of sixteen. It is stored as two
+/// lists because each job allocates them, and one list of all would be larger than the sizes that an allocator keeps ready.
 #[derive(Drop)]
 pub(crate) struct Writers {
     printers: Vec<Option<(Path, Text)>>,
@@ -33,7 +33,7 @@ impl Model for Writers {
 }
 
 impl Writers {
-    /// Places of which none is taken.
+    /// Sixteen places without output.
     pub(crate) fn new(alloc: Global) -> Result<Writers, NoMemory>
         ensures { IfOk result (λ w. w ≡ replicate 16 None) }
     {
@@ -42,7 +42,7 @@ impl Writers {
         Ok(Writers { printers, punches })
     }
 
-    /// What stands at this place.
+    /// The output at this place, or none.
     #[tactic(auto, using(crate::proofs::WriterLemmas::at_first, crate::proofs::WriterLemmas::at_second))]
     pub(crate) fn get(&self, place: usize) -> &Option<(Path, Text)>
         requires { place < 16 }
@@ -55,7 +55,7 @@ impl Writers {
         }
     }
 
-    /// Puts this at a place.
+    /// Sets the output at a place.
     #[tactic(auto, using(crate::proofs::WriterLemmas::put_first, crate::proofs::WriterLemmas::put_second))]
     pub(crate) fn set(&mut self, place: usize, output: Option<(Path, Text)>)
         requires { place < 16 }
@@ -68,7 +68,7 @@ impl Writers {
         }
     }
 
-    /// Takes what stands at a place.
+    /// Takes the output at a place.
     #[tactic(auto, using(crate::proofs::WriterLemmas::at_first, crate::proofs::WriterLemmas::at_second, crate::proofs::WriterLemmas::put_first, crate::proofs::WriterLemmas::put_second))]
     pub(crate) fn take(&mut self, place: usize) -> Option<(Path, Text)>
         requires { place < 16 }
@@ -82,7 +82,7 @@ impl Writers {
         }
     }
 
-    /// Puts bytes behind the output at a place, where there is one.
+    /// Appends bytes to the output at a place, if there is one.
     #[tactic(auto, using(crate::proofs::WriterLemmas::at_first, crate::proofs::WriterLemmas::at_second, crate::proofs::WriterLemmas::put_first, crate::proofs::WriterLemmas::put_second))]
     pub(crate) fn extend(&mut self, place: usize, bytes: &[u8]) -> Result<(), NoMemory>
         requires { place < 16 }
@@ -98,7 +98,7 @@ impl Writers {
     }
 }
 
-/// Puts bytes behind an output, where there is one.
+/// Appends bytes to an output, if there is one.
 fn extend_output(output: &mut Option<(Path, Text)>, bytes: &[u8]) -> Result<(), NoMemory>
     ensures ok { OnOk result (output.new ≡ option_map (λ o. (o.0, o.1 ++ bytes.now)) output.old) }
     ensures err { OnErr result (output.new ≡ output.old) }
@@ -109,7 +109,7 @@ fn extend_output(output: &mut Option<(Path, Text)>, bytes: &[u8]) -> Result<(), 
     }
 }
 
-/// Places of which none is taken.
+/// This many empty places.
 pub(crate) fn vacant<T: Drop>(alloc: Global, count: usize) -> Result<Vec<Option<T>>, NoMemory>
     ensures { IfOk result (λ v. v.items ≡ replicate count None) }
 {

@@ -1,17 +1,18 @@
--- How runs of programs that ask are made, and how they are carried from a store to what it stands for.
+-- How runs of programs are composed, and how they carry over from a store to the store that it represents.
+-- serves: runs_go_along, crates above
 use Rattle.std.proofs.Common.{◌≡◌, ℕ, Bool, true, false, List, Err, refl, sym, ap, subst, ◌∙◌, inl, inr, if◌then◌else◌}
 use Rattle.g_plain.specs.declared.calls.StoreCall.{StoreCall}
 use Rattle.g_plain.specs.declared.faults.StoreFault.TheVariants.{NoMemory}
 use Rattle.g_plain.specs.Programs.{Answer, Asks, Gives, Call, Ran, RanInPart, and_then}
 
 module _ {S A : Type 0} (answers : S → List ℕ → StoreCall → Answer → S → Type 0) (who : List ℕ) where
-  -- nothing was asked yet
+  -- No call was made yet.
   pub RanInPart-none : (p : Asks A) (old : S) → RanInPart answers who old p old
   RanInPart-none (Gives x) old = refl
   RanInPart-none (Call call more) old = inl refl
 
 module _ {S W : Type 0} (answers : S → List ℕ → StoreCall → Answer → S → Type 0) (who : List ℕ) (is_over : W → Bool) where
-  -- a program that found no memory before what comes after it
+  -- The first program ran out of memory, before the one that follows it.
   pub RanInPart-first : (p : Asks W) (next : W → Asks W) (old new : S) → RanInPart answers who old p new → RanInPart answers who old (and_then is_over p next) new
   RanInPart-first (Gives x) next old new r =
       elim (is_over x) as (λ b. RanInPart answers who old (if b then Gives x else next x) new) [
@@ -27,7 +28,7 @@ module _ {S W : Type 0} (answers : S → List ℕ → StoreCall → Answer → S
         ]
       ]
 
-  -- a program that has run, isn't over, and found no memory in what comes after it
+  -- The first program has run and isn't over, and the one that follows it ran out of memory.
   pub RanInPart-then : (p : Asks W) (next : W → Asks W) (old mid new : S) (w : W) → Ran answers who old p w mid → is_over w ≡ false → RanInPart answers who mid (next w) new → RanInPart answers who old (and_then is_over p next) new
   RanInPart-then (Gives x) next old mid new w r go later =
       let e : is_over x ≡ false = ap is_over (sym r.0) ∙ go in
@@ -35,7 +36,7 @@ module _ {S W : Type 0} (answers : S → List ℕ → StoreCall → Answer → S
       (subst (λ s. RanInPart answers who s (next x) new) r.1 (subst (λ y. RanInPart answers who mid (next y) new) r.0 later))
   RanInPart-then (Call call more) next old mid new w r go later = inr (inr (r.0, r.1, r.2, r.3, RanInPart-then (more r.0) next r.1 mid new w r.4 go later))
 
--- a run over stores is one over the states that they stand for
+-- A run on stores is a run on the states that they represent.
 pub Ran-along : {S T A : Type 0} (answers : S → List ℕ → StoreCall → Answer → S → Type 0) (others : T → List ℕ → StoreCall → Answer → T → Type 0) (stands : S → T)
     → ((s : S) (who : List ℕ) (call : StoreCall) (answer : Answer) (t : S) → answers s who call answer t → others (stands s) who call answer (stands t))
     → (who : List ℕ) (old : S) (p : Asks A) (given : A) (new : S) → Ran answers who old p given new → Ran others who (stands old) p given (stands new)

@@ -1,4 +1,5 @@
--- What a look-up in a finite map says of the map before it was changed.
+-- What a look-up in a finite map implies about the map before a change.
+-- serves: StepAnswers, StepKept, TreeKept, crates above
 use Rattle.std.proofs.Common.{◌≡◌, ◌≢◌, ℕ, ◌≤◌, ◌+◌, ◌-◌, true, false, cond, Option, Some, None, refl, sym, ap, ◌∙◌, is_some, unwrap_or, arith, ◌⊎◌, inl, inr, true≢false}
 use Rattle.std.specs.Ordering.{eq_by_cmp, is_eq}
 use Rattle.std.specs.declared.cmp.Ordering.{Ordering}

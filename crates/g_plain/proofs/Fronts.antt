@@ -1,4 +1,5 @@
--- Tests that come before others.
+-- Checks that precede others.
+-- serves: append, closed_to, granted_name, input, input_fault, output, rename, trap_check, trap_go, crates above
 use Rattle.std.proofs.Common.{◌≡◌, Bool, true, false, cond, not, ◌++◌, List, [], ◌∷◌, ℕ, Option, Some, None, Result, Ok, is_some, refl, sym, ap, ◌∙◌, true≢false}
 use Rattle.std.specs.List.{AllByRecursion}
 use Rattle.g_name.specs.declared.full.Full.{Full}
@@ -34,11 +35,11 @@ front_none (c ∷ a) b none =
 pub front_fault : (a b : Checks) (r : Option StoreFault) → r ≡ first_fault a → is_some r ≡ true → r ≡ first_fault (a ++ b)
 front_fault a b r e some = e ∙ front_some a b (ap is_some (sym e) ∙ some)
 
--- where the front has none, it is that of the rest
+-- If the first checks find no fault, the fault is that of the rest.
 pub front_passed : (a b : Checks) (r : Option StoreFault) → r ≡ first_fault a → is_some r ≡ false → first_fault b ≡ first_fault (a ++ b)
 front_passed a b r e none = sym (front_none a b (ap is_some (sym e) ∙ none))
 
--- a last test, where those before it have no fault
+-- The last check, if those before it find no fault.
 pub last_fault : (a : Checks) (test : Bool) (f : StoreFault) (r : Option StoreFault) (b : Bool) → r ≡ first_fault a → is_some r ≡ false → b ≡ test
     → cond b (Some f) None ≡ first_fault (a ++ (test, f) ∷ [])
 last_fault a test f r b e none same = ap (λ t. cond t (Some f) None) same ∙ front_passed a ((test, f) ∷ []) r e none
@@ -50,7 +51,7 @@ none_of (Some x) e = absurd (true≢false e)
 pub front_tests : (a : Checks) (r : Option StoreFault) → r ≡ first_fault a → is_some r ≡ false → AllByRecursion (λ c. c.0 ≡ false) a
 front_tests a r e none = all_passed a (none_of (first_fault a) (ap is_some (sym e) ∙ none))
 
--- what is granted to a caller who is there
+-- What is granted to an existing caller.
 pub known_granted : (numbers : Full → Option ℕ) (t : Tree) (who : List ℕ) (call other : StoreCall) (r : Result GrantedName StoreFault) → has_user t who ≡ true → call ≡ other
     → r ≡ granted_by (checks t who other) (name_granted numbers (name_in t who other)) → r ≡ granted_of numbers t who call
 known_granted numbers t who call other r there is e =
@@ -64,11 +65,11 @@ value_of None v x e = cc
 pub granted_is : {A : Type 0} (a : Checks) (v x : A) → Ok x ≡ granted_by a v → x ≡ v
 granted_is a v x e = value_of (first_fault a) v x e
 
--- a name for input is one alone
+-- A name for input determines its full name.
 pub same_input : (a b : Full) → name.Input a ≡ name.Input b → a ≡ b
 same_input a b e = cc
 
--- what a call is granted that has no fault, where its file is known
+-- What a call without a fault is granted, if its file is known.
 module _ (numbers : Full → Option ℕ) (t : Tree) (who : List ℕ) (call : StoreCall) (file : NamedFile) (named : Full) (is : file ≡ file_named numbers named) (fault : None ≡ fault_in t who call) where
   known_fault : (name : CallName) → Ok (name_granted numbers name) ≡ granted_by (checks t who call) (name_granted numbers name)
   known_fault name = ap (λ o. fault_or o (name_granted numbers name)) fault

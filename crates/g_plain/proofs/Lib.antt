@@ -1,7 +1,6 @@
 -- Lemmas on maps, trees and programs.
 pub mod Maps
 pub mod TextMaps
-pub mod Rows
 pub mod TreeLemmas
 pub mod Found
 pub mod TreeKept

@@ -1,4 +1,5 @@
 -- Finite maps made of lists of entries, as std's ordered maps keep them.
+-- serves: crates above
 use Rattle.std.proofs.Common.{◌≡◌, true, cond, ◌&&◌, List, [], ◌∷◌, length, Some, None, refl, sym, ap, subst, ◌∙◌, T}
 use Rattle.std.specs.Ordering.{eq_by_cmp, is_lt}
 use Rattle.std.specs.declared.cmp.Ordering.{Ordering}
@@ -19,14 +20,14 @@ module _ {K X : Type 0} {R : K → K → Ordering} (o : IsTotalOrder R) where
   pub get-made : (es : List (K × X)) (q : K) → get (from_entries {R = R} es) q ≡ lookup (is_at (R q)) es
   get-made es q = get-from_entries o es q ∙ find-lookup q es
 
-  -- a list in which one key has a new value makes the map with it inserted
+  -- A list in which one key has a new value represents the map with that value inserted.
   pub made_insert : IsAntisymmetric R → (es fs : List (K × X)) (k : K) (v : X) → ((q : K) → lookup (is_at (R q)) fs ≡ cond (is_at (R k) q) (Some v) (lookup (is_at (R q)) es)) → from_entries {R = R} fs ≡ insert (from_entries es) k v
   made_insert same es fs k v is =
       same_map o same _ _
       (λ q. get-made fs q ∙ is q ∙ ap (λ b. cond b (Some v) (lookup (is_at (R q)) es)) ((eq_by_cmp_equiv o).symm k q)
       ∙ ap (cond (eq_by_cmp R q k) (Some v)) (sym (get-made es q)) ∙ sym (get-insert o (from_entries es) k v q))
 
-  -- a list without one key makes the map without it
+  -- A list without one key represents the map without it.
   pub made_remove : IsAntisymmetric R → (es fs : List (K × X)) (k : K) → ((q : K) → lookup (is_at (R q)) fs ≡ cond (is_at (R k) q) None (lookup (is_at (R q)) es)) → from_entries {R = R} fs ≡ remove (from_entries es) k
   made_remove same es fs k is =
       same_map o same _ _

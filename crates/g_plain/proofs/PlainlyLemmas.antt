@@ -1,4 +1,5 @@
--- A program that was run over a store that answers plainly was asked of a plain tree.
+-- A program that ran on a store that answers plainly is a program that ran on a plain tree.
+-- serves: runs_are_plain, crates above
 use Rattle.std.proofs.Common.{ℕ, List, refl, sym, subst}
 use Rattle.g_plain.specs.PlainTree.{Tree}
 use Rattle.g_plain.specs.declared.calls.StoreCall.{StoreCall}
@@ -7,7 +8,7 @@ use Rattle.g_plain.specs.PlainAnswers.{PlainOrDevice, RanPlainly}
 
 module _ {S : Type 0} (answers : S → List ℕ → StoreCall → Answer → S → Type 0) (who : List ℕ) (HasTree : S → Tree → Type 0)
     (plainly : (s : S) (t : Tree) (call : StoreCall) (answer : Answer) (s' : S) → HasTree s t → answers s who call answer s' → IsAnswer answer → (t' : Tree) × PlainOrDevice t who call answer t' × HasTree s' t') where
-  -- what was run over a store that answers plainly was asked of a plain tree
+  -- A program that ran on a store that answers plainly ran on a plain tree.
   pub ran_plainly : {A : Type 0} (old : S) (p : Asks A) (given : A) (new : S) (t : Tree) → HasTree old t → Ran answers who old p given new → (t' : Tree) × RanPlainly who t p given t' × HasTree new t'
   ran_plainly old (Gives x) given new t has r = (t, (r.0, refl), subst (λ (s : S). HasTree s t) (sym r.1) has)
   ran_plainly old (Call call more) given new t has r =

@@ -1,4 +1,5 @@
 -- The plain step's replies are of the call's kind, and its faults are its own.
+-- serves: plain_refusal_changes_nothing, crates above
 use Rattle.std.proofs.Common.{◌≡◌, ℕ, ◌+◌, Bool, true, false, cond, not, ◌&&◌, ◌||◌, nat_le, List, [], ◌∷◌, length, Option, Some, None, Result, Ok, Err, IsErr, refl, sym, ap, ◌∙◌, is_some, arith, true≢false}
 use Rattle.std.specs.List.{AllByRecursion, list_all}
 use Rattle.g_plain.specs.declared.calls.StoreCall.{StoreCall}

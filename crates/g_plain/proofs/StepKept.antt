@@ -1,4 +1,5 @@
 -- The plain step keeps the rules of a tree, its replies are of the call's kind, and its faults are its own.
+-- serves: plain_step_keeps_rules, trap_go, Fronts, StepAnswers, crates above
 use Rattle.std.proofs.Common.{◌≡◌, ◌≢◌, ℕ, ◌<◌, ◌≤◌, ◌+◌, ◌-◌, ◌^◌, ◌==◌, zero, suc, Bool, true, false, cond, not, ◌&&◌, nat_le, nat_lt, List, [], ◌∷◌, ◌++◌, length, length-append, codes, Option, Some, None, IfSome, refl, sym, ap, subst, ◌∙◌, is_some, is_none, unwrap_or, bit_or, bit_and, arith, inl, inr, true≢false, lit≤}
 use Rattle.std.specs.List.{AllByRecursion}
 use Rattle.std.specs.FinMap.{FinMap, get, insert, remove, len, empty, get-empty, len-empty, len-insert, len-remove}
@@ -50,7 +51,7 @@ budget_superior row Space amount = refl
 budget_superior row Time amount = refl
 budget_superior row Money amount = refl
 
--- the row of a file that is there
+-- The row of an existing file.
 pub file_there : (t : Tree) (full : Full) → has_file t full ≡ true → get t.files full ≡ Some (file_row t full)
 file_there t full there =
     let row = some_of (get t.files full) there in

@@ -1,4 +1,5 @@
--- The orders of names tell all names apart, and what that gives for maps from names.
+-- The orders of names distinguish all names; consequences for maps from names.
+-- serves: is_own, StepKept, TreeKept, crates above
 use Rattle.std.proofs.Common.{◌≡◌, ℕ, true, List, ◌∙◌}
 use Rattle.std.specs.Cmp.{IsTotalOrder, eq_by_cmp_equiv}
 use Rattle.std.specs.Cmp.Lexicographic.{nat_list_cmp_total, texts_ties}

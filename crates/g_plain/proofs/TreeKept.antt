@@ -1,4 +1,5 @@
 -- Each call keeps the rules of a tree.
+-- serves: StepKept
 use Rattle.std.proofs.Common.{◌≡◌, ◌≢◌, ℕ, ◌<◌, ◌≤◌, ◌+◌, ◌^◌, ◌==◌, zero, suc, codes, unwrap_or, true, false, cond, not, ◌&&◌, List, Some, refl, sym, ap, subst, ◌∙◌, is_some, arith, ◌⊎◌, inl, inr, true≢false}
 use Rattle.std.specs.Ordering.{eq_by_cmp}
 use Rattle.std.specs.FinMap.{FinMap, get, insert, remove, len, get-insert}
@@ -36,13 +37,13 @@ file_row_in t u full row users later r = record {
 abbrev pub with_user : Tree → List ℕ → UserRow → Tree
 with_user t user row = record t { users = insert t.users user row }
 
--- the row of a user who is there
+-- The row of an existing user.
 pub user_there : (t : Tree) (user : List ℕ) → IsTree t → has_user t user ≡ true → IsUserRow t user (user_row t user)
 user_there t user is there =
     let row = some_of (get t.users user) there in
     subst (λ o. IsUserRow t user (unwrap_or o no_budgets)) (sym row.1) (is.users user row.0 row.1)
 
--- a user who comes in new, or whose superior stays
+-- A user who is new, or whose superior is unchanged.
 module _ (t : Tree) (user : List ℕ) (row : UserRow) (is : IsTree t) (r : IsUserRow t user row) (stays_below : has_user t user ≡ true → row.superior ≡ (user_row t user).superior) where
   more_users : HasUsersOf t (with_user t user row)
   more_users q h = grows text_total text_exact t.users user row q h

@@ -1,4 +1,5 @@
--- What the rules of a tree say of its entries.
+-- What the rules of a tree imply about its entries.
+-- serves: StepKept, crates above
 use Rattle.std.proofs.Common.{◌≡◌, ℕ, ◌≤◌, Bool, true, false, cond, ◌&&◌, List, [], ◌∷◌, length, map, filter, fold, max, Option, Some, None, refl, sym, ap, ◌∙◌, T, arith, unwrap_or}
 use Rattle.std.specs.Ordering.{is_lt, is_eq}
 use Rattle.std.specs.declared.cmp.Ordering.{Ordering}

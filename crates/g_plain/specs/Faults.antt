@@ -3,6 +3,7 @@ use Rattle.std.specs.Prelude.{ℕ}
 use Rattle.g_plain.specs.declared.faults.StoreFault.{StoreFault}
 use Rattle.g_plain.specs.declared.faults.StoreFault.TheVariants as fault
 
+-- The number of a fault, as texts and the manual show it.
 abbrev pub fault_number : StoreFault → ℕ
 fault_number fault.NoUser = 1
 fault_number fault.NoFile = 2

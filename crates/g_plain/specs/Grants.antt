@@ -1,4 +1,4 @@
--- What a call that isn't refused is granted.
+-- The file name that a call without a fault is granted.
 use Rattle.std.specs.Prelude.{ℕ, List, Option, Some, None, Result, Ok, Err}
 use Rattle.g_name.specs.declared.full.Full.{Full}
 use Rattle.g_plain.specs.declared.calls.StoreCall.{StoreCall}
@@ -11,16 +11,16 @@ use Rattle.g_plain.specs.declared.refusals.GrantedName.{GrantedName}
 use Rattle.g_plain.specs.PlainTree.{Tree, input_name, output_name}
 use Rattle.g_plain.specs.PlainStep.{Checks, first_fault, fault_of}
 
--- a fault, or this value where there is none
+-- The fault, if there is one, otherwise this value.
 abbrev pub fault_or : {A : Type 0} → Option StoreFault → A → Result A StoreFault
 fault_or (Some fault) value = Err fault
 fault_or None value = Ok value
 
--- the first fault of these tests, or this value where they have none
+-- The fault of the first check that applies, otherwise this value.
 abbrev pub granted_by : {A : Type 0} → Checks → A → Result A StoreFault
 granted_by checks value = fault_or (first_fault checks) value
 
--- the full name that a call gives its file, for output or for input; nothing where it names no file
+-- The full name of the file that a call names, for output or for input; `Nothing` if it names no file.
 abbrev pub name_in : Tree → List ℕ → StoreCall → CallName
 name_in tree who (NewUser user space time money) = Nothing
 name_in tree who (Budget user kind amount) = Nothing
@@ -35,19 +35,20 @@ name_in tree who (TrapStop path user modes) = Input (input_name tree who path)
 name_in tree who (TrapCheck path user) = Input (input_name tree who path)
 name_in tree who (Retrieve path) = Input (input_name tree who path)
 
--- a full name with the number of the file that has it
+-- A full name, with the number of the file that has it.
 abbrev pub file_named : (Full → Option ℕ) → Full → NamedFile
 file_named numbers full = record { full = full; number = numbers full }
 
--- the number of the file that has the name of a call
+-- The number of the file that has the name of a call.
 abbrev pub number_in : (Full → Option ℕ) → CallName → Option ℕ
 number_in numbers Nothing = None
 number_in numbers (Input full) = numbers full
 number_in numbers (Output full) = numbers full
 
+-- The grant for a call that names this file.
 abbrev pub name_granted : (Full → Option ℕ) → CallName → GrantedName
 name_granted numbers name = record { name = name; number = number_in numbers name }
 
--- WHAT A CALL IS GRANTED: the name of its file, where it has no fault, and the number of the file that has it
+-- What a call is granted if it has no fault: the full name of its file, and the number of the file that has it.
 abbrev pub granted_of : (Full → Option ℕ) → Tree → List ℕ → StoreCall → Result GrantedName StoreFault
 granted_of numbers tree who call = fault_or (fault_of tree who call) (name_granted numbers (name_in tree who call))

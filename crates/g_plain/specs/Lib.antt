@@ -1,10 +1,9 @@
--- The plain directory tree, and what the calls of jobs do to it.
+-- The plain directory tree, and the effects of jobs' calls on it.
 pub mod Programs
 pub mod Codes
 pub mod Faults
 pub mod Grants
 pub mod PlainAnswers
-pub mod PlainHolding
 pub mod PlainStep
 pub mod PlainTree
 pub mod Runs

@@ -1,4 +1,4 @@
--- What each call does to a tree, and what it answers.
+-- The plain step: the effect of each call on a tree, and its answer.
 use Rattle.std.specs.Prelude.{◌≡◌, ℕ, ◌+◌, ◌-◌, ◌^◌, ◌==◌, Bool, not, ◌&&◌, ◌||◌, nat_lt, nat_le, List, [], ◌∷◌, ◌++◌, length, Option, Some, None, Result, Ok, Err, unwrap_or, is_none, bit_and, bit_or, if◌then◌else◌}
 use Rattle.std.specs.FinMap.{get, insert, remove, len, entries, empty}
 use Rattle.g_base.specs.Block.{blocks_for}
@@ -16,35 +16,39 @@ use Rattle.g_plain.specs.declared.faults.StoreFault.{StoreFault}
 use Rattle.g_plain.specs.declared.faults.StoreFault.TheVariants.{NoUser, NoFile, Exists, Trapped, NoGeneration, OverSpace, TooLong, DirectoryFull, UsersFull, TrapsFull, NotOwner, CountersSpent, NoMemory}
 use Rattle.g_plain.specs.PlainTree.{Tree, UserRow, has_user, user_row, has_file, file_row, used_blocks, lengths, owner_of, newest, input_name, output_name, modes_of, is_allowed, with_modes}
 
--- a test, and the fault where it holds
+-- Conditions, each with the fault that is returned if it holds.
 abbrev pub Checks : Type 0
 Checks = List (Bool × StoreFault)
 
+-- The fault of the first condition that holds, if one does.
 abbrev pub first_fault : Checks → Option StoreFault
 first_fault [] = None
 first_fault (check ∷ checks) = if check.0 then Some check.1 else first_fault checks
 
--- what the owner has left for a file of this name
+-- The SPACE that the owner has left for a file of this name, in blocks. The blocks of the file's present version count
+-- as free.
 abbrev pub space_left : Tree → Full → ℕ
 space_left tree full = (user_row tree full.user).space - (used_blocks tree full.user - blocks_for (length (file_row tree full).bytes))
 
--- the bytes are too many; too many for the owner
+-- The checks of a version's size: it has too many bytes; it has too many blocks for its owner.
 abbrev pub size_checks : Tree → Full → ℕ → Checks
 size_checks tree full size =
     (nat_lt 65536 size, TooLong size)
     ∷ (nat_lt (space_left tree full) (blocks_for size), OverSpace (blocks_for size) (space_left tree full))
     ∷ []
 
--- who is named has to be there, and the file
+-- The checks of a name for input: the user must exist, and the file.
 abbrev pub input_checks : Tree → List ℕ → Path → Checks
 input_checks tree who path =
     (not (has_user tree (owner_of who path)), NoUser)
     ∷ (not (has_file tree (input_name tree who path)), NoFile)
     ∷ []
 
+-- The check that a stamp is left.
 abbrev pub spent_check : Tree → Bool × StoreFault
 spent_check tree = (nat_le (2 ^ 62) tree.next, CountersSpent)
 
+-- The checks of a Put, whose path gives this full name.
 abbrev pub put_checks : Tree → List ℕ → Path → List ℕ → Full → Checks
 put_checks tree who path bytes full =
     (not (has_user tree full.user), NoUser)
@@ -56,7 +60,7 @@ put_checks tree who path bytes full =
     ∷ spent_check tree
     ∷ []
 
--- the faults of each call, in their order
+-- The checks of each call, in order.
 abbrev pub checks : Tree → List ℕ → StoreCall → Checks
 checks tree who (NewUser user space time money) =
     (has_user tree user, Exists) ∷ (nat_le 63 (len tree.users), UsersFull) ∷ []
@@ -107,23 +111,25 @@ checks tree who (TrapCheck path user) =
     ∷ (not (same_text who full.user || same_text who user), NotOwner)
     ∷ []
 
--- a new version of a file, which keeps its traps, or a new file with all modes for its owner
+-- The tree with a new version of a file, which keeps its traps, or with a new file, for which its owner has all modes.
 abbrev pub with_version : Tree → Full → List ℕ → Tree
 with_version tree full bytes =
     let traps = if has_file tree full then (file_row tree full).traps else insert empty full.user 31 in
     record tree { files = insert tree.files full (record { traps = traps; bytes = bytes; stamp = tree.next }); next = tree.next + 1 }
 
+-- The tree after a user was given exactly these modes for a file.
 abbrev pub with_traps : Tree → Full → List ℕ → ℕ → Tree
 with_traps tree full user modes =
     let row = file_row tree full in
     record tree { files = insert tree.files full (record row { traps = with_modes full user modes row.traps }) }
 
+-- The row with another amount of one budget.
 abbrev pub with_budget : UserRow → BudgetKind → ℕ → UserRow
 with_budget row Space amount = record row { space = amount }
 with_budget row Time amount = record row { time = amount }
 with_budget row Money amount = record row { money = amount }
 
--- the tree after a call that has no fault
+-- The tree after a call that has no fault.
 abbrev pub tree_after : Tree → List ℕ → StoreCall → Tree
 tree_after tree who (NewUser user space time money) =
     record tree { users = insert tree.users user (record { superior = who; space = space; time = time; money = money }) }
@@ -149,7 +155,7 @@ tree_after tree who (Retrieve path) = tree
 tree_after tree who (ListFiles user) = tree
 tree_after tree who (TrapCheck path user) = tree
 
--- the reply to it
+-- The reply to a call that has no fault.
 abbrev pub reply_to : Tree → List ℕ → StoreCall → StoreReply
 reply_to tree who (NewUser user space time money) = Done
 reply_to tree who (Budget user kind amount) = Done
@@ -166,27 +172,28 @@ reply_to tree who (TrapCheck path user) =
     Modes (modes_of (file_row tree full) full user)
 reply_to tree who (Retrieve path) = Retrieved (input_name tree who path)
 
--- the fault of a call of a user who is there, if it has one
+-- The fault of a call by an existing user, if it has one.
 abbrev pub fault_in : Tree → List ℕ → StoreCall → Option StoreFault
 fault_in tree who call = first_fault (checks tree who call)
 
--- the fault of a call, if it has one
+-- The fault of a call, if it has one.
 abbrev pub fault_of : Tree → List ℕ → StoreCall → Option StoreFault
 fault_of tree who call = first_fault ((not (has_user tree who), NoUser) ∷ checks tree who call)
 
--- THE PLAIN STEP: what a call answers, and the tree after it
+-- The answer of the plain step.
 abbrev pub plain_answer : Tree → List ℕ → StoreCall → Result StoreReply StoreFault
 plain_answer tree who call = elim (fault_of tree who call) [ Some fault ↦ Err fault | None ↦ Ok (reply_to tree who call) ]
 
+-- The tree after the plain step.
 abbrev pub plain_tree : Tree → List ℕ → StoreCall → Tree
 plain_tree tree who call = elim (fault_of tree who call) [ Some fault ↦ tree | None ↦ tree_after tree who call ]
 
--- the plain step, or want of memory
+-- Answer and tree are those of the plain step; or memory ran out, and the tree is unchanged.
 abbrev pub IsPlainAnswer : Tree → List ℕ → StoreCall → Result StoreReply StoreFault → Tree → Type 0
 IsPlainAnswer old who call (Err NoMemory) new = new ≡ old
 IsPlainAnswer old who call answer new = (answer ≡ plain_answer old who call) × (new ≡ plain_tree old who call)
 
--- what a call without a fault came to: the reply and the tree after it, or want of memory
+-- The result of a call without a fault: the reply and the tree after it, or an error and the unchanged tree.
 abbrev pub IsGranted : {E : Type 0} → Tree → List ℕ → StoreCall → Result StoreReply E → Tree → Type 0
 IsGranted old who call (Ok reply) new = (reply ≡ reply_to old who call) × (new ≡ tree_after old who call)
 IsGranted old who call (Err e) new = new ≡ old

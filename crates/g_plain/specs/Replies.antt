@@ -1,11 +1,11 @@
--- Which replies are of a call's kind.
+-- The kind of reply that belongs to each call.
 use Rattle.std.specs.Prelude.{◌≤◌, length}
 use Rattle.g_plain.specs.declared.calls.StoreCall.{StoreCall}
 use Rattle.g_plain.specs.declared.calls.StoreCall.TheVariants.{NewUser, Budget, Put, Append, Fetch, Erase, Rename, List as ListFiles, TrapGo, TrapStop, TrapCheck, Retrieve}
 use Rattle.g_plain.specs.declared.calls.StoreReply.{StoreReply}
 use Rattle.g_plain.specs.declared.calls.StoreReply.TheVariants.{Done, Made, Appended, Bytes, Erased, Renamed, Listing, Modes, Retrieved}
 
--- the reply is of the call's kind, and the bytes that were put, appended or fetched are at most 65,536
+-- The reply has the call's kind, and the bytes that were put, appended or fetched are at most 65,536.
 abbrev pub IsReplyTo : StoreCall → StoreReply → Type 0
 IsReplyTo (NewUser user space time money) Done = Unit {0}
 IsReplyTo (Budget user kind amount) Done = Unit {0}

@@ -1,4 +1,4 @@
--- The rules that every tree keeps, and those of calls.
+-- The rules that every tree satisfies, and those of calls.
 use Rattle.std.specs.Prelude.{◌≡◌, ◌≢◌, ℕ, zero, suc, ◌^◌, ◌<◌, ◌≤◌, true, List, length, Some, is_some, codes}
 use Rattle.std.specs.FinMap.{get, len}
 use Rattle.g_name.specs.declared.full.Full.{Full}
@@ -10,7 +10,7 @@ use Rattle.g_plain.specs.declared.calls.StoreCall.{StoreCall}
 use Rattle.g_plain.specs.declared.calls.StoreCall.TheVariants.{NewUser, Budget, Put, Rename, TrapGo}
 use Rattle.g_plain.specs.PlainTree.{Tree, UserRow, FileRow, has_user, user_row}
 
--- a user's name is a name, the superior is there, and the budgets are within their limits
+-- The user's name is a valid name, the superior exists, and the budgets are within their limits.
 pub record IsUserRow (tree : Tree) (user : List ℕ) (row : UserRow) : Type 0 where
   pub name : is_word user ≡ true
   pub superior : has_user tree row.superior ≡ true
@@ -18,8 +18,9 @@ pub record IsUserRow (tree : Tree) (user : List ℕ) (row : UserRow) : Type 0 wh
   pub time : row.time ≤ 1000000000
   pub money : row.money ≤ 1000000000
 
--- the parts of the name are names; the owner is there and stands in the traps, with at most 8 other users, each of
--- whom is there and has a mode; modes are the sum of five bits
+-- The parts of the name are valid. The owner exists and is among the traps, with at most 8 other users; each of these
+-- exists and has a mode. Each set of modes is a number below 32. The file has at most 65,536 bytes, and its stamp is at
+-- least 1 and less than the next one.
 pub record IsFileRow (tree : Tree) (full : Full) (row : FileRow) : Type 0 where
   pub owner : has_user tree full.user ≡ true
   pub local : is_word full.local ≡ true
@@ -32,21 +33,21 @@ pub record IsFileRow (tree : Tree) (full : Full) (row : FileRow) : Type 0 where
   pub few : len row.traps ≤ 9
   pub stamp : (1 ≤ row.stamp) × (row.stamp < tree.next)
 
--- the user is there, and MASTER is the superior
+-- The user exists, and MASTER is its superior.
 pub record IsFirst (tree : Tree) (user : List ℕ) : Type 0 where
   pub there : has_user tree user ≡ true
   pub superior : (user_row tree user).superior ≡ codes "MASTER"
 
--- the user's superior's superior .., so many up
+-- The user's superior's superior and so on, that many levels up.
 abbrev pub superior_of : Tree → ℕ → List ℕ → List ℕ
 superior_of tree zero user = user
 superior_of tree (suc n) user = superior_of tree n (user_row tree user).superior
 
--- the superiors of the user lead up to MASTER
+-- The superiors of the user lead up to MASTER.
 abbrev pub LeadsUp : Tree → List ℕ → Type 0
 LeadsUp tree user = (n : ℕ) × (superior_of tree n user ≡ codes "MASTER")
 
--- THE RULES OF A TREE
+-- The rules of a tree.
 pub record IsTree (tree : Tree) : Type 0 where
   pub users : (user : List ℕ) (row : UserRow) → get tree.users user ≡ Some row → IsUserRow tree user row
   pub few_users : len tree.users ≤ 63
@@ -55,23 +56,23 @@ pub record IsTree (tree : Tree) : Type 0 where
   pub above : (user : List ℕ) → has_user tree user ≡ true → LeadsUp tree user
   pub files : (full : Full) (row : FileRow) → get tree.files full ≡ Some row → IsFileRow tree full row
   pub few_files : len tree.files ≤ 1024
-  -- no two versions have one stamp
+  -- no two versions have the same stamp
   pub stamps : (f g : Full) (r s : FileRow) → get tree.files f ≡ Some r → get tree.files g ≡ Some s → r.stamp ≡ s.stamp → f ≡ g
   pub next : (1 ≤ tree.next) × (tree.next ≤ 2 ^ 62)
 
--- the amount of a budget
+-- The maximum amount of a budget.
 abbrev pub most_of : BudgetKind → ℕ
 most_of Space = 65535
 most_of Time = 1000000000
 most_of Money = 1000000000
 
--- what a call hands in for budgets is within their limits
+-- The budgets in a call are within their limits.
 abbrev pub IsWithinLimits : StoreCall → Type 0
 IsWithinLimits (NewUser user space time money) = (space ≤ 65535) × (time ≤ 1000000000) × (money ≤ 1000000000)
 IsWithinLimits (Budget user kind amount) = amount ≤ most_of kind
 IsWithinLimits call = Unit {0}
 
--- the names that a call brings in are names, and the modes that it opens are the sum of five bits
+-- The new names in a call are valid, and the modes that it opens are a number below 32.
 abbrev pub IsNamed : StoreCall → Type 0
 IsNamed (NewUser user space time money) = is_word user ≡ true
 IsNamed (Put path bytes) = IsName (path_name path)

@@ -1,10 +1,10 @@
--- Programs that were run, with the answers that they got.
+-- Runs of programs, with their answers.
 use Rattle.std.specs.Prelude.{◌≡◌, ℕ, List, [], ◌∷◌}
 use Rattle.g_plain.specs.declared.calls.StoreCall.{StoreCall}
 use Rattle.g_plain.specs.Programs.{Answer, Asks, Gives, Call, IsAnswer}
 
 module _ {S A : Type 0} (answers : S → List ℕ → StoreCall → Answer → S → Type 0) (who : List ℕ) where
-  -- the program's calls, and no others, were made in their order, and these were their answers
+  -- Exactly the program's calls were made in their order, and these were their answers.
   abbrev pub RanBy : S → Asks A → List Answer → A → S → Type 0
   RanBy old (Gives x) [] given new = (given ≡ x) × (new ≡ old)
   RanBy old (Gives x) (answer ∷ told) given new = ⊥

@@ -1,4 +1,4 @@
-//! The calls that jobs make of a store, and the replies.
+//! The calls that jobs make to a store, and the replies.
 ghost use Rattle.std.specs.Prelude.{◌≡◌, [], ◌∷◌, ◌++◌, OnOk, OnErr};
 
 use g_base::NoMemory;
@@ -7,7 +7,7 @@ use g_trap::{Mode, Modes};
 use std::alloc::Global;
 use std::marker::Model;
 
-/// What a user has a budget of.
+/// The kinds of budget of a user.
 #[derive(Clone, Copy, PartialEq, Eq, Hash)]
 pub enum BudgetKind {
     /// Blocks of 512 bytes, 0 to 65,535.
@@ -18,11 +18,11 @@ pub enum BudgetKind {
     Money,
 }
 
-/// A call of a job. Where a path names a file for input, an absent generation is the greatest one
-/// there is; for output it is one more.
+/// A call of a job. If a path names a file for input, an absent generation means the greatest existing one; for output,
+/// one more than that.
 #[derive(Drop)]
 pub enum StoreCall {
-    /// Makes a user below the caller, with so many blocks of SPACE and units of TIME and MONEY.
+    /// Creates a user below the caller, with these amounts of SPACE (in blocks), TIME and MONEY (in units).
     NewUser {
         user: User,
         space: u32,
@@ -35,23 +35,22 @@ pub enum StoreCall {
         kind: BudgetKind,
         amount: u64,
     },
-    /// Puts a new version for output: a new file, or other bytes in the place of a file that keeps
-    /// its traps.
+    /// Writes a new version for output: a new file, or other bytes for an existing file, which keeps its traps.
     Put {
         path: Path,
         bytes: Text,
     },
-    /// Puts bytes behind those of a file.
+    /// Appends bytes to a file.
     Append {
         path: Path,
         bytes: Text,
     },
-    /// Asks for the bytes of a file, to read or to execute.
+    /// Fetches the bytes of a file, to read or to execute it.
     Fetch {
         path: Path,
         mode: Mode,
     },
-    /// Takes a file out.
+    /// Removes a file.
     Erase {
         path: Path,
     },
@@ -60,7 +59,7 @@ pub enum StoreCall {
         path: Path,
         to: Local,
     },
-    /// Asks for the files of a user.
+    /// Lists the files of a user.
     List {
         user: User,
     },
@@ -76,7 +75,7 @@ pub enum StoreCall {
         user: User,
         modes: Modes,
     },
-    /// Asks what a user may do with a file.
+    /// Asks for the modes that a user has for a file.
     TrapCheck {
         path: Path,
         user: User,
@@ -103,7 +102,7 @@ impl Model for Listing {
 }
 
 impl Listing {
-    /// An empty listing, which takes no memory yet.
+    /// An empty listing. It allocates nothing.
     pub fn new(alloc: Global) -> Listing
         ensures { result ≡ [] }
     {
@@ -112,7 +111,7 @@ impl Listing {
         }
     }
 
-    /// Puts a file behind the others; without memory the listing stays as it was.
+    /// Appends a file. If memory runs out, the listing is unchanged.
     pub fn push(&mut self, full: Full, len: u32) -> Result<(), NoMemory>
         ensures ok { OnOk result (self.new ≡ self.old ++ (full, len) ∷ []) }
         ensures err { OnErr result (self.new ≡ self.old) }
@@ -144,7 +143,7 @@ impl From<Listing> for Vec<(Full, u32)> {
     }
 }
 
-/// What a store replies to a call that it grants.
+/// The reply of a store to a call that it grants.
 #[derive(Drop)]
 pub enum StoreReply {
     Done,

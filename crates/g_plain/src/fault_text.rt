@@ -1,10 +1,11 @@
-//! What a fault says to whoever writes a program over a store; jobs and operators read other texts.
+//! The texts of faults for programmers who use a store; jobs and operators read other texts.
 
 use crate::StoreFault;
 use std::error::Error;
 use std::fmt;
 
-/// By the numbers of faults, the words before the first number of a text, and those between it and the second.
+/// The words of each fault's text, by its number: those before the first number of the text, and those between it and
+/// the second.
 static WORDS: [(&str, &str); 36] = [
     ("no user", ""),
     ("no file", ""),
@@ -46,7 +47,7 @@ static WORDS: [(&str, &str); 36] = [
 
 impl Error for StoreFault {}
 
-// By hand: a derived text of so many variants takes a fifth of the crate's check.
+// Written manually: a derived implementation for so large an enum takes a fifth of the crate's check.
 impl fmt::Display for StoreFault {
     fn fmt<W: fmt::Write>(&self, f: &mut fmt::Formatter<W>) -> fmt::Result {
         let (front, behind) = words_of(self);
@@ -74,7 +75,7 @@ fn words_of(fault: &StoreFault) -> (&'static str, &'static str) {
     }
 }
 
-/// The numbers that stand behind these words.
+/// The numbers in the text of a fault.
 fn numbers_of(fault: &StoreFault) -> (Option<u64>, Option<u64>) {
     match fault {
         StoreFault::OverSpace { need, left } => (Some(u64::from(*need)), Some(u64::from(*left))),

@@ -8,53 +8,53 @@ use g_name::{Full, User};
 use g_trap::Mode;
 use std::alloc::{AllocError, AllocFailed};
 
-/// Why a store refuses a call or an event. Serials of reels, and `need`, `left` and `room` in
-/// blocks, are numbers.
+/// Why a store refuses a call or an event. Serials of reels are numbers, and so are `need`, `left` and `room`, in
+/// blocks.
 #[derive(Debug, Drop)]
 pub enum StoreFault {
-    /// A user who is named isn't there.
+    /// The user who is named doesn't exist.
     NoUser,
-    /// The name for input names no file.
+    /// No file has the name for input.
     NoFile,
-    /// The new user, or the file under its new name, is there.
+    /// The new user exists already, or a file with the new name.
     Exists,
-    /// The caller hasn't the mode that is needed.
+    /// The caller doesn't have the mode that is needed.
     Trapped(Mode),
-    /// A name for output gives no generation, and 4,095 exists.
+    /// A path for output has no generation, and generation 4,095 exists.
     NoGeneration,
     /// The new version needs more blocks than its owner has left.
     OverSpace { need: u32, left: u32 },
-    /// The new version would have so many bytes, more than 65,536.
+    /// The new version would have this many bytes, more than 65,536.
     TooLong(u64),
     /// A new file would be the 1,025th.
     DirectoryFull,
     /// A new user would be the 64th.
     UsersFull,
-    /// A ninth other user would be trapped.
+    /// A ninth user besides the owner would be trapped.
     TrapsFull,
-    /// The file's bytes are on this reel alone, which isn't mounted.
+    /// The file's bytes are only on this reel, which isn't mounted.
     WaitTape(u32),
     /// The completed dumps of this reel don't hold the place of the file's copy.
     NoCopy(Full, u32),
-    /// The disc has room for fewer blocks than are needed.
+    /// The disc has fewer free blocks than are needed.
     DiscFull { need: u32, room: u32 },
     DiscReadFault,
     TapeReadFault,
-    /// A write of a device failed. The store takes no call any more.
+    /// A write of a device failed. The store accepts no further calls.
     Stopped,
     NoMemory,
-    /// The caller isn't among those who may.
+    /// The caller isn't one of those who may make the call.
     NotOwner,
     /// The next stamp, or the next dump's number, would be 2^62.
     CountersSpent,
     /// There is no running system.
     NotStarted,
     NotMounted,
-    /// The reel has room for fewer blocks behind its completed dumps than are needed.
+    /// The reel has fewer blocks left after its completed dumps than are needed.
     TapeFull { need: u32, room: u32 },
     /// The dump of this number is open.
     DumpOpen(u64),
-    /// No reel of the rack has the serial.
+    /// The rack has no reel with this serial.
     NoTape,
     /// The disc holds no directory.
     NoFilestore,
@@ -74,7 +74,7 @@ pub enum StoreFault {
     Offline,
     /// The system is running.
     Running,
-    /// This reel is the first of the rack that has a block.
+    /// This reel is the first one in the rack that has a block.
     RackNotEmpty(u32),
     /// No completed dump holds this user's directory, or it breaks the rules of a directory.
     LostDirectory(User),
@@ -107,7 +107,7 @@ impl From<g_base::NoMemory> for StoreFault {
 }
 
 impl StoreFault {
-    /// The number of the fault, 1 to 36, as texts and the manual give it.
+    /// The number of the fault, 1 to 36, as texts and the manual show it.
     pub fn number(&self) -> u8
         ensures { result ≡ fault_number self.now }
     {

@@ -1,4 +1,4 @@
-//! What a job knows of a store.
+//! A store as jobs see it.
 ghost use Rattle.std.specs.Prelude.{◌≡◌, ℕ, false, true, Err, IfOk, ◌↔◌, IsErrOf};
 ghost use Rattle.g_plain.specs.PlainAnswers.{may_wait};
 ghost use Rattle.g_plain.specs.Replies.{IsReplyTo};
@@ -8,25 +8,23 @@ use crate::{StoreCall, StoreFault, StoreReply};
 use g_name::User;
 use std::alloc::Global;
 
-/// A store of files. How a call was answered is the relation `answers` between the store before,
-/// the caller, the call, the answer and the store after; what holds of every store are the clauses
-/// of `call`.
+/// A store of files. The relation `answers` says how a call is answered: it relates the store before, the caller, the
+/// call, the answer and the store after. The clauses of `call` hold for every store.
 pub trait Filestore {
     ghost use Rattle.std.specs.Prelude.{ℕ, Bool, List, Result};
     ghost use Rattle.g_plain.specs.declared.calls.StoreCall.{StoreCall};
     ghost use Rattle.g_plain.specs.declared.calls.StoreReply.{StoreReply};
     ghost use Rattle.g_plain.specs.declared.faults.StoreFault.{StoreFault};
 
-    // A stop has come, and no call may be made any more.
+    // A write has failed, and no call may be made any more.
     ghost is_spent: { Self → Bool };
 
-    // A call may wait for the reel of this serial: it isn't mounted.
+    // A call may wait for the reel with this serial: it isn't mounted.
     ghost can_wait: { Self → ℕ → Bool };
 
     ghost answers: { Self → List ℕ → StoreCall → Result StoreReply StoreFault → Self → Type 0 };
 
-    /// Makes a call for the user `who`. Stopped, and no other answer, ends the store: it takes no
-    /// call any more.
+    /// Makes a call for the user `who`. Only the answer `Stopped` ends the store, which then accepts no further calls.
     fn call(
         &mut self,
         alloc: Global,
@@ -37,8 +35,7 @@ pub trait Filestore {
         requires limits { IsWithinLimits call.now }
         ensures answers { answers self.old who.now call.now result self.new }
 
-        // Who waits, waits for a reel that isn't mounted, at a call that may need one; and no call
-        // mounts one.
+        // A call that waits is one that may need a reel, and waits for one that isn't mounted; no call mounts a reel.
         ensures waits { (s : ℕ) → result ≡ Err (StoreFault.WaitTape s)
             → can_wait self.new s ≡ true }
         ensures may_wait { (s : ℕ) → result ≡ Err (StoreFault.WaitTape s)
@@ -48,7 +45,7 @@ pub trait Filestore {
         ensures kind { IfOk result (λ reply. IsReplyTo call.now reply) }
         ensures spent { (is_spent self.new ≡ true) ↔ IsErrOf result StoreFault.Stopped };
 
-    /// Whether a stop has come.
+    /// Whether a write has failed.
     fn spent(&self) -> bool
         ensures { result ≡ is_spent self.now };
 }

@@ -1,4 +1,4 @@
-//! The names of files, as callers and paths give them; and what the types of names say of them.
+//! The full names that callers and paths give to files, and what the types of names guarantee.
 ghost use Rattle.std.specs.Prelude.{◌≡◌, true, IfSome};
 ghost use Rattle.g_name.specs.Grammar.{is_word, is_lang};
 ghost use Rattle.g_name.specs.Names.{IsName, path_name};
@@ -8,17 +8,16 @@ ghost use Rattle.g_plain.specs.Rules.{IsNamed};
 use crate::StoreCall;
 use g_name::{Full, Lang, Local, Path, User};
 
-/// A full name, and the number of the file that has it: whoever answers for the files gives it, and
-/// knows the file by it.
+/// A full name, and the number of the file that has it. The number comes from the implementation of `Questions`, which
+/// identifies the file by it.
 #[derive(Drop)]
 pub struct NamedFile {
     pub full: Full,
-    /// None where no file has the name.
+    /// `None` if no file has the name.
     pub number: Option<u16>,
 }
 
-/// The full name that a path gives with a generation, where an absent user is the caller, and an
-/// absent language that of four spaces.
+/// The full name of a path with a generation. An absent user means the caller, and an absent language four spaces.
 pub fn named(who: &User, path: &Path, generation: u16) -> Full
     ensures { result ≡ tree.named who.now path.now generation }
 {
@@ -34,7 +33,7 @@ pub fn named(who: &User, path: &Path, generation: u16) -> Full
     }
 }
 
-/// Whose file a path names.
+/// The owner of the file that a path names.
 fn owner_of(who: &User, path: &Path) -> User
     ensures { result ≡ tree.owner_of who.now path.now }
 {
@@ -44,8 +43,8 @@ fn owner_of(who: &User, path: &Path) -> User
     }
 }
 
-/// The full name with another local name.
-pub(crate) fn with_local(full: &Full, local: &Local) -> Full
+/// The full name, with another local name.
+pub fn with_local(full: &Full, local: &Local) -> Full
     ensures { result ≡ record full.now { local = local.now } }
 {
     Full {
@@ -56,8 +55,8 @@ pub(crate) fn with_local(full: &Full, local: &Local) -> Full
     }
 }
 
-/// What a call brings in are names and sets of modes: their types say so, which this makes known.
-pub(crate) fn call_is_named(call: &StoreCall)
+/// The names and modes in a call are valid by their types. This call exists so that its contract states it.
+pub fn call_is_named(call: &StoreCall)
     ensures { IsNamed call.now }
 {
     match call {

@@ -1,4 +1,4 @@
-//! What has to be known of a tree to tell whether a call is granted.
+//! The queries about a tree that decide whether a call is granted.
 ghost use Rattle.std.specs.Prelude.{◌≡◌, ◌≤◌, ◌^◌, ◌&&◌, ◌==◌, not, nat_le, true, length, is_none, is_some};
 ghost use Rattle.std.specs.FinMap.{get, len};
 ghost use Rattle.g_name.specs.Order.{same_text};
@@ -10,17 +10,17 @@ use crate::NamedFile;
 use g_name::{Full, Path, User};
 use g_trap::Modes;
 
-/// Whoever answers for a tree of users and files, by name. The tree in memory answers, and so do
-/// numbered records. No answer takes memory or reads a device.
+/// Answers queries about a tree of users and files, by name. The tree in memory implements it, and so do numbered
+/// records. No query allocates or reads a device.
 pub trait Questions {
     ghost use Rattle.std.specs.Prelude.{ℕ, Option};
     ghost use Rattle.g_name.specs.declared.full.Full.{Full};
     ghost use Rattle.g_plain.specs.PlainTree.{Tree};
 
-    // The tree that is asked about.
+    // The tree that the queries are about.
     ghost tree: { Self → Tree };
 
-    // The number that whoever answers has for the file of a full name.
+    // The number that the implementation has for the file of a full name.
     ghost numbers: { Self → Full → Option ℕ };
 
     fn has_user(&self, user: &User) -> bool
@@ -32,19 +32,19 @@ pub trait Questions {
         requires there { plain.has_user (tree self.now) user.now ≡ true }
         ensures { result ≡ same_text (plain.user_row (tree self.now) user.now).superior who.now };
 
-    /// How many users there are.
+    /// The number of users.
     fn users(&self) -> usize
         ensures { result ≡ len (tree self.now).users };
 
     fn has_file(&self, full: &Full) -> bool
         ensures { result ≡ plain.has_file (tree self.now) full.now };
 
-    /// How many files there are.
+    /// The number of files.
     fn files(&self) -> usize
         ensures { result ≡ len (tree self.now).files };
 
-    /// The file that a path names for input, with its number, by which all is asked about it: so its name
-    /// is looked for once.
+    /// The file that a path names for input, with its number. The other queries take it, so that the name is searched
+    /// for only once.
     fn input(&self, who: &User, path: &Path) -> NamedFile
         ensures named { result
             ≡ file_named (numbers self.now) (plain.input_name (tree self.now) who.now path.now) }
@@ -63,13 +63,13 @@ pub trait Questions {
         ensures len { result ≡ length (plain.file_row (tree self.now) file.now.full).bytes }
         ensures few { result ≤ 65536 };
 
-    /// The blocks of 512 bytes that the owner has left for a file of this name.
+    /// The number of blocks of 512 bytes that the owner has left for a file of this name.
     fn space_left(&self, file: &NamedFile) -> u32
         requires owner { plain.has_user (tree self.now) file.now.full.user ≡ true }
         requires numbered { file.now.number ≡ numbers self.now file.now.full }
         ensures { result ≡ step.space_left (tree self.now) file.now.full };
 
-    /// What a user may do with a file.
+    /// The modes that a user has for a file.
     fn modes_of(&self, file: &NamedFile, user: &User) -> Modes
         requires file { plain.has_file (tree self.now) file.now.full ≡ true }
         requires user { plain.has_user (tree self.now) user.now ≡ true }
@@ -77,7 +77,7 @@ pub trait Questions {
         ensures { let row = plain.file_row (tree self.now) file.now.full in
             result ≡ plain.modes_of row file.now.full user.now };
 
-    /// Whether a user who is to get these modes of a file would be the ninth beside its owner.
+    /// Whether giving these modes to a user would trap a ninth user besides the file's owner.
     fn is_ninth(&self, file: &NamedFile, user: &User, modes: Modes) -> bool
         requires file { plain.has_file (tree self.now) file.now.full ≡ true }
         requires user { plain.has_user (tree self.now) user.now ≡ true }

@@ -1,5 +1,5 @@
-//! Why a call is refused: the tests of each call, in the order in which its faults come. The name that
-//! its path gives is looked up once, and handed on.
+//! Why a call is refused: the checks of each call, in order. The name that its path gives is searched for once and
+//! passed on.
 ghost use Rattle.std.specs.Prelude.{◌≡◌, ℕ, List, [], ◌∷◌, None, is_some, true};
 ghost use Rattle.g_plain.specs.declared.calls.BudgetKind.{BudgetKind};
 ghost use Rattle.g_name.specs.Order.{same_text};
@@ -14,7 +14,7 @@ use g_base::blocks_for;
 use g_name::{Full, Local, Path, Text, User};
 use g_trap::{Mode, Modes};
 
-/// The full name that a call gives its file.
+/// The full name of the file that a call names.
 #[derive(Drop)]
 pub enum CallName {
     /// The call names no file.
@@ -25,16 +25,15 @@ pub enum CallName {
     Output(Full),
 }
 
-/// What a granted call is given: the full name of its file, and the number of the file that has it.
+/// What a granted call gets: the full name of its file, and the number of the file that has it.
 #[derive(Drop)]
 pub struct GrantedName {
     pub name: CallName,
-    /// None where the call names no file, or no file has the name.
+    /// `None` if the call names no file, or if no file has the name.
     pub number: Option<u16>,
 }
 
-/// The fault of a call, or None where it is granted. A caller who isn't there is NoUser, first of
-/// all.
+/// The fault of a call, or `None` if it is granted. The first check is that the caller exists: `NoUser`.
 pub fn refusal<Q: Questions>(questions: &Q, who: &User, call: &StoreCall) -> Option<StoreFault>
     ensures { result ≡ fault_of (Q.tree questions.now) who.now call.now }
 {
@@ -44,7 +43,7 @@ pub fn refusal<Q: Questions>(questions: &Q, who: &User, call: &StoreCall) -> Opt
     }
 }
 
-/// The full name that a granted call gives its file, with the file's number. Else the call's fault, as `refusal` tells it.
+/// The full name of a granted call's file, with the file's number; otherwise the call's fault, as `refusal` returns it.
 pub fn granted_name<Q: Questions>(
     questions: &Q,
     who: &User,
@@ -71,7 +70,7 @@ pub fn granted_name<Q: Questions>(
     }
 }
 
-/// What is granted to a call that names no file.
+/// The grant of a call that names no file.
 fn nameless(fault: Option<StoreFault>) -> Result<GrantedName, StoreFault>
     ensures { result ≡ fault_or fault (record { name = CallName.Nothing; number = None }) }
 {
@@ -84,8 +83,7 @@ fn nameless(fault: Option<StoreFault>) -> Result<GrantedName, StoreFault>
     }
 }
 
-/// What is granted to a call that names a file for input by this path. The file stays where it is until
-/// all is asked about it.
+/// The grant of a call that names a file for input by this path. The found file is borrowed until all checks are done.
 fn input<Q: Questions>(
     questions: &Q,
     who: &User,
@@ -109,7 +107,7 @@ fn input<Q: Questions>(
     }
 }
 
-/// What is granted to a `Put`.
+/// The grant of a `Put`.
 fn output<Q: Questions>(
     questions: &Q,
     who: &User,
@@ -160,7 +158,7 @@ fn input_fault<Q: Questions>(
     }
 }
 
-/// The name has to be new, and there have to be fewer than 63 users.
+/// The name must be new, and there must be fewer than 63 users.
 fn new_user<Q: Questions>(questions: &Q, user: &User) -> Option<StoreFault>
     ensures { (who : List ℕ) (space time money : ℕ) → result
         ≡ fault_in (Q.tree questions.now) who (StoreCall.NewUser user.now space time money) }
@@ -174,7 +172,7 @@ fn new_user<Q: Questions>(questions: &Q, user: &User) -> Option<StoreFault>
     }
 }
 
-/// The user has to be there, and the caller to be the superior.
+/// The user must exist, and the caller must be the superior.
 fn budget<Q: Questions>(questions: &Q, who: &User, user: &User) -> Option<StoreFault>
     requires { plain.has_user (Q.tree questions.now) who.now ≡ true }
     ensures { (kind : BudgetKind) (amount : ℕ) → result
@@ -189,7 +187,7 @@ fn budget<Q: Questions>(questions: &Q, who: &User, user: &User) -> Option<StoreF
     }
 }
 
-/// The user has to be there, and the caller to be that user or the superior.
+/// The user must exist, and the caller must be that user or the superior.
 fn list<Q: Questions>(questions: &Q, who: &User, user: &User) -> Option<StoreFault>
     requires { plain.has_user (Q.tree questions.now) who.now ≡ true }
     ensures { result ≡ fault_in (Q.tree questions.now) who.now (StoreCall.List user.now) }
@@ -203,9 +201,9 @@ fn list<Q: Questions>(questions: &Q, who: &User, user: &User) -> Option<StoreFau
     }
 }
 
-/// The fault of a `Put` whose path gives this name for output: the owner has to be there, and a generation
-/// to be left; the file has to be open to the caller, or new and the caller's own; the bytes have to be
-/// few enough, and a file and a stamp to be left.
+/// The fault of a `Put` whose path gives this name for output. The owner must exist, and a generation must be left; the
+/// file must be open to the caller, or new and the caller's own; the size must be within the limits, and a file and a
+/// stamp must be left.
 fn put_fault<Q: Questions>(
     questions: &Q,
     who: &User,
@@ -222,7 +220,7 @@ fn put_fault<Q: Questions>(
     if !has_owner(questions, who, path, &file.full) {
         return Some(StoreFault::NoUser);
     }
-    // Without a generation the path gives the one behind the greatest.
+    // A path without a generation gives the one after the greatest.
     if path.generation.is_none() && file.full.generation == 4096 {
         return Some(StoreFault::NoGeneration);
     }
@@ -243,7 +241,7 @@ fn put_fault<Q: Questions>(
     spent(questions)
 }
 
-/// The file has to be open to the caller, all bytes to be few enough, and a stamp to be left.
+/// The file must be open to the caller, the size within the limits, and a stamp must be left.
 fn append<Q: Questions>(
     questions: &Q,
     who: &User,
@@ -270,7 +268,7 @@ fn append<Q: Questions>(
     spent(questions)
 }
 
-/// The file has to be the caller's, and its new name to be free.
+/// The file must be the caller's, and no file may have its new name.
 fn rename<Q: Questions>(
     questions: &Q,
     who: &User,
@@ -297,7 +295,7 @@ fn rename<Q: Questions>(
     }
 }
 
-/// As for modes that are taken; and with this user not more than eight others may be trapped.
+/// The checks of closing modes; in addition, at most eight users besides the owner may be trapped.
 fn trap_go<Q: Questions>(
     questions: &Q,
     who: &User,
@@ -324,7 +322,7 @@ fn trap_go<Q: Questions>(
     }
 }
 
-/// The file and the user have to be there, and the file to be the caller's.
+/// The file and the user must exist, and the file must be the caller's.
 fn trap_stop<Q: Questions>(
     questions: &Q,
     who: &User,
@@ -352,7 +350,7 @@ fn trap_stop<Q: Questions>(
     }
 }
 
-/// The file and the user have to be there, and the caller to be the owner or that user.
+/// The file and the user must exist, and the caller must be the owner or that user.
 fn trap_check<Q: Questions>(
     questions: &Q,
     who: &User,
@@ -380,7 +378,7 @@ fn trap_check<Q: Questions>(
     }
 }
 
-/// Whether the owner of a file of this name is there. The caller is, who needn't be looked for again.
+/// Whether the owner of a file of this name exists. The caller does, and isn't searched for again.
 fn has_owner<Q: Questions>(questions: &Q, who: &User, path: &Path, full: &Full) -> bool
     requires caller { plain.has_user (Q.tree questions.now) who.now ≡ true }
     requires named { full.now.user ≡ plain.owner_of who.now path.now }
@@ -389,7 +387,7 @@ fn has_owner<Q: Questions>(questions: &Q, who: &User, path: &Path, full: &Full) 
     is_own(who, path, full) || questions.has_user(&full.user)
 }
 
-/// Whether a file of the name that a path gives is the caller's, as it is where the path names no user.
+/// Whether the file of a path is the caller's. It is if the path names no user.
 fn is_own(who: &User, path: &Path, full: &Full) -> bool
     requires { full.now.user ≡ plain.owner_of who.now path.now }
     ensures { result ≡ same_text who.now full.now.user }
@@ -400,7 +398,7 @@ fn is_own(who: &User, path: &Path, full: &Full) -> bool
     }
 }
 
-/// Whom the name of a file for input names has to be there, and the file.
+/// The user in the name of a file for input must exist, and the file.
 fn missing<Q: Questions>(
     questions: &Q,
     who: &User,
@@ -421,7 +419,7 @@ fn missing<Q: Questions>(
     }
 }
 
-/// The file has to be there, and open to the caller in this mode.
+/// The file must exist, and be open to the caller in this mode.
 fn closed_to<Q: Questions>(
     questions: &Q,
     who: &User,
@@ -446,7 +444,7 @@ fn closed_to<Q: Questions>(
     }
 }
 
-/// So many bytes have to be no more than a file may have, and than its owner has room for.
+/// This number of bytes must be within the limit of a file, and its blocks within the owner's SPACE.
 fn over_size<Q: Questions>(questions: &Q, file: &NamedFile, size: u64) -> Option<StoreFault>
     requires owner { plain.has_user (Q.tree questions.now) file.now.full.user ≡ true }
     requires numbered { file.now.number ≡ Q.numbers questions.now file.now.full }

@@ -1,4 +1,4 @@
-//! Laws of programs that ask a store: with which answers they ran, and what a store stands for.
+//! Laws of programs that call a store: their answers, and runs on the store that a store represents.
 ghost use Rattle.std.specs.Prelude.{ℕ, List};
 ghost use Rattle.g_plain.specs.PlainTree.{Tree};
 ghost use Rattle.g_plain.specs.Programs.{Answer, Asks, Ran, RanInPart};
@@ -7,13 +7,13 @@ ghost use Rattle.g_plain.specs.Runs.{RanBy};
 
 use crate::Filestore;
 
-/// A store that stands for another: what it answers, the other one answers.
+/// A store that represents another one: what it answers, the other one answers.
 pub trait StandsFor<T: Filestore>: Filestore {
     ghost use Rattle.std.specs.Prelude.{ℕ, List};
     ghost use Rattle.g_plain.specs.declared.calls.StoreCall.{StoreCall};
     ghost use Rattle.g_plain.specs.Programs.{Answer};
 
-    // The store that it stands for.
+    // The store that it represents.
     ghost stands: { Self → T };
 
     ghost along: { (old : Self) (who : List ℕ) (call : StoreCall) (answer : Answer) (new : Self)
@@ -21,8 +21,8 @@ pub trait StandsFor<T: Filestore>: Filestore {
         → T.answers (stands old) who call answer (stands new) };
 }
 
-/// A store that holds a tree: each answer but want of memory is that of the plain step, a refusal of
-/// a device or a stop, and the tree is as that says.
+/// A store that holds a tree: each answer except out of memory is that of the plain step, a refusal of a device or a
+/// stop, and the tree changes accordingly.
 pub trait HoldsTree: Filestore {
     ghost use Rattle.std.specs.Prelude.{ℕ, List};
     ghost use Rattle.g_plain.specs.declared.calls.StoreCall.{StoreCall};
@@ -48,8 +48,8 @@ pub fn runs_have_answers<S: Filestore, A>()
         → RanBy S.answers who old p told given new → Ran S.answers who old p given new }
 {}
 
-/// A program that ran over a store, whole or until it found no memory, ran so over the store that
-/// this one stands for.
+/// A program that ran on a store, completely or until memory ran out, ran in the same way on the store that this one
+/// represents.
 pub fn runs_go_along<T: Filestore, S: StandsFor<T>, A>()
     ensures whole { (who : List ℕ) (old : S) (p : Asks A) (given : A) (new : S)
         → Ran S.answers who old p given new
@@ -59,7 +59,7 @@ pub fn runs_go_along<T: Filestore, S: StandsFor<T>, A>()
         → RanInPart T.answers who (S.stands old) p (S.stands new) }
 {}
 
-/// A program that ran over a store that holds a tree was asked of that tree.
+/// A program that ran on a store that holds a tree is a program that ran on that tree.
 pub fn runs_are_plain<S: HoldsTree, A>()
     ensures { (who : List ℕ) (old : S) (p : Asks A) (given : A) (new : S) (t : Tree)
         → S.holds old t → Ran S.answers who old p given new

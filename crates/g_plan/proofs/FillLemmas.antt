@@ -1,4 +1,5 @@
--- The second pass: lines that are placed one after the other.
+-- The second pass: placing one line after another.
+-- serves: fill, FinishLemmas, RoundLemmas
 use Rattle.std.proofs.Common.{◌≡◌, ◌≢◌, ◌≤◌, ◌<◌, ◌+◌, ◌∙◌, ℕ, suc, zero, List, [], ◌∷◌, ◌++◌, Bool, true, false, not, Option, Some, None, Result, Ok, Err, ap, append_assoc, arith, drop, length, refl, subst, sym, take}
 use Rattle.std.specs.Prelude.{◌&&◌, if◌then◌else◌, unwrap_or}
 use Rattle.std.specs.List.{enumerate_from, flat_map, slice_get}
@@ -15,13 +16,13 @@ use Rattle.g_plan.specs.declared.form.Form.{Form}
 use Rattle.g_plan.specs.declared.image.Image.{Image}
 use Rattle.g_plan.specs.declared.source.Line.{Line}
 
--- the cells of lines with one behind them
+-- the cells of lines with one more at the end
 pub cells-one : (all earlier : List Line) (line : Line) → all_cells all (earlier ++ line ∷ []) ≡ all_cells all earlier ++ unwrap_or (cells all line) []
 cells-one all earlier line =
     flat_map-append (λ (l : Line). unwrap_or (cells all l) []) earlier (line ∷ [])
     ∙ ap (λ (behind : List (ℕ × ℕ)). all_cells all earlier ++ behind) (append-nil (unwrap_or (cells all line) []))
 
--- a line is placed as its form is
+-- a line is placed if its form is
 pub line-put : (all : List Line) (size place : ℕ) (label : Option (List ℕ)) (form : Form) (old new : Image) (result : Bool) → IsFormPut all size form place old new result
     → IsLinePut all size (record { label = label; form = Some form; place = place }) old new result
 line-put all size place label form old new result put earlier is =
@@ -33,7 +34,7 @@ line-put all size place label form old new result put earlier is =
 pub line-bad : (all : List Line) (size place : ℕ) (label : Option (List ℕ)) (image : Image) → IsLinePut all size (record { label = label; form = None; place = place }) image image false
 line-bad all size place label image earlier is = (refl, (λ yes_is. absurd (false≢true yes_is)))
 
--- THE LOOP over the lines: those so far are placed
+-- THE LOOP over the lines: the lines so far are placed
 pub record FilledSoFar (all : List Line) (size k : ℕ) (image : Image) : Type 0 where
   pub image_is : IsImageOf size (all_cells all (take k all)) image
   pub bad_is : bad_behind all size [] all ≡ bad_behind all size (take k all) (drop k all)
@@ -86,7 +87,7 @@ filled_all all size k image so_far past =
     let nothing = drop_all k all past in
     (so_far.bad_is ∙ (ap (bad_behind all size (take k all)) nothing), subst (λ (ls : List Line). IsImageOf size (all_cells all ls) image) whole so_far.image_is)
 
--- THE ANSWERS
+-- THE RESULTS
 bad_some : (size : Option ℕ) (k : ℕ) → bad_or_first size (Some k) ≡ Some k
 bad_some None k = refl
 bad_some (Some n) k = refl

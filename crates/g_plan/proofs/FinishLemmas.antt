@@ -1,4 +1,5 @@
--- What both passes make is what a source is assembled to.
+-- The result of both passes is what the source is assembled to.
+-- serves: assemble (answer), fill, finished, place_line
 use Rattle.std.proofs.Common.{◌≡◌, ◌≤◌, ◌<◌, ◌+◌, ◌∙◌, ℕ, List, [], ◌∷◌, Option, Some, None, Bool, false, Result, Ok, Err, ap, get_or, length, map, refl, subst, sym}
 use Rattle.std.specs.Prelude.{unwrap_or}
 use Rattle.std.specs.List.{slice_get}
@@ -22,7 +23,7 @@ use Rattle.g_plan.proofs.SourceLemmas.{source_read}
 pub source-fits : (lines : List (List ℕ)) (all : List Line) → all ≡ source lines → AllFit all
 source-fits lines all is = subst AllFit (source_read lines ∙ sym is) (all_fit [] 20 lines)
 
--- a line is placed as its form is
+-- a line is placed if its form is
 pub line-placed : (all : List Line) (size : ℕ) (line : Line) (form : Form) (old new : Image) (result : Bool) → line.form ≡ Some form
     → IsFormPut all size form line.place old new result → IsLinePut all size line old new result
 line-placed all size line form old new result is put =
@@ -34,7 +35,7 @@ line-refused all size line image is =
     subst (λ (o : Option Form). IsLinePut all size (record { label = line.label; form = o; place = line.place }) image image false) (sym is)
     (line-bad all size line.place line.label image)
 
--- the answers
+-- the results
 finished : (text file : List ℕ) (n : ℕ) (image : Image) → size_in (source (lines_of text)) ≡ Some n → IsFilled (source (lines_of text)) (Ok image)
     → ((most : ℕ) (filled : List (ℕ × ℕ)) → IsImageOf most filled image → file ≡ text_of (map (octal_digits 8) (n ∷ words_up_to filled (end_of filled))))
     → (assembled text ≡ Ok file) × IsLoadedAs text file

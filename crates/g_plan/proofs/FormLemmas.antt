@@ -1,4 +1,5 @@
--- A line is read as the form that it has: what is read is there, and what is there is read.
+-- A line is read as the form that it has, and as no other.
+-- serves: LineLemmas, OrderLemmas
 use Rattle.std.proofs.Common.{◌≡◌, ◌≢◌, ◌≤◌, ◌<◌, ◌^◌, ◌+◌, ◌-◌, ◌∙◌, ◌⊎◌, inl, inr, ℕ, suc, zero, List, [], ◌∷◌, ◌++◌, Bool, true, false, not, Option, Some, None, ap, arith, codes, drop, length, refl, subst, sym, get_or}
 use Rattle.std.specs.Prelude.{◌&&◌, ◌||◌, ◌==◌, if◌then◌else◌, nat_le}
 use Rattle.std.specs.Fmt.{decimal}

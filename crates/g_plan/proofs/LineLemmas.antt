@@ -1,4 +1,5 @@
 -- A line is read as the form that it has: orders, and whole lines.
+-- serves: lines_are_read_by_their_forms, read_line, OrderLemmas
 use Rattle.std.proofs.Common.{◌≡◌, ◌≢◌, ◌≤◌, ◌<◌, ◌^◌, ◌+◌, ◌-◌, ◌∙◌, ◌⊎◌, inl, inr, ℕ, suc, zero, List, [], ◌∷◌, ◌++◌, Bool, true, false, not, Option, Some, None, ap, arith, codes, drop, length, refl, subst, sym}
 use Rattle.std.specs.Prelude.{◌&&◌, ◌||◌, ◌==◌, if◌then◌else◌, nat_le}
 use Rattle.std.specs.Fmt.{decimal}
@@ -48,7 +49,7 @@ address-complete name x m v address modifier value modified =
     let there : modifier_read (row_of name).modified modifier ≡ Some m = modifier-complete (row_of name).modified m modifier modified in
     rw (front, back, there, read) refl
 
--- what stands behind the accumulator
+-- what follows the accumulator
 abbrev IsOperandForm : Mnemonic → ℕ → Option ℕ → Form → List (List ℕ) → Type 0
 IsOperandForm name x most form ws = (m : ℕ) × (v : Value) × (form ≡ Order name x m v) × IsAddressOf most (row_of name).modified m v ws
 
@@ -85,7 +86,7 @@ accumulator-is x few =
     let digit : (48 + x) - 48 ≡ x = omega arith in
     rw (low, high) (ap Some digit)
 
--- what stands behind a name
+-- what follows a name
 abbrev IsOrderForm : Mnemonic → Option ℕ → Form → List (List ℕ) → Type 0
 IsOrderForm name accumulator form ws =
     (x : ℕ) × (m : ℕ) × (v : Value) × (form ≡ Order name x m v) × (xs : List (List ℕ)) × (texts : List (List ℕ)) × IsAccumulator accumulator x xs
@@ -154,7 +155,7 @@ behind_start : (text : List ℕ) → (behind_label text ≡ []) ⊎ ((ds : List 
 behind_start [] = inl refl
 behind_start (c ∷ cs) = behind_step c cs (c == 32) refl (behind_start cs)
 
--- nothing, or a space with something behind it
+-- the text is empty, or begins with a space and isn't only spaces
 abbrev StartsSpaced : List ℕ → Type 0
 StartsSpaced text = (text ≡ []) ⊎ ((c : ℕ) × (cs : List ℕ) × (text ≡ 32 ∷ c ∷ cs))
 

@@ -1,4 +1,5 @@
--- Octal digits, there and back.
+-- Octal digits, written and read back.
+-- serves: RoundLemmas
 use Rattle.std.proofs.Common.{◌≡◌, ◌≢◌, ◌≤◌, ◌<◌, ◌+◌, ◌-◌, ◌*◌, ◌/◌, ◌%◌, ◌^◌, ◌∙◌, ℕ, suc, zero, List, [], ◌∷◌, ◌++◌, Bool, true, false, ap, arith, fold, length, map, refl, subst, sym, All, min}
 use Rattle.std.specs.Prelude.{◌&&◌, ◌==◌, nat_le, nat_lt}
 use Rattle.std.specs.List.{AllByRecursion, list_all, prefix_len}
@@ -33,7 +34,7 @@ pub word_line : (w : ℕ) → is_word_line (octal_digits 8 w) ≡ true
 word_line w =
     and_from (length (octal_digits 8 w) == 8) (list_all is_octal_digit (octal_digits 8 w)) (eq-eqb (length (octal_digits 8 w)) 8 (length-octal 8 w)) (all_octal 8 w)
 
--- what is left behind one digit more
+-- the remainder after one digit more
 split_sum : (p q2 d r : ℕ) → p * (8 * q2 + d) + r ≡ q2 * (p * 8) + (d * p + r)
 split_sum p q2 d r = omega arith
 
@@ -96,7 +97,7 @@ no_ends : (ws : List ℕ) → AllByRecursion (λ line. All (λ b. b ≢ 10) line
 no_ends [] = tt
 no_ends (w ∷ ws) = (All-from_recursion (λ b. b ≢ 10) (octal_digits 8 w) (no_end 8 w), no_ends ws)
 
--- the lines of a program file, as loading sees them
+-- the lines of a program file, by the definition that loading uses
 before_same : (b : ℕ) (ls : List (List ℕ)) → before_lines b ls ≡ onto_first b ls
 before_same b [] = refl
 before_same b (line ∷ ls) = refl

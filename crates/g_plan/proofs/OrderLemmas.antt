@@ -1,4 +1,5 @@
--- The forms that are read have all their parts in range, and each order is one of the table.
+-- All parts of the forms read are in range, and each order is one of the table.
+-- serves: order_for, FinishLemmas, RoundLemmas
 use Rattle.std.proofs.Common.{◌≡◌, ◌≢◌, ◌≤◌, ◌<◌, ◌+◌, ◌-◌, ◌^◌, ◌∙◌, ◌⊎◌, inl, inr, ℕ, suc, zero, List, [], ◌∷◌, ◌++◌, Bool, true, false, not, Option, Some, None, ap, arith, is_some, IsTrue, refl, subst, sym}
 use Rattle.std.specs.Prelude.{◌&&◌, ◌==◌, nat_le, nat_lt}
 use Rattle.std.specs.List.{list_all, range_with_len, slice_get}
@@ -138,7 +139,7 @@ no_modifier : (may : Bool) (m : ℕ) → not may ≡ true → HasM may m → m �
 no_modifier true m is there = absurd (false≢true is)
 no_modifier false m is there = there
 
--- the address of an order is at most the most
+-- the address of an order is at most the limit
 ranged : (most a b : ℕ) → at_most (Some most) a ≡ Some b → b ≤ most
 ranged most a b is = let parts = cond_some (nat_le a most) a b is in subst (λ (k : ℕ). k ≤ most) parts.1 (leb-true a most parts.0)
 
@@ -168,7 +169,7 @@ order-is name x m v all a fits is =
     and_from (nat_lt x 8 && is_some (function_of row.f x)) (are_operands row.f m (a + row.adds)) (has_x row.f row.x x both.0 fits.x_fits)
     (operands_of row m v all a row.most both.1 fits.m_fits fits.v_fits is)
 
--- so the order of a word that is given is there
+-- the order of the form's word is in the table
 pub order-new : (name : Mnemonic) (x m : ℕ) (v : Value) (all : List Line) (row : Row) (a : ℕ) → IsOperand (row_of name) x m v → row ≡ row_of name
     → address all row v ≡ Some a → (false ≡ true → IsTrue (is_order x row.f m (a + row.adds))) × (IsTrue (is_order x row.f m (a + row.adds)) → false ≡ true) → ⊥
 order-new name x m v all row a fits same is valid =

@@ -1,4 +1,5 @@
--- A form is placed as its words are put.
+-- A form is placed if its words are.
+-- serves: place_form
 use Rattle.std.proofs.Common.{◌≡◌, ◌∙◌, ℕ, List, [], ◌∷◌, ◌++◌, Bool, true, false, Option, Some, None, ap, refl, subst, sym}
 use Rattle.std.specs.Prelude.{◌&&◌, nat_lt, unwrap_or}
 use Rattle.std.specs.List.{enumerate_from}

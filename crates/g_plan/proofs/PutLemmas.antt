@@ -1,4 +1,5 @@
--- An image that is filled word by word stands for its cells.
+-- An image that is filled word by word represents its cells.
+-- serves: put, put_chars, RoundLemmas
 use Rattle.std.proofs.Common.{◌≡◌, ◌≢◌, ◌≤◌, ◌<◌, ◌+◌, ◌^◌, ◌∙◌, ◌⊎◌, inl, inr, ℕ, suc, zero, List, [], ◌∷◌, ◌++◌, Bool, true, false, not, Option, Some, None, ap, append_assoc, arith, drop, get_or, is_some, length, length-drop, max, min, refl, subst, sym}
 use Rattle.std.specs.Prelude.{◌&&◌, ◌||◌, ◌==◌, if◌then◌else◌, nat_lt, set, unwrap_or}
 use Rattle.std.specs.List.{AllByRecursion, enumerate_from, find, list_all, list_any}
@@ -12,7 +13,7 @@ use Rattle.g_plan.specs.Assembly.{are_free, char_words, end_of, four, is_at, is_
 use Rattle.g_plan.specs.SecondPass.{AreSmall, IsImageOf, IsPut}
 use Rattle.g_plan.specs.declared.image.Image.{Image}
 
--- looked for by a test
+-- searching by a test
 any_step : {X : Type 0} (p : X → Bool) (x : X) (xs : List X) (b : Bool) → p x ≡ b → list_any p xs ≡ is_some (find p xs) → list_any p (x ∷ xs) ≡ is_some (find p (x ∷ xs))
 any_step p x xs true is same = rw is refl
 any_step p x xs false is same = rw is same
@@ -50,7 +51,7 @@ module _ (size : ℕ) (filled : List (ℕ × ℕ)) (image : Image) (is : IsImage
   free-here place word within there =
       and_from (nat_lt place size) (not (list_any (is_at place) filled)) (lt-ltb place size within) (ap not (sym (taken_is place within) ∙ there))
 
--- what is found behind one more cell
+-- the search with one more cell
 find_one : (k place word : ℕ) (b : Bool) → (place == k) ≡ b → find (is_at k) ((place, word) ∷ []) ≡ (if b then Some (place, word) else None)
 find_one k place word true is = rw is refl
 find_one k place word false is = rw is refl
@@ -104,7 +105,7 @@ module _ (size : ℕ) (filled : List (ℕ × ℕ)) (old new : Image) (is : IsIma
     small = small_both filled ((place, word) ∷ []) is.small (word_fits, tt);
   }
 
--- THE ANSWERS OF ONE WORD
+-- THE RESULTS OF ONE WORD
 true_and : (b : Bool) → (b && true) ≡ b
 true_and true = refl
 true_and false = refl
@@ -142,7 +143,7 @@ char_step (a ∷ b ∷ c ∷ d ∷ text) some =
     let least : min (length (a ∷ b ∷ c ∷ d ∷ text)) 4 ≡ 4 = omega arith in
     ap (λ (n : ℕ). four a b c d ∷ char_words (drop n (a ∷ b ∷ c ∷ d ∷ text))) (sym least)
 
--- of the cells from the start on, some are put, and the others come from the place on
+-- of the cells from `start` on, some are written, and the others follow from `place` on
 pub record ArePut (size start : ℕ) (text : List ℕ) (filled : List (ℕ × ℕ)) (image : Image) (place : ℕ) (rest : List ℕ) : Type 0 where
   pub done : List (ℕ × ℕ)
   pub split : enumerate_from start (char_words text) ≡ done ++ enumerate_from place (char_words rest)
@@ -170,7 +171,7 @@ or_false : (b : Bool) → (b || false) ≡ b
 or_false true = refl
 or_false false = refl
 
--- a cell is free behind cells of other places exactly where it is without them
+-- a cell is free after cells of other places if and only if it is free without them
 pub same_free : (size place word : ℕ) (filled done : List (ℕ × ℕ)) → list_any (is_at place) done ≡ false → is_free size (filled ++ done) (place, word) ≡ is_free size filled (place, word)
 same_free size place word filled done none =
     ap (λ (b : Bool). nat_lt place size && not b)

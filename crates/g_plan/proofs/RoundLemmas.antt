@@ -1,4 +1,5 @@
 -- THE ROUND TRIP: the file of a good source is loaded, and its orders are read.
+-- serves: FinishLemmas
 use Rattle.std.proofs.Common.{◌≡◌, ◌≢◌, ◌≤◌, ◌<◌, ◌+◌, ◌-◌, ◌^◌, ◌∙◌, ℕ, suc, zero, List, [], ◌∷◌, ◌++◌, Bool, true, false, not, Option, Some, None, Result, Ok, Err, ap, append_assoc, arith, drop, fold, get_or, is_some, length, length-append, map, max, min, refl, replicate, subst, sym, take}
 use Rattle.std.specs.Prelude.{◌&&◌, ◌==◌, if◌then◌else◌, nat_le, nat_lt, unwrap_or}
 use Rattle.std.specs.List.{AllByRecursion, enumerate_from, find, flat_map, list_all, list_any, prefix_len, range_with_len, slice_get}
@@ -80,7 +81,7 @@ loaded_words : (n : ℕ) (ws : List ℕ) → n ≤ 32768 → AllByRecursion (λ 
     → (program_of (map (octal_digits 8) (n ∷ ws))).words ≡ ws ++ replicate (n - length ws) 0
 loaded_words n ws few small = rw (words_back ws small, octal_is n (omega (arith, few)), length-map ws (octal_digits 8)) refl
 
--- a line behind others is good
+-- a line after others is good
 good_by : (all : List Line) (size : ℕ) (earlier : List Line) (first : Line) (rest : List Line) (k : ℕ) (line : Line) → is_good all size earlier first ≡ true
     → ((j : ℕ) → slice_get rest j ≡ Some line → is_good all size ((earlier ++ first ∷ []) ++ take j rest) line ≡ true) → slice_get (first ∷ rest) k ≡ Some line
     → is_good all size (earlier ++ take k (first ∷ rest)) line ≡ true
@@ -99,7 +100,7 @@ good_at all size earlier (first ∷ rest) k line none here =
     (λ good others. good_by all size earlier first rest k line good (λ j there. good_at all size (earlier ++ first ∷ []) rest j line others there) here)
     (λ _ bad. absurd cc) none
 
--- what is found at a cell's place
+-- the word found at a cell's place
 cell_found : (before behind : List (ℕ × ℕ)) (place word : ℕ) → list_any (is_at place) before ≡ false → word_at (before ++ (place, word) ∷ behind) place ≡ word
 cell_found before behind place word none =
     let missing : find (is_at place) before ≡ None = is_none (find (is_at place) before) (sym (any_found (is_at place) before) ∙ none) in

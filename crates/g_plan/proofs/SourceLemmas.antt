@@ -1,4 +1,5 @@
--- The first pass: a source's lines one after the other, and what is known of their labels and their size.
+-- The first pass: a source's lines in order, and the index of their labels and their size.
+-- serves: note_label, read_source, with, FinishLemmas
 use Rattle.std.proofs.Common.{◌≡◌, ◌∙◌, ℕ, List, [], ◌∷◌, ◌++◌, Bool, true, false, Option, Some, None, ap, append_assoc, is_some, refl, sym}
 use Rattle.std.specs.Prelude.{◌&&◌, if◌then◌else◌}
 use Rattle.std.specs.BTreeMap.{is_at}
@@ -51,7 +52,7 @@ place_from-one earlier place (first ∷ lines) line =
     ∙ ap (λ (front : List (List ℕ)). moved (place_from (earlier ++ first ∷ []) (moved place (form_behind earlier first)) lines) (form_behind front line))
     (append_assoc earlier (first ∷ []) lines)
 
--- a label is among those of lines where a line of the source has it
+-- a label is among those of the lines if and only if a line of the source has it
 some_mapped : {A B : Type 0} (f : A → B) (o : Option A) → is_some (option_map f o) ≡ is_some o
 some_mapped f None = refl
 some_mapped f (Some x) = refl
@@ -79,7 +80,7 @@ form_at-behind earlier lines blank text source_is blank_is =
     let there : has_place lines (label_in text) ≡ is_among earlier (label_in text) = ap (λ (ls : List Line). has_place ls (label_in text)) source_is ∙ among earlier (label_in text) in
     rw (there, blank_is) refl
 
--- with one line more, a reader stands behind it
+-- the reader after one more line
 and_true : (b : Bool) → (b && true) ≡ b
 and_true true = refl
 and_true false = refl
@@ -105,7 +106,7 @@ behind-one earlier text r next label form is labelled formed sourced placed blan
       blank_is = blanked ∙ (ap (λ (b : Bool). b && is_blank text) is.blank_is ∙ sym (one_more earlier text));
     }
 
--- the labels and the size of lines with one behind them
+-- the labels and the size of the lines with one more at the end
 placed_or : (o : Option Line) (line : Line) (b : Bool)
     → option_map (λ (l : Line). l.place) (option_or o (if b then Some line else None)) ≡ option_or (option_map (λ (l : Line). l.place) o) (if b then Some line.place else None)
 placed_or None line true = refl
@@ -134,7 +135,7 @@ size_in-one : (lines : List Line) (line : Line) → size_in (lines ++ line ∷ [
 size_in-one [] line = or_none (size_of line.form)
 size_in-one (first ∷ lines) line = ap (option_or (size_of first.form)) (size_in-one lines line) ∙ or_assoc (size_of first.form) (size_in lines) (size_of line.form)
 
--- the label of one more line is noted, where no line had it
+-- the label of one more line is noted, if no line had it
 noted_by : (places : List (List ℕ × ℕ)) (label other : List ℕ) (place : ℕ) (found : Option ℕ) → (same_text label other ≡ true → found ≡ option_or (place_in places label) (Some place))
     → (same_text label other ≡ false → found ≡ place_in places other) → found ≡ option_or (place_in places other) (if same_text label other then Some place else None)
 noted_by places label other place found same apart =

@@ -1,4 +1,5 @@
--- Each name of the table is one of an order, with room for its address.
+-- Each name of the table is that of an order whose word has room for its address.
+-- serves: LineLemmas, OrderLemmas
 use Rattle.std.proofs.Common.{◌≡◌, ℕ, ◌+◌, List, [], ◌∷◌, Bool, true, not, Option, Some, None, refl}
 use Rattle.std.specs.Prelude.{◌&&◌, ◌==◌, is_some, nat_lt, if◌then◌else◌}
 use Rattle.std.specs.List.{list_all}
@@ -10,12 +11,12 @@ use Rattle.g_plan.specs.declared.mnemonic.Mnemonic.{Mnemonic}
 use Rattle.g_plan.specs.declared.mnemonic.Mnemonic.TheVariants as name
 use Rattle.g_plan.specs.declared.mnemonic.Row.{Row}
 
--- the function is there, with the row's accumulator or with each
+-- the table has the function, with the row's accumulator or with every accumulator
 abbrev pub has_function : ℕ → Option ℕ → Bool
 has_function f (Some x) = nat_lt x 8 && is_some (function_of f x)
 has_function f None = list_all (λ x. is_some (function_of f x)) (0 ∷ 1 ∷ 2 ∷ 3 ∷ 4 ∷ 5 ∷ 6 ∷ 7 ∷ [])
 
--- the address with what is added has room in the word, and a branch has no modifier
+-- the address plus what is added fits into the word, and a branch has no modifier
 abbrev pub has_room : Row → Option ℕ → Bool
 has_room row None = (row.adds == 0) && not (is_branch row.f)
 has_room row (Some most) = if is_branch row.f then nat_lt (most + row.adds) 32768 && not row.modified else nat_lt (most + row.adds) 4096

@@ -1,4 +1,5 @@
--- Words of texts, and what stands before a byte.
+-- Words of texts, and the part before a byte.
+-- serves: before (short, value), label, next_word, put_chars, without_back, FormLemmas, LineLemmas
 use Rattle.std.proofs.Common.{◌≡◌, ◌≢◌, ◌≤◌, ◌∙◌, ℕ, List, [], ◌∷◌, ◌++◌, All, Bool, IfSome, IsSome, Option, Some, None, true, false, ap, arith, drop, length, length-append, refl, sym}
 use Rattle.std.specs.Prelude.{◌&&◌, ◌==◌, filter, nat_le}
 use Rattle.std.specs.List.{AllByRecursion, list_all, slice_split}
@@ -7,7 +8,7 @@ use Rattle.std.proofs.lemmas.List.Elements.{recursion_from_All}
 use Rattle.g_name.specs.Grammar.{is_letter, is_name_char, is_word}
 use Rattle.g_plan.specs.Words.{before, before_rest, behind_label, front_of, is_label, is_label_byte, is_some_text, is_space, label_read, without_back, without_front, words}
 
--- what stands before a byte
+-- the part before a byte
 pub before-all : (stop : ℕ) (text : List ℕ) → AllByRecursion (λ b. b ≢ stop) text → before stop text ≡ text
 before-all stop [] all = refl
 before-all stop (c ∷ cs) all = rw (ne_eqb c stop all.0, before-all stop cs all.1) refl
@@ -28,7 +29,7 @@ before-drop stop (c ∷ cs) =
     cond_both (c == stop) [] (c ∷ before stop cs) (λ (front : List ℕ). front ++ drop (length front) (c ∷ cs) ≡ c ∷ cs)
     (λ is. refl) (λ other. ap (λ (rest : List ℕ). c ∷ rest) (before-drop stop cs))
 
--- a text's parts between spaces: its front, and those of what is behind
+-- the parts of a text between spaces: the first, and those of the rest
 abbrev rest_parts : List ℕ → List (List ℕ)
 rest_parts [] = []
 rest_parts (c ∷ cs) = slice_split is_space cs
@@ -63,7 +64,7 @@ pub words_split : (text : List ℕ) → words text ≡ some_word (front_of text)
 words_split text =
     ap (filter is_some_text) (parts_of text) ∙ some_kept (front_of text) (rest_parts (behind_label text)) ∙ ap (some_word (front_of text)) (words_behind text)
 
--- spaces in front
+-- leading spaces
 front_step : (c : ℕ) (cs : List ℕ) (b : Bool) → (c == 32) ≡ b → words (without_front cs) ≡ words cs → words (without_front (c ∷ cs)) ≡ words (c ∷ cs)
 front_step c cs true is same = rw is same
 front_step c cs false is same = rw is (rw is refl)
@@ -101,7 +102,7 @@ next-some text rest word behind is some front back =
     sym (words_front text) ∙ ap words (sym is) ∙ words_split rest ∙ first_word (front_of rest) (words (behind_label rest)) starts
     ∙ ap (λ (w : List ℕ). w ∷ words (behind_label rest)) (sym front) ∙ ap (λ (b : List ℕ). word ∷ words b) behind_is
 
--- spaces behind
+-- trailing spaces
 pub back-space : (text : List ℕ) → without_back (text ++ 32 ∷ []) ≡ without_back text
 back-space [] = refl
 back-space (c ∷ cs) = ap (before_rest c) (back-space cs)
@@ -157,7 +158,7 @@ pub label-read : (text : List ℕ) (o : Option (List ℕ)) → is_label text ≡
 label-read text None good some is = absurd (false≢true some)
 label-read text (Some l) good some is = ap Some is ∙ sym (rw good refl)
 
--- the loop that takes spaces from the back
+-- the loop that removes trailing spaces
 pub back-done : (front rest text : List ℕ) (last : ℕ) → rest ≡ front ++ last ∷ [] → last ≢ 32 → without_back rest ≡ without_back text → rest ≡ without_back text
 back-done front rest text last is other same = is ∙ (sym (back-other front last other) ∙ (ap without_back (sym is) ∙ same))
 

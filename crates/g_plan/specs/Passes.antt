@@ -1,4 +1,4 @@
--- How the second pass over a source answers.
+-- The results of the second pass over a source.
 use Rattle.std.specs.Prelude.{◌≡◌, ◌++◌, ◌∷◌, ◌&&◌, ℕ, List, [], Bool, true, Option, Some, None, Result, Ok, Err, IfOk, unwrap_or}
 use Rattle.std.specs.List.{enumerate_from}
 use Rattle.std.specs.Option.{option_map}
@@ -12,21 +12,24 @@ use Rattle.g_plan.specs.declared.form.Form.{Form}
 use Rattle.g_plan.specs.declared.image.Image.{Image}
 use Rattle.g_plan.specs.declared.source.Line.{Line}
 
+-- The result of the second pass: the image of all cells, or the first bad line.
 abbrev pub IsFilled : List Line → Result Image PlanFault → Type 0
 IsFilled all (Ok image) = (bad_behind all (size_or_none all) [] all ≡ None) × IsImageOf (size_or_none all) (all_cells all all) image
 IsFilled all (Err (BadPlan line)) = bad_behind all (size_or_none all) [] all ≡ Some line
 IsFilled all (Err NoMemory) = Unit {0}
 
--- the lines are those of a text, and so is the answer
+-- If the lines are those of a text, the result is that text's.
 abbrev pub IsFinished : List Line → Result (List ℕ) PlanFault → Type 0
 IsFinished all result = (text : List ℕ) → all ≡ source (lines_of text) → Assembles text result × IfOk result (λ file. IsLoadedAs text file)
 
+-- Placing a form succeeds if and only if its words and its place are free, and then adds its cells.
 abbrev pub IsFormPut : List Line → ℕ → Form → ℕ → Image → Image → Bool → Type 0
 IsFormPut all size form place old new result =
     (filled : List (ℕ × ℕ)) → IsImageOf size filled old
     → (result ≡ (is_below size (Some form) && are_free size filled (option_map (enumerate_from place) (given all form))))
     × (result ≡ true → IsImageOf size (filled ++ unwrap_or (option_map (enumerate_from place) (given all form)) []) new)
 
+-- Placing a line succeeds if and only if the line is good after the earlier ones, and then adds its cells.
 abbrev pub IsLinePut : List Line → ℕ → Line → Image → Image → Bool → Type 0
 IsLinePut all size line old new result =
     (earlier : List Line) → IsImageOf size (all_cells all earlier) old

@@ -1,4 +1,4 @@
--- What the first pass over a source knows.
+-- The state of the first pass over a source.
 use Rattle.std.specs.Prelude.{◌≡◌, ◌++◌, ℕ, List, [], ◌∷◌, Bool, false, Option, Some, None, is_some, if◌then◌else◌}
 use Rattle.std.specs.Option.{option_and_then}
 use Rattle.std.specs.List.{list_all}
@@ -11,29 +11,30 @@ use Rattle.g_plan.specs.declared.form.Value.TheVariants.{Named}
 use Rattle.g_plan.specs.declared.reader.Reader.{Reader}
 use Rattle.g_plan.specs.declared.source.Line.{Line}
 
--- the lines of a source one after the other, behind earlier lines and from a place on
+-- The lines of a source in order, after earlier lines and from a place on.
 abbrev pub read_from : List (List ℕ) → ℕ → List (List ℕ) → List Line
 read_from earlier place [] = []
 read_from earlier place (line ∷ lines) =
     record { label = label_in line; form = form_behind earlier line; place = place }
     ∷ read_from (earlier ++ line ∷ []) (moved place (form_behind earlier line)) lines
 
--- the place behind them
+-- The place after these lines.
 abbrev pub place_from : List (List ℕ) → ℕ → List (List ℕ) → ℕ
 place_from earlier place [] = place
 place_from earlier place (line ∷ lines) = place_from (earlier ++ line ∷ []) (moved place (form_behind earlier line)) lines
 
+-- The reader's state after these lines: the lines so far, the place after them, and whether all are blank.
 pub record IsReadBehind (earlier : List (List ℕ)) (r : Reader) : Type 0 where
   pub source_is : r.source ≡ read_from [] 20 earlier
   pub place_is : r.place ≡ place_from [] 20 earlier
   pub blank_is : r.blank ≡ list_all is_blank earlier
 
--- a line of the source has the label
+-- A line of the source has the label.
 abbrev pub has_place : List Line → Option (List ℕ) → Bool
 has_place lines None = false
 has_place lines (Some label) = is_some (resolved lines (Named label))
 
--- what a line with this label says behind these lines
+-- What a line with this label says after these lines.
 abbrev pub form_at : List Line → Bool → List ℕ → Option (List ℕ) → Option Form
 form_at lines blank text label =
     if is_blank text then Some Nothing

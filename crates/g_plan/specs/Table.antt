@@ -1,4 +1,4 @@
--- The names of orders, and what stands behind each.
+-- The names of orders, and what may follow each.
 use Rattle.std.specs.Prelude.{ℕ, List, [], ◌∷◌, Bool, true, false, Option, Some, None, codes}
 use Rattle.std.specs.List.{find}
 use Rattle.g_name.specs.Order.{same_text}
@@ -6,8 +6,8 @@ use Rattle.g_plan.specs.declared.mnemonic.Mnemonic.{Mnemonic}
 use Rattle.g_plan.specs.declared.mnemonic.Mnemonic.TheVariants as name
 use Rattle.g_plan.specs.declared.mnemonic.Row.{Row}
 
--- What is known of a name: the accumulator of its orders, where it isn't written; their function number; what is added to
--- the address; how great that may be, or none where there is no address; and whether a modifier may stand behind it.
+-- The row of a name has the accumulator of its orders, if it isn't written; their function number; what is added to the address; the greatest
+-- address, or none if there is no address; and whether a modifier may follow it.
 
 -- `NAME x a`, `NAME x a(m)`
 abbrev pub plain : ℕ → Row
@@ -25,10 +25,11 @@ alone f = record { x = Some 0; f = f; adds = 0; most = None; modified = false }
 abbrev pub jump : ℕ → Row
 jump f = record { x = None; f = f; adds = 0; most = Some 32767; modified = false }
 
+-- Branches without an accumulator: `NAME a`.
 abbrev pub jump_of_x : ℕ → Row
 jump_of_x x = record { x = Some x; f = 0o074; adds = 0; most = Some 32767; modified = false }
 
--- shifts by a count, circular or logical
+-- Shifts by a number of places, circular or logical.
 abbrev pub shift : ℕ → ℕ → Row
 shift f adds = record { x = None; f = f; adds = adds; most = Some 1023; modified = true }
 
@@ -81,7 +82,7 @@ row_of name.Sll = shift 0o110 1024
 row_of name.Src = shift 0o112 0
 row_of name.Srl = shift 0o112 1024
 
--- the names as they are written
+-- The written names.
 abbrev pub name_text : Mnemonic → List ℕ
 name_text name.Ldx = codes "LDX"
 name_text name.Adx = codes "ADX"
@@ -130,6 +131,7 @@ name_text name.Sll = codes "SLL"
 name_text name.Src = codes "SRC"
 name_text name.Srl = codes "SRL"
 
+-- All names, in the order of the table.
 abbrev pub mnemonics : List Mnemonic
 mnemonics =
     name.Ldx ∷ name.Adx ∷ name.Ngx ∷ name.Sbx ∷ name.Sto ∷ name.Ads ∷ name.Ngs ∷ name.Sbs ∷ name.Andx
@@ -139,6 +141,6 @@ mnemonics =
     ∷ name.Exit ∷ name.Brn ∷ name.Bvs ∷ name.Bvsr ∷ name.Bvc ∷ name.Bvcr ∷ name.Slc ∷ name.Sll ∷ name.Src
     ∷ name.Srl ∷ []
 
--- the name that a word is
+-- The name that a word is, if it is one.
 abbrev pub mnemonic_of : List ℕ → Option Mnemonic
 mnemonic_of word = find (λ name. same_text (name_text name) word) mnemonics

@@ -54,7 +54,7 @@ fn fill(alloc: Global, source: &Source) -> Result<Image, PlanFault>
     Ok(image)
 }
 
-/// How many words the program has; none where no line says it.
+/// How many words the program has; 0 if no line says it.
 fn size_of_program(source: &Source) -> usize
     ensures { result ≡ size_or_none source.now }
 {
@@ -64,7 +64,7 @@ fn size_of_program(source: &Source) -> usize
     }
 }
 
-/// Places the words of a line. `false` where the line is bad; then some of its words may stand there.
+/// Places the words of a line. `false` if the line is bad; then some of its words may be placed.
 fn place_line(source: &Source, line: &Line, size: usize, image: &mut Image) -> bool
     requires { MayFit line.now.form }
     ensures { IsLinePut source.now size line.now image.old image.new result }

@@ -4,7 +4,7 @@ ghost use Rattle.g_plan.specs.Assembly as assembly;
 
 use g_word::{Word, code_of};
 
-/// The word of a text's first four characters, with spaces behind the last.
+/// The word of a text's first four characters, filled up with spaces.
 pub(crate) fn first_four(text: &[u8]) -> Word
     ensures { result ≡ assembly.four (get_or text.now 0 32) (get_or text.now 1 32) (get_or text.now 2 32) (get_or text.now 3 32) }
 {
@@ -16,7 +16,7 @@ pub(crate) fn first_four(text: &[u8]) -> Word
     )
 }
 
-/// The byte at a place, and a space behind the last.
+/// The byte at a place, or a space after the last.
 fn byte_at(text: &[u8], place: usize) -> u8
     ensures { result ≡ get_or text.now place 32 }
 {

@@ -4,7 +4,7 @@ use thiserror::Error;
 /// Why a source isn't assembled.
 #[derive(Clone, Copy, Debug, PartialEq, Eq, Error)]
 pub enum PlanFault {
-    /// The first line, from 1, that is bad (`docs/DEFINITIONS.md`, "PLAN").
+    /// The first line, from 1, that is bad (`docs/DEFINITIONS.md`, "g_plan").
     #[error("line {0} of the source is bad")]
     BadPlan(usize),
     #[error("out of memory")]

@@ -1,10 +1,10 @@
-//! What a line of a source says behind its label.
+//! What a line of a source says after its label.
 use crate::mnemonic::Mnemonic;
 use arrayvec::ArrayVec;
 use g_name::Local;
 use std::marker::Model;
 
-/// A number or a label, in the place of an address or a word.
+/// A number or a label, used as an address or a word.
 #[derive(Drop)]
 pub enum Value {
     /// A number, 2^24 at most.
@@ -12,7 +12,7 @@ pub enum Value {
     Named(Local),
 }
 
-/// What a line says behind its label.
+/// What a line says after its label.
 #[derive(Drop)]
 pub enum Form {
     Nothing,
@@ -22,7 +22,7 @@ pub enum Form {
     At(u16),
     Word(Value),
     Chars(Characters),
-    /// A name with its accumulator, its modifier and its address, which is 0 where the order has none.
+    /// A name with its accumulator, its modifier and its address, which is 0 if the order has none.
     Order(Mnemonic, u8, u8, Value),
 }
 

@@ -26,7 +26,7 @@ pub(crate) fn word_for(source: &Source, value: &Value) -> Option<Word>
     }
 }
 
-/// What a value stands for.
+/// The number that a value denotes.
 fn resolved(source: &Source, value: &Value) -> Option<u32>
     ensures { result ≡ assembly.resolved source.now value.now }
 {
@@ -39,7 +39,7 @@ fn resolved(source: &Source, value: &Value) -> Option<u32>
     }
 }
 
-/// The address of an order, where its value is within the name's range.
+/// The address of an order, if its value is within the name's range.
 fn address(source: &Source, row: &Row, value: &Value) -> Option<u32>
     ensures { result ≡ assembly.address source.now row.now value.now }
 {

@@ -10,16 +10,16 @@ use g_base::NoMemory;
 use g_word::Word;
 use std::alloc::Global;
 
-/// The words of a program, of which some are filled.
+/// The words of a program, some of which are filled.
 #[derive(Drop)]
 pub(crate) struct Image {
     words: Vec<Option<Word>>,
-    /// The place behind the last filled word.
+    /// The place after the last filled word.
     end: usize,
 }
 
 impl Image {
-    /// Of so many words, none of which is filled.
+    /// An image of `size` words, none of them filled.
     pub fn new(alloc: Global, size: usize) -> Result<Image, NoMemory>
         ensures { IfOk result (λ image. IsImageOf size [] image) }
     {
@@ -28,14 +28,14 @@ impl Image {
         Ok(Image { words, end: 0 })
     }
 
-    /// The place behind the last filled word.
+    /// The place after the last filled word.
     pub fn end(&self) -> usize
         ensures { (size : ℕ) (filled : List (ℕ × ℕ)) → IsImageOf size filled self.now → result ≡ assembly.end_of filled }
     {
         self.end
     }
 
-    /// The word at a place, and 0 where none is filled.
+    /// The word at a place, or 0 if it isn't filled.
     pub fn word(&self, place: usize) -> Word
         ensures { (size : ℕ) (filled : List (ℕ × ℕ)) → IsImageOf size filled self.now → place < size → result ≡ assembly.word_at filled place }
     {
@@ -46,7 +46,7 @@ impl Image {
         }
     }
 
-    /// Fills a place with a word. `false` where it is past the last, or was filled: then it stays.
+    /// Fills a place with a word. `false`, and no change, if it is past the last or was filled.
     pub fn put(&mut self, place: usize, word: Word) -> bool
         requires { place < 2 ^ 32 }
         ensures { IsPut (Some ((place, word) ∷ [])) self.old self.new result }
@@ -71,8 +71,8 @@ impl Image {
         }
     }
 
-    /// Fills places from one on with characters, four in each. `false` where one of them is past the last, or was filled: then
-    /// some are filled.
+    /// Fills places from `start` on with characters, four in each. `false` if one of them is past the last or was filled; the places before it are
+    /// filled then.
     pub fn put_chars(&mut self, start: usize, text: &[u8]) -> bool
         requires early { start < 2 ^ 16 }
         requires few { length text.now ≤ 40 }

@@ -1,4 +1,4 @@
-//! PLAN, an assembler: the source of a program to a program file (docs/DEFINITIONS.md, "PLAN").
+//! PLAN, an assembler: the source of a program to a program file (docs/DEFINITIONS.md, "g_plan").
 #![tactic(auto)]
 
 mod assembly;

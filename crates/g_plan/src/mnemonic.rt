@@ -1,4 +1,4 @@
-//! The names of orders, and what stands behind each.
+//! The names of orders, and what may follow each.
 ghost use Rattle.std.specs.Prelude.{◌≡◌};
 ghost use Rattle.g_plan.specs.Table as table;
 
@@ -103,7 +103,7 @@ const MNEMONICS: [Mnemonic; 46] = [
     Mnemonic::Srl,
 ];
 
-/// What is known of a name.
+/// The row of a name in the table.
 #[derive(Clone, Copy, PartialEq, Eq)]
 pub struct Row {
     /// The accumulator of its orders, where it isn't written.
@@ -112,9 +112,9 @@ pub struct Row {
     pub f: u8,
     /// What is added to the address.
     pub adds: u16,
-    /// How great the address may be; `None` where there is no address.
+    /// The greatest address; `None` if there is no address.
     pub most: Option<u16>,
-    /// Whether a modifier may stand behind the address.
+    /// Whether a modifier may follow the address.
     pub modified: bool,
 }
 
@@ -126,7 +126,7 @@ impl Mnemonic {
         MNEMONICS.iter().copied().find(|name| name.word() == word)
     }
 
-    /// The name as it is written.
+    /// The written name.
     pub fn word(self) -> &'static [u8]
         ensures { result.now ≡ table.name_text self }
     {
@@ -180,7 +180,7 @@ impl Mnemonic {
         }
     }
 
-    /// What is known of the name.
+    /// The row of the name in the table.
     pub fn row(self) -> Row
         ensures { result ≡ table.row_of self }
     {

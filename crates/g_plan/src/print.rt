@@ -24,7 +24,7 @@ pub(crate) fn program_file(alloc: Global, size: u16, image: &Image) -> Result<Te
     Ok(file)
 }
 
-/// Puts the line of a word behind the text; without memory a front of it may stand there.
+/// Appends the line of a word to the text; without memory a prefix of it may have been appended.
 fn push_line(text: &mut Text, word: Word) -> Result<(), NoMemory>
     ensures { OnOk result (text.new ≡ text.old ++ ended (octal_digits 8 word)) }
 {

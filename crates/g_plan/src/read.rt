@@ -10,7 +10,7 @@ use crate::words::{
 };
 use g_lines::number;
 
-/// The form of a line; `None` where it has none.
+/// The form of a line; `None` if it has none.
 pub(crate) fn read_line(line: &[u8]) -> Option<Form>
     ensures { result ≡ how.form_read line.now }
 {
@@ -24,7 +24,7 @@ pub(crate) fn read_line(line: &[u8]) -> Option<Form>
     read_words(!front.is_empty(), &line[front.len()..])
 }
 
-/// What is said behind a label or in the place of one.
+/// The form of the rest after a label, or after what is in its place.
 fn read_words(labelled: bool, rest: &[u8]) -> Option<Form>
     ensures { result ≡ how.words_read labelled (words rest.now) rest.now }
 {
@@ -34,7 +34,7 @@ fn read_words(labelled: bool, rest: &[u8]) -> Option<Form>
     }
 }
 
-/// What is said by a first word, by what is behind it, and by the text in which both stand.
+/// The form of a first word, of what follows it, and of the text of both.
 fn read_named(labelled: bool, name: &[u8], behind: &[u8], rest: &[u8]) -> Option<Form>
     ensures { result ≡ how.named_read labelled name.now (words behind.now) rest.now }
 {
@@ -54,7 +54,7 @@ fn read_named(labelled: bool, name: &[u8], behind: &[u8], rest: &[u8]) -> Option
     }
 }
 
-/// Characters, which stand behind `CHARS` and a space.
+/// Characters, which follow `CHARS` and a space.
 fn read_chars(rest: &[u8]) -> Option<Form>
     ensures { result ≡ how.chars_line_read rest.now }
 {
@@ -94,7 +94,7 @@ fn read_word_line(text: &[u8]) -> Option<Form>
     Some(Form::Word(value))
 }
 
-/// A word as it is written.
+/// The word of a WORD line.
 fn read_word(text: &[u8]) -> Option<Value>
     ensures { result ≡ how.word_read text.now }
 {
@@ -105,7 +105,7 @@ fn read_word(text: &[u8]) -> Option<Value>
     }
 }
 
-/// A negative number by the digits behind its sign.
+/// A negative number by the digits after its sign.
 fn read_negative(digits: &[u8]) -> Option<Value>
     ensures { result ≡ how.negative_read digits.now }
 {
@@ -117,7 +117,7 @@ fn read_negative(digits: &[u8]) -> Option<Value>
     }
 }
 
-/// A label or a number up to the most.
+/// A label, or a number up to `most`.
 fn read_value(text: &[u8], most: u32) -> Option<Value>
     ensures { result ≡ how.value_read most text.now }
 {
@@ -127,7 +127,7 @@ fn read_value(text: &[u8], most: u32) -> Option<Value>
     }
 }
 
-/// A number up to the most.
+/// A number up to `most`.
 fn read_number(text: &[u8], most: u32) -> Option<Value>
     ensures { result ≡ how.number_value most text.now }
 {
@@ -135,7 +135,7 @@ fn read_number(text: &[u8], most: u32) -> Option<Value>
     Some(Value::Number(number as u32))
 }
 
-/// An order behind its name.
+/// An order after its name.
 fn read_order(name: Mnemonic, text: &[u8]) -> Option<Form>
     ensures { result ≡ how.order_read name (words text.now) }
 {
@@ -154,7 +154,7 @@ fn read_accumulator(name: Mnemonic, text: &[u8]) -> Option<Form>
     read_operand(name, x, behind)
 }
 
-/// An accumulator as it is written.
+/// The accumulator that a word is.
 fn accumulator(word: &[u8]) -> Option<u8>
     ensures { result ≡ how.accumulator_read word.now }
 {
@@ -164,7 +164,7 @@ fn accumulator(word: &[u8]) -> Option<u8>
     }
 }
 
-/// An order behind its accumulator.
+/// An order after its accumulator.
 fn read_operand(name: Mnemonic, x: u8, text: &[u8]) -> Option<Form>
     ensures { result ≡ how.operand_read name x (words text.now) }
 {
@@ -187,7 +187,7 @@ fn read_address(name: Mnemonic, x: u8, word: &[u8]) -> Option<Form>
     Some(Form::Order(name, x, modifier, value))
 }
 
-/// The modifier behind an address, where one may stand.
+/// The modifier after an address, if it may have one.
 fn modifier(may: bool, text: &[u8]) -> Option<u8>
     ensures { result ≡ how.modifier_read may text.now }
 {
@@ -198,7 +198,7 @@ fn modifier(may: bool, text: &[u8]) -> Option<u8>
     }
 }
 
-/// The digit from 1 to 3 that stands in brackets.
+/// The digit from 1 to 3 in brackets.
 fn in_brackets(first: u8, digit: u8, last: u8) -> Option<u8>
     ensures { result ≡ how.in_brackets first digit last }
 {

@@ -16,14 +16,14 @@ use std::alloc::Global;
 /// The first word's place.
 const FIRST: u16 = 20;
 
-/// What a place past all programs counts as.
+/// The place that represents all places past the longest program.
 const PAST: u32 = 0x8000;
 
-/// A source of which some lines are read.
+/// A source, some lines of which are read.
 #[derive(Drop)]
 struct Reader {
     source: Source,
-    /// The place behind these lines.
+    /// The place after these lines.
     place: u16,
     /// Whether all lines were blank.
     blank: bool,
@@ -52,7 +52,7 @@ impl Reader {
         }
     }
 
-    /// With one line more.
+    /// The reader with one more line.
     fn with(self, text: &[u8]) -> Result<Reader, NoMemory>
         ensures { IfOk result (λ next. (earlier : List (List ℕ)) → IsReadBehind earlier self → IsReadBehind (earlier ++ text.now ∷ []) next) }
     {
@@ -74,7 +74,7 @@ impl Reader {
         })
     }
 
-    /// What a line with this label says behind the others.
+    /// What a line with this label says after the others.
     fn form_of(&self, text: &[u8], label: &Option<Local>) -> Option<Form>
         ensures { result ≡ form_at self.now.source self.now.blank text.now label.now }
     {
@@ -98,14 +98,14 @@ impl Reader {
     }
 }
 
-/// Whether all lines are blank with one more, where those before were.
+/// Whether the lines with one more are all blank, if those before were.
 fn still_blank(blank: bool, text: &[u8]) -> bool
     ensures { result ≡ (blank && assembly.is_blank text.now) }
 {
     blank && is_blank(text)
 }
 
-/// A form where it may stand: `PROGRAM` where all lines before are blank, and nothing else there.
+/// A form in its place: only the first line that isn't blank is `PROGRAM`, and it must be.
 fn in_place(blank: bool, form: Form) -> Option<Form>
     ensures { result ≡ assembly.in_place blank form }
 {
@@ -113,7 +113,7 @@ fn in_place(blank: bool, form: Form) -> Option<Form>
     if blank == is_size { Some(form) } else { None }
 }
 
-/// The place behind a line of this form.
+/// The place after a line of this form.
 fn moved(place: u16, form: &Option<Form>) -> u16
     ensures { result ≡ assembly.moved place form.now }
 {
@@ -124,7 +124,7 @@ fn moved(place: u16, form: &Option<Form>) -> u16
     }
 }
 
-/// How many words a form gives.
+/// The number of words of a form.
 fn count(form: &Form) -> u32
     ensures count { result ≡ assembly.count form.now }
     ensures few { result ≤ 10 }

@@ -1,4 +1,4 @@
-//! The lines of a source, and where its labels stand.
+//! The lines of a source, and the places of its labels.
 ghost use Rattle.std.specs.Prelude.{◌≡◌, ◌++◌, ◌∷◌, ℕ, List, [], IfOk, OnOk};
 ghost use Rattle.g_plan.specs.Assembly.{resolved, size_in, size_of};
 ghost use Rattle.g_plan.specs.LineIndex.{noted, place_in};
@@ -14,15 +14,15 @@ use std::marker::Model;
 /// A line of a source.
 #[derive(Drop)]
 pub struct Line {
-    /// The label that it begins with, also where the rest is bad.
+    /// The label that it begins with; the rest of the line may be bad.
     pub label: Option<Local>,
-    /// What it says; `None` where it is of no form, or stands where that form may not.
+    /// What it says; `None` if it has no form, or one that isn't allowed at its place.
     pub form: Option<Form>,
-    /// The place of its first word, or of the next word where it has none; 32,768 at most.
+    /// The place of its first word, or of the next word if it has none; 32,768 at most.
     pub place: u16,
 }
 
-/// The lines of a source, which contracts see as a list, with the places of their labels beside it.
+/// The lines of a source, which contracts see as a list, with an index of the places of their labels.
 #[derive(Drop)]
 pub struct Source {
     lines: Vec<Line>,
@@ -43,7 +43,7 @@ impl Model for Source {
 }
 
 impl Source {
-    /// No lines, which takes no memory yet.
+    /// No lines; allocates nothing.
     pub fn new(alloc: Global) -> Source
         ensures { result ≡ [] }
     {
@@ -54,7 +54,7 @@ impl Source {
         }
     }
 
-    /// The lines with one behind them.
+    /// The lines with one more at the end.
     pub fn with(self, line: Line) -> Result<Source, NoMemory>
         ensures { IfOk result (λ source. source ≡ self ++ line ∷ []) }
     {
@@ -73,7 +73,7 @@ impl Source {
         })
     }
 
-    /// The place that a label stands for.
+    /// The place that a label denotes.
     pub fn place_of(&self, label: &Local) -> Option<u16>
         ensures { result ≡ resolved self.now (Named label.now) }
     {
@@ -105,7 +105,7 @@ fn size_of(form: &Option<Form>) -> Option<u16>
     }
 }
 
-/// Notes the place of a line's label, where no line before had it.
+/// Notes the place of a line's label, if no earlier line has it.
 fn note_label(places: &mut BTreeMap<Local, u16>, line: &Line) -> Result<(), NoMemory>
     ensures { OnOk result ((label : List ℕ) → place_in places.new.entries label ≡ noted places.old.entries line.now label) }
 {

@@ -1,4 +1,4 @@
-//! Lines of a source, cut at spaces.
+//! Lines of a source, split at spaces.
 ghost use Rattle.std.specs.Prelude.{◌≡◌, ◌≢◌, ◌≤◌, ◌∷◌, ◌++◌, [], Some, None, All, MatchOption, length};
 ghost use Rattle.std.specs.List.{list_all};
 ghost use Rattle.g_plan.specs.LineReader as how;
@@ -14,14 +14,14 @@ pub(crate) fn is_printed(text: &[u8]) -> bool
     text.iter().all(|byte| b' ' <= *byte && *byte <= b'~')
 }
 
-/// Whether a text is spaces alone.
+/// Whether a text consists of spaces.
 pub(crate) fn is_blank(text: &[u8]) -> bool
     ensures { result ≡ list_all words.is_space text.now }
 {
     text.iter().all(|byte| *byte == b' ')
 }
 
-/// What stands before the first byte of that value, and the whole text where there is none.
+/// The part before the first byte of that value, or the whole text if there is none.
 pub(crate) fn before(stop: u8, text: &[u8]) -> &[u8]
     ensures value { result.now ≡ words.before stop text.now }
     ensures short { length result.now ≤ length text.now }
@@ -32,7 +32,7 @@ pub(crate) fn before(stop: u8, text: &[u8]) -> &[u8]
     }
 }
 
-/// The text without the spaces in front.
+/// The text without its leading spaces.
 pub(crate) fn without_front(text: &[u8]) -> &[u8]
     ensures { result.now ≡ words.without_front text.now }
 {
@@ -43,7 +43,7 @@ pub(crate) fn without_front(text: &[u8]) -> &[u8]
     rest
 }
 
-/// The text without the spaces behind.
+/// The text without its trailing spaces.
 pub(crate) fn without_back(text: &[u8]) -> &[u8]
     ensures { result.now ≡ words.without_back text.now }
 {
@@ -57,7 +57,7 @@ pub(crate) fn without_back(text: &[u8]) -> &[u8]
     rest
 }
 
-/// The first word of a text, and what is behind it; `None` where there is no word.
+/// The first word of a text, and the rest after it; `None` if there is no word.
 pub(crate) fn next_word(text: &[u8]) -> Option<(&[u8], &[u8])>
     ensures { MatchOption result (words.words text.now ≡ [])
         (λ parts. words.words text.now ≡ parts.0.now ∷ words.words parts.1.now) }
@@ -70,7 +70,7 @@ pub(crate) fn next_word(text: &[u8]) -> Option<(&[u8], &[u8])>
     Some((word, &text[word.len()..]))
 }
 
-/// The only word of a text; `None` where there is none, or more.
+/// The only word of a text; `None` if there is none, or more.
 pub(crate) fn only_word(text: &[u8]) -> Option<&[u8]>
     ensures { MatchOption result (how.only (words.words text.now) ≡ None)
         (λ word. how.only (words.words text.now) ≡ Some word.now) }
@@ -93,7 +93,7 @@ pub(crate) fn label(text: &[u8]) -> Option<Local>
     }
 }
 
-/// Whether a text is a letter with up to 7 letters and digits behind it.
+/// Whether a text is a letter followed by up to 7 letters and digits.
 pub(crate) fn is_label(text: &[u8]) -> bool
     ensures { result ≡ words.is_label text.now }
 {

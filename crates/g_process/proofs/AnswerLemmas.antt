@@ -1,4 +1,5 @@
--- How PROCESS is answered, where something was written.
+-- How PROCESS is answered, if something was written.
+-- serves: process
 use Rattle.std.proofs.Common.{◌≡◌, ◌≢◌, ℕ, zero, suc, ◌+◌, ◌-◌, ◌<◌, ◌≤◌, Bool, true, false, List, [], ◌∷◌, get_or, length, map, take, Option, Some, None, Ok, Err, refl, sym, ◌∙◌, ap, arith, subst, inl, inr, slice_get}
 use Rattle.std.specs.Prelude.{All, Contains, Result, is_some, nat_lt, not, ◌&&◌, ◌⊎◌}
 use Rattle.std.specs.List.{AllZip}
@@ -83,7 +84,7 @@ module _ (job : Job) (o : OnlineFacts) (old mid : Rack) (live : o.live ≡ true)
       let (r, at) = some_of (reel serial old.reels) granted.there in
       free_by_list serial old mid job.lists.items r ready.listed at ready.free
 
-  -- serials, capacities, mountings, and whether a reel tells
+  -- serials, capacities, mountings, and whether a reel exposes its contents
   labels_mid : labels mid.reels ≡ labels old.reels
   labels_mid = labels_reads old mid only.reels
 
@@ -129,7 +130,7 @@ module _ (job : Job) (o : OnlineFacts) (old mid : Rack) (live : o.live ≡ true)
       by_case blocks (inl was) = inl (subst (Holds blocks) (intended.contents ∙ begun_is) was)
       by_case blocks (inr now) = inr (subst (Holds blocks) (moved_is begun intended) now)
 
-  -- DISC AND RACK go on belonging together, as the lemmas of the exits want it
+  -- disc and rack still belong together, as the lemmas of the exits need it
   rules_are : IsPlan (process_plan serial o)
   rules_are = subst IsPlan ready.plan ready.may.rules
 
@@ -168,7 +169,7 @@ module _ (job : Job) (o : OnlineFacts) (old mid : Rack) (live : o.live ≡ true)
   need_is : needs plan ≡ needs (process_plan serial o)
   need_is = ap needs ready.plan
 
-  -- A READ FAILED behind the intent
+  -- a read failed after the intent
   module _ (o' : OnlineFacts) (new : Rack) (tied' : IsTied o') (are_new : AreReels new.reels) where
     after_reading : (f : Reel → Reel) → Becomes (at_serial serial f) old new → AllZip (IsReadBy serial) old.reels new.reels
     after_reading f is = reels_read serial f old new is
@@ -272,7 +273,7 @@ module _ (job : Job) (o : OnlineFacts) (old mid : Rack) (live : o.live ≡ true)
 
     -- DONE
 
-    -- each block of each version, by the rack as it was and as it is
+    -- each block of each version, by the rack before and after
     source_all : (m : Rack) (begun : OnlineFacts) → HasIntended (intent_of plan) o begun → (so : HasWritten serial plan rs begun (needs plan) mid m) → ((s k : ℕ) → time_of s k m ≤ time_of s k new)
         → (i : ℕ) (r : FileRec) → slice_get rs i ≡ Some r → (part : ℕ) → part < blocks_for r.len
         → (block : List ℕ) × (slice_get so.written (1 + length plan.users + length plan.files + (blocks_of (take i (waiting plan.files)) + part)) ≡ Some block) × IsSource o old new r part block
@@ -304,7 +305,7 @@ module _ (job : Job) (o : OnlineFacts) (old mid : Rack) (live : o.live ≡ true)
         let (block, here, source) = source_all m begun intended so (times_released (taken serial job.lists.items) m new gone) n f.rec at part inside in
         subst (λ (k : ℕ). HasRead copy.serial k old new) is (source.offline f there refl off copy tape).1
 
-    -- THE DUMP where its reel tells
+    -- the dump, if its reel exposes its contents
     plan_away : IsAway plan
     plan_away = subst IsAway (sym ready.plan) (process_away serial o)
 
@@ -376,7 +377,7 @@ module _ (job : Job) (o : OnlineFacts) (old mid : Rack) (live : o.live ≡ true)
     other_reels : (need : ℕ) → AllZip (IsLeftBy serial need old) old.reels new.reels → labels new.reels ≡ labels old.reels → All HasNone new.reels
     other_reels need zip same = none_in need old.reels new.reels zip (zip_labels old.reels new.reels same) (λ r there. there)
 
-    -- what was written is whole where its reel tells
+    -- what was written is complete, if its reel exposes its contents
     whole_by : (w : List (List ℕ)) → AllZip (IsHeldBy serial w) old.reels new.reels → labels new.reels ≡ labels old.reels → AllTold o.disc.held (told_reels old) → All IsBlock w
     whole_by w held same told =
         held_whole serial w old.reels new.reels (zip_whole old.reels new.reels held are_new.each) (zip_labels old.reels new.reels same) (same_told old.reels new.reels same told.each.each) the_reel.0
@@ -639,7 +640,7 @@ module _ (job : Job) (o : OnlineFacts) (old mid : Rack) (live : o.live ≡ true)
           dump = λ _. refl;
         }
 
-    -- WHATEVER BECAME of it
+    -- for any outcome of the job
     pub answered : (answer : Result ℕ StoreFault) → CarriesOut job o mid answer o' new → Processes serial was answer (behind_process answer o' new)
     answered (Ok number) done = carried number done
     answered (Err Stopped) stopped = stops stopped

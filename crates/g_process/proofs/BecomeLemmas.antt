@@ -1,4 +1,5 @@
 -- What became of each reel, but for reads; and that serials, capacities and mountings never change.
+-- serves: release, AnswerLemmas, BelongLemmas, CarryLemmas, DoneLemmas, EndLemmas, ExitLemmas, PrepareLemmas, ProcessLemmas, crates above
 use Rattle.std.proofs.Common.{◌≡◌, ℕ, zero, suc, ◌<◌, ◌≤◌, ◌==◌, Bool, true, false, List, [], ◌∷◌, ◌++◌, map, take, Option, Some, None, refl, sym, ◌∙◌, ap, arith, inl, inr, option_map, if◌then◌else◌, eq-eqb}
 use Rattle.std.specs.Prelude.{All, AllPairs, Contains, is_some}
 use Rattle.std.specs.List.{AllZip}
@@ -102,7 +103,7 @@ same_mounted (x ∷ xs) (y ∷ ys) same all =
     all_cons (λ (r : Reel). r.mounted ≡ true) y ys (ap (λ (l : ℕ × ℕ × Bool × Bool). l.2) here ∙ All-head (λ r. r.mounted ≡ true) x xs all)
     (same_mounted xs ys rest (All-tail (λ r. r.mounted ≡ true) x xs all))
 
--- and what tells goes on telling
+-- and what exposes its contents still does
 pub same_told : (xs ys : List Reel) → labels ys ≡ labels xs → All (λ r. is_some r.blocks ≡ true) (map unread xs) → All (λ r. is_some r.blocks ≡ true) (map unread ys)
 same_told xs [] same all = λ k d within. absurd (let no : ⊥ = omega (arith, within) in no)
 same_told [] (y ∷ ys) same all = absurd (let no : ⊥ = cc in no)

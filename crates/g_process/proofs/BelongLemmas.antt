@@ -1,4 +1,5 @@
--- Disc and rack go on belonging together, whatever became of the event.
+-- Disc and rack still belong together, for any outcome of PROCESS.
+-- serves: ExitLemmas, crates above
 use Rattle.std.proofs.Common.{◌≡◌, ℕ, zero, suc, ◌+◌, ◌<◌, ◌≤◌, ◌==◌, Bool, true, false, List, [], ◌∷◌, ◌++◌, get_or, length, map, Option, Some, None, refl, sym, ◌∙◌, ap, arith, subst, inl, inr}
 use Rattle.std.specs.Prelude.{◌⊎◌, ◌||◌, All, Contains, IfSome, filter, is_some, nat_le}
 use Rattle.std.specs.Option.{ForSome}
@@ -71,7 +72,7 @@ shelved_by F old new shelf next is shelved make = record {
         later : (r : Reel) → Contains xs r → Contains (x ∷ xs) r
         later r (j, within, same) = (suc j, omega (arith, within), same)
 
--- THE STORE as it was, over devices that tell and belong together
+-- the store before, on devices that expose their contents and belong together
 module _ (serial : ℕ) (o : OnlineFacts) (old : Rack) (live : o.live ≡ true) (tied : IsTied o) (rules : IsPlan (process_plan serial o)) (on : Reel) (on_is : reel serial old.reels ≡ Some on) (free : IsFree serial old)
     (told : AllTold o.disc.held (told_reels old)) (text : ℕ → List ℕ) (shelf : ℕ → List Dump) (shelved : AreShelved shelf (told_reels old)) (up : IsUp text shelf (up_with o old None)) where
   abbrev c : Contents
@@ -99,7 +100,7 @@ module _ (serial : ℕ) (o : OnlineFacts) (old : Rack) (live : o.live ≡ true) 
   unread_serials [] = refl
   unread_serials (r ∷ rs) = ap (λ (ns : List ℕ). r.serial ∷ ns) (unread_serials rs)
 
-  -- OVER ANOTHER RACK of the same reels
+  -- ON ANOTHER RACK of the same reels
   module _ (x : Rack) (same : labels x.reels ≡ labels old.reels) where
     names : map (λ (r : Reel). r.serial) x.reels ≡ map (λ (r : Reel). r.serial) old.reels
     names = same_serials old.reels x.reels same
@@ -244,7 +245,7 @@ module _ (serial : ℕ) (o : OnlineFacts) (old : Rack) (live : o.live ≡ true) 
           let moved = events_stay_up.reels text (with_dump made shelf) (closed_with (record { plan = plan; done = 0 }) [] opened) x (same_serials old.reels x.reels same) shut in
           without_dump text (with_dump made shelf) x (closed_with (record { plan = plan; done = 0 }) [] opened).online o' (contents ∙ sym contents_moved) changed_is moved
 
-      -- ALL VERSIONS are in the dump, and so the others may go
+      -- ALL VERSIONS are in the dump, so the others may be deleted
       lens_waiting : All (λ (r : FileRec). length (text r.stamp) ≡ r.len) (waiting plan.files)
       lens_waiting = subst (All (λ (r : FileRec). length (text r.stamp) ≡ r.len)) (sym (plan_waiting serial o)) (All-map (λ (r : FileRec). length (text r.stamp) ≡ r.len) bare_rec (versions c) lens)
 

@@ -1,4 +1,5 @@
 -- What is done with a job, from what each of its steps says.
+-- serves: carry_out (carried, tied)
 use Rattle.std.proofs.Common.{◌≡◌, ℕ, ◌+◌, ◌<◌, true, List, [], map, Option, Some, None, Ok, Err, refl, sym, ◌∙◌, ap, arith, subst, inl, inr, if◌then◌else◌}
 use Rattle.std.specs.Prelude.{◌⊎◌, All, Contains, Result, is_some}
 use Rattle.g_base.specs.Counts.{RoseBy}
@@ -29,7 +30,7 @@ use Rattle.g_process.specs.Progress.{HasWritten, IsReadable, MayWrite, WritesBlo
 use Rattle.g_process.proofs.BecomeLemmas.{labels_beside, same_mounted, same_serials}
 use Rattle.g_disc.proofs.CallLemmas.{Causes-for}
 
--- WHAT THE INTENT'S COMMIT MAKES
+-- WHAT THE INTENT'S COMMIT CHANGES
 
 pub has_intended : (i : Intent) (o new : OnlineFacts) (u : Unit {0}) → o.pins ≡ None → (let r : Result (Unit {0}) OnlineFault = Ok u in IsApplied (SetIntent (Some i)) o new r) → HasIntended i o new
 has_intended i o new u none done =
@@ -48,7 +49,7 @@ has_intended i o new u none done =
       tied = done.tied;
     }
 
--- it fails where a write failed alone
+-- it fails only if a write failed
 pub stops_alone : (i : Intent) (o new : OnlineFacts) (e : OnlineFault) → (let r : Result (Unit {0}) OnlineFault = Err e in IsApplied (SetIntent (Some i)) o new r) → e ≡ Stopped
 stops_alone i o new e done = by_case done.only
   where
@@ -78,7 +79,7 @@ has_stopped i o new e done =
     by_case blocks (inr (inl (less, off))) = absurd (omega (arith, less))
     by_case blocks (inr (inr made)) = inr (subst (Holds blocks) (intended true (is_some o.pins) (Some i) o.contents) made)
 
--- BEHIND IT the versions can be read as before, and what was made ready is so still
+-- afterwards the versions can be read as before, and what was prepared is still ready
 readable_in : (serial : ℕ) (rack : Rack) (r : FileRec) (o new : OnlineFacts) → new.contents.files ≡ o.contents.files → IsReadable serial o rack r → IsReadable serial new rack r
 readable_in serial rack r o new same is = record {
   file = let (f, there, at) = is.file in (f, subst (λ (fs : List File). Contains fs f) (sym same) there, at);
@@ -142,7 +143,7 @@ module _ (job : Job) (o : OnlineFacts) (old : Rack) where
   abbrev the_given : Intent
   the_given = record { serial = job.serial; place = 0; number = job.number }
 
-  -- what the intent asks
+  -- what the intent requires
   pub may_begin : o.live ≡ true → IsTied o → MayCarry o old job → IsAllowed (SetIntent (Some the_given)) o
   may_begin live tied may =
       let serial : job.writer.serial ≡ job.serial = ap (λ (i : Intent). i.serial) may.intent_is in

@@ -1,4 +1,5 @@
--- Which block of the dump is which block of which version; and each of them was read.
+-- Which block of the dump is which block of which version; and that each of them was read.
+-- serves: AnswerLemmas, DumpLemmas, ExitLemmas, WholeLemmas
 use Rattle.std.proofs.Common.{◌≡◌, ℕ, zero, suc, ◌+◌, ◌<◌, ◌≤◌, List, [], ◌∷◌, length, map, take, Some, refl, sym, ◌∙◌, ap, arith, subst, inl, inr, slice_get}
 use Rattle.std.specs.Prelude.{replicate}
 use Rattle.std.proofs.lemmas.List.Sums.{sum_by-cons}
@@ -48,7 +49,7 @@ content_one (x ∷ xs) (suc i) (suc j) part other v w at_i at_j less more same =
     let (is, parts) = content_one xs i j part other v w at_i at_j less more (omega (arith, same, one, two)) in
     (ap suc is, parts)
 
--- WHAT THE WRITER MAKES isn't a block of a version, which may be anything
+-- A BLOCK THAT THE WRITER BUILDS isn't a block of a version, which may be anything
 pub long_copies : (n : ℕ) (b : List ℕ) → length (replicate n b) ≡ n
 long_copies zero b = refl
 long_copies (suc n) b = ap suc (long_copies n b)
@@ -74,7 +75,7 @@ not_ready p k i part block ready stands =
     let second : 0 ∷ [] ≡ block = same_Some (0 ∷ []) block (sym b ∙ y) in
     let no : ⊥ = cc in no
 
--- EACH BLOCK OF EACH VERSION was read, where the dump is written to its mark
+-- EACH BLOCK OF EACH VERSION was read, if the dump is written to its mark
 pub all_read : (serial : ℕ) (p : Plan) (rs : List FileRec) (o : OnlineFacts) (old new : Rack) → waiting p.files ≡ map bare_rec rs → (n : ℕ) → needs p ≤ n + 1 → (so : HasWritten serial p rs o n old new)
     → (i : ℕ) (r : FileRec) → slice_get rs i ≡ Some r → (part : ℕ) → part < blocks_for r.len
     → (block : List ℕ) × (slice_get so.written (1 + length p.users + length p.files + (blocks_of (take i (waiting p.files)) + part)) ≡ Some block) × IsSource o old new r part block

@@ -1,4 +1,5 @@
--- What became of the reels and of the disc, where something was written.
+-- What became of the reels and of the disc, if something was written.
+-- serves: AnswerLemmas, EndLemmas, ExitLemmas
 use Rattle.std.proofs.Common.{◌≡◌, ◌≢◌, ℕ, zero, suc, ◌+◌, ◌<◌, ◌==◌, Bool, true, false, List, [], ◌∷◌, ◌++◌, length, map, take, Option, Some, None, refl, sym, ◌∙◌, ap, arith, subst, inl, inr, slice_get, option_map, if◌then◌else◌, eq-eqb}
 use Rattle.std.specs.Prelude.{◌⊎◌, ◌&&◌, ◌||◌, All, Contains, filter, nat_lt, not}
 use Rattle.std.specs.List.{AllZip}
@@ -166,7 +167,7 @@ at_other s f r apart = cond-false (s == r.serial) (f r) r (ne_eqb s r.serial apa
 pub at_this : (s : ℕ) (f : Reel → Reel) (r : Reel) → s ≡ r.serial → at_serial s f r ≡ f r
 at_this s f r same = cond-true (s == r.serial) (f r) r (eq-eqb s r.serial same)
 
--- what a filled reel holds, where it tells
+-- what a filled reel holds, if it exposes it
 abbrev pub IsHeldBy : ℕ → List (List ℕ) → Reel → Reel → Type 0
 IsHeldBy serial w r q = q.serial ≡ serial → (blocks : List (List ℕ)) → q.blocks ≡ Some blocks → blocks ≡ w
 

@@ -1,4 +1,5 @@
 -- How far the releases came: which reels are below it, and what became of each.
+-- serves: ExitLemmas, crates above
 use Rattle.std.proofs.Common.{◌≡◌, ◌≢◌, ℕ, zero, suc, ◌+◌, ◌<◌, ◌≤◌, ◌==◌, Bool, true, false, List, [], ◌∷◌, length, map, take, Option, Some, None, sym, ◌∙◌, ap, arith, subst, inl, inr, slice_get}
 use Rattle.std.specs.Prelude.{◌⊎◌, ◌||◌, All, AllPairs, Contains, filter}
 use Rattle.std.specs.List.{AllZip}
@@ -49,7 +50,7 @@ named_at [] i l at = absurd (let no : ⊥ = cc in no)
 named_at (x ∷ xs) zero l at = (0, omega arith, ap (λ (y : Listed). y.serial) (same_Some x l at))
 named_at (x ∷ xs) (suc i) l at = later x xs l.serial (named_at xs i l at)
 
--- BEFORE A LIST stand those of the lower serials
+-- before a list there are those of the lower serials
 before_less : (ls : List Listed) → AllPairs Below (names ls) → (i : ℕ) (l : Listed) → slice_get ls i ≡ Some l → (n : ℕ) → Contains (names (take i ls)) n → n < l.serial
 before_less [] rising i l at n there = absurd (let no : ⊥ = cc in no)
 before_less (x ∷ xs) rising zero l at n (k, inside, is) = absurd (let no : ⊥ = omega (arith, inside) in no)
@@ -95,7 +96,7 @@ each_front old mid (suc i) (l ∷ ls) all = one (each_front old mid i ls (All-ta
     one rest zero d inside = All-head (IsListed old) l ls all
     one rest (suc k) d inside = rest k d (omega (arith, inside))
 
--- THE REEL that is written, beside the others
+-- the reel that is written, and the others
 pub beside_zip : (serial : ℕ) (f : Reel → Reel) (old new : Rack) → Becomes (at_serial serial f) old new → ((r : Reel) → 0 < (f r).len) → AllZip (IsBesideDump serial) old.reels new.reels
 beside_zip serial f old new is long = zip_becomes (at_serial serial f) old new (IsBesideDump serial) is (λ r q there same.
     elim (eqb_tells serial r.serial) [
@@ -103,13 +104,13 @@ beside_zip serial f old new is long = zip_becomes (at_serial serial f) old new (
       | inr h ↦ inr ((λ e. h.1 (sym e)), same ∙ at_other serial f (unread r) h.1)
     ])
 
--- a failed write behind a block leaves one
+-- a failed write at a later block than the first leaves one
 pub left_long : (how : Remains) (k : ℕ) (r : Reel) → 0 < k → 0 < r.len → 0 < (left_by how k r).len
 left_long Unchanged k r more long = long
 left_long Shortened k r more long = more
 left_long (Torn block) k r more long = omega arith
 
--- WHAT BECAME of a reel other than that one, by how far the releases came
+-- WHAT HAPPENED to a reel other than that one, by how far the releases got
 abbrev Outcome : ℕ → Option ℕ → Rack → Reel → Reel → Type 0
 Outcome until cut old r x =
     ((until ≤ r.serial) × (x ≡ unread r)) ⊎ ((r.serial < until) × ((IsFree r.serial old × (x ≡ unread r)) ⊎ (IsTaken r.serial old × ((0 < x.len) ⊎ (cut ≡ Some r.serial)))))

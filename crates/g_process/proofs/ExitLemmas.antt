@@ -1,4 +1,5 @@
--- Disc and rack go on belonging together, wherever the event ends.
+-- Disc and rack still belong together, wherever PROCESS ends.
+-- serves: AnswerLemmas, crates above
 use Rattle.std.proofs.Common.{◌≡◌, ◌≢◌, ℕ, zero, suc, ◌+◌, ◌<◌, ◌≤◌, ◌==◌, Bool, true, false, List, [], ◌∷◌, ◌++◌, drop, get_or, length, map, take, Option, Some, None, refl, sym, ◌∙◌, ap, arith, subst, inl, inr, slice_get, if◌then◌else◌}
 use Rattle.std.specs.Prelude.{◌⊎◌, ◌&&◌, ◌||◌, All, Contains, is_some, nat_lt, not, option_map}
 use Rattle.std.specs.List.{AllZip}
@@ -56,7 +57,7 @@ use Rattle.g_process.proofs.WholeLemmas.{none_short}
 use Rattle.g_process.proofs.WriteLemmas.{element, get_map}
 use Rattle.g_laws_store.proofs.TiedLemmas.{devices_belong}
 
--- the plan keeps off its own reel's dumps: no record in it names a copy
+-- the plan doesn't use its own reel's dumps: no record in it names a copy
 bare_away : (files : List FileRec) (n from to : ℕ) → All (λ (r : FileRec). is_between n from to r.tape ≡ false) (map bare_rec files)
 bare_away [] n from to = λ k d inside. absurd (let no : ⊥ = omega (arith, inside) in no)
 bare_away (x ∷ xs) n from to = all_cons (λ (r : FileRec). is_between n from to r.tape ≡ false) (bare_rec x) (map bare_rec xs) refl (bare_away xs n from to)
@@ -83,7 +84,7 @@ left_blocks (Torn t) k b bs q x is =
     let (z, told, first) = from_map (λ (z : List (List ℕ)). b ∷ bs) q.blocks y at in
     ap (λ (z : List (List ℕ)). take k z ++ t ∷ []) first ∙ same
 
--- a reel that is cut at its beginning has at most one block, or is as it was
+-- a reel whose first write failed has at most one block, or is unchanged
 cut_none : (how : Remains) (q : Reel) (n : ℕ) (ds : List Dump) → ds ≡ [] → ForSome q.blocks (λ bs. AreCompleted n bs ds) → ForSome (left_by how 0 q).blocks (λ bs. AreCompleted n bs ds)
 cut_none Unchanged q n ds none was = was
 cut_none Shortened q n ds none was = λ x is.
@@ -93,7 +94,7 @@ cut_none (Torn t) q n ds none was = λ x is.
     let (y, at, same) = from_map (λ (z : List (List ℕ)). take 0 z ++ t ∷ []) q.blocks x is in
     subst (λ (es : List Dump). AreCompleted n x es) (sym none) (one_block_is_none n x (let e = ap (λ (zs : List (List ℕ)). length zs) same in omega (arith, e)))
 
--- what stands in front of a failed write stays in it
+-- the blocks before a failed write stay
 in_left : (how : Remains) (w : List (List ℕ)) (b : List ℕ) → slice_get w 0 ≡ Some b → slice_get (left_in how (length w) w) 0 ≡ Some b
 in_left how [] b is = absurd (let no : ⊥ = cc in no)
 in_left Unchanged (x ∷ xs) b is = is
@@ -124,7 +125,7 @@ held_whole serial w (x ∷ xs) (y ∷ ys) (one, zip) (name, names) told on (zero
 held_whole serial w (x ∷ xs) (y ∷ ys) (one, zip) (name, names) told on (suc i, inside, at) named =
     held_whole serial w xs ys zip names (All-tail (λ (r : Reel). is_some r.blocks ≡ true) (unread y) (map unread ys) told) on (i, omega (arith, inside), at) named
 
--- also where a write behind them failed
+-- also if a write after them failed
 still_whole : (how : Remains) (w : List (List ℕ)) → All IsBlock (left_in how (length w) w) → All IsBlock w
 still_whole Unchanged w all = all
 still_whole Shortened w all = subst (All IsBlock) (take_all (length w) w (omega arith)) all
@@ -260,7 +261,7 @@ shelved_released ns m new shelf is shelved =
         subst (Keeps (without_all ns shelf)) (sym (cond-false (has ns r.serial) (ending 0 zeros (unread r)) (unread r) isnt))
         (subst (λ (ds : List Dump). ForSome r.blocks (λ bs. AreCompleted r.serial bs ds)) (sym (stays_all ns shelf r.serial isnt)) was)
 
--- a release that failed left the reel as it was, or took its dumps
+-- a failed release left the reel unchanged, or deleted its dumps
 cut_away : (n : ℕ) (f : Reel → Reel) (m new : Rack) (shelf : ℕ → List Dump) → ((r : Reel) → (f r).serial ≡ r.serial) → ((r : Reel) → ForSome (f r).blocks (λ bs. length bs ≤ 1))
     → Becomes (at_serial n f) m new → AreShelved shelf (told_reels m) → AreShelved (without_reel n shelf) (told_reels new)
 cut_away n f m new shelf keeps short is shelved =
@@ -400,7 +401,7 @@ module _ (serial : ℕ) (o : OnlineFacts) (old mid : Rack) (live : o.live ≡ tr
         by_block (inl first) = first
         by_block (inr (i, part, r, at, stands, source)) = absurd (let place = stands.at in (let no : ⊥ = omega (arith, place) in no))
 
-    -- before the mark there is no dump on the reel, whatever a failed write leaves
+    -- before the mark there is no dump on the reel, for any outcome of a failed write
     left_none : (how : Remains) → k + 1 < needs plan → (q : Reel) → ForSome q.blocks (λ bs. AreCompleted serial bs []) → ForSome (left_by how k (filled so.written q)).blocks (λ bs. AreCompleted serial bs [])
     left_none how less q was = by_list so.written so.long header
       where
@@ -550,7 +551,7 @@ module _ (serial : ℕ) (o : OnlineFacts) (old mid : Rack) (live : o.live ≡ tr
           shelved = shelved_with;
         }) either
 
-        -- BEHIND RELEASES
+        -- after releases
         module _ (lists : List Listed) (listed : AreListed old lists) (end : StoreFacts) (same : labels end.rack.reels ≡ labels old.reels) (live' : end.online.live ≡ true)
             (contents : end.online.contents ≡ moved_by serial o) (changed : end.online.changed ≡ []) where
           exit_released : (ns : List ℕ) (until : ℕ) (cut : Option ℕ) → AreShelved (without_all ns with_it) (told_reels end.rack) → ((n : ℕ) → has ns n ≡ true → (n < until) × (n ≢ serial))

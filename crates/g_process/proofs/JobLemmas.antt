@@ -1,4 +1,5 @@
 -- How the planning is answered, from the catalogue and from what is in memory.
+-- serves: first_lost (some), is_there (no, yes), lost, planned, BelongLemmas, PrepareLemmas
 use Rattle.std.proofs.Common.{◌≡◌, ◌≢◌, ℕ, zero, suc, ◌+◌, ◌<◌, ◌≤◌, Bool, true, false, List, [], ◌∷◌, get_or, length, map, take, Option, Some, None, refl, sym, ◌∙◌, ap, arith, subst, inl, inr, slice_get, option_map}
 use Rattle.std.specs.Prelude.{◌⊎◌, ◌↔◌, All, AllPairs, Contains, IsTrue, IsFalse, is_some}
 use Rattle.std.specs.Option.{ForSome}
@@ -53,7 +54,7 @@ pub living_are_files : (o : OnlineFacts) → All (IsOfFile o) (living o.contents
 living_are_files o k d within =
     of_file o (get_or (living o.contents) k d) (living_there o.contents (get_or (living o.contents) k d) (Contains-get_or (living o.contents) k d within))
 
--- a reel that tells is there
+-- a reel that exposes its contents exists
 told_there : (serial : ℕ) (rack : Rack) (blocks : List (List ℕ)) → blocks_of serial rack ≡ Some blocks → (r : Reel) × (reel serial rack.reels ≡ Some r)
 told_there serial rack blocks is = by_reel (reel serial rack.reels) is
   where
@@ -61,7 +62,7 @@ told_there serial rack blocks is = by_reel (reel serial rack.reels) is
     by_reel None none = absurd (none-some blocks none)
     by_reel (Some r) some = (r, refl)
 
--- THE CATALOGUE of the rack as it was
+-- the catalogue of the rack before
 module _ (serial : ℕ) (o : OnlineFacts) (old now : Rack) (lists : List Listed) (are : AreListed old lists) where
   -- what is noted there is held there
   pub held_by_list : (f : File) → Contains o.contents.files f → f.online ≡ false → IsThere o lists f.rec → IsHeld old f
@@ -227,7 +228,7 @@ pub named_in : (o : OnlineFacts) (r : FileRec) (users : List UserRec) (files : L
 named_in o r users files live tied there are_users are_files =
     ap (λ (us : List UserRec). name_of_file us files r.number) are_users ∙ ap (λ (fs : List FileRec). name_of_file o.contents.users fs r.number) are_files ∙ named_as o r live tied there
 
--- WHAT THE TEST of a file tells
+-- what the test of a file shows
 module _ (o : OnlineFacts) (lists : List Listed) (r : FileRec) (is : Bool) (tells : (f : File) → Contains o.contents.files f → f.rec.number ≡ r.number → is ≡ f.online) where
   pub there_online : is ≡ true → IsThere o lists r
   there_online on = record {

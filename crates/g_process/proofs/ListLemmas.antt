@@ -1,4 +1,5 @@
--- What the catalogue tells of a reel and of the files.
+-- What the catalogue shows of a reel and of the files.
+-- serves: AnswerLemmas, JobLemmas, PrepareLemmas
 use Rattle.std.proofs.Common.{◌≡◌, ℕ, zero, suc, ◌==◌, true, false, List, [], ◌∷◌, map, Some, refl, sym, ◌∙◌, arith, subst, inl, inr}
 use Rattle.std.specs.Prelude.{◌⊎◌, All, Contains}
 use Rattle.std.proofs.lemmas.Bool.{cond-false, cond-true}
@@ -70,7 +71,7 @@ some_noted : (dumps : List Dump) (notes : List DumpNote) → notes ≡ map note_
 some_noted [] notes is some none = some is
 some_noted (d ∷ ds) notes is some none = let no : ⊥ = cc in no
 
--- A REEL IS FREE where its list is empty, and else it is taken
+-- A REEL IS FREE if its list is empty, otherwise it is taken
 pub free_by_list : (serial : ℕ) (old new : Rack) (lists : List Listed) (r : Reel) → AreListed old lists → reel serial old.reels ≡ Some r → notes_at serial lists ≡ [] → IsFree serial old
 free_by_list serial old new lists r are at none =
     let noted = noted_at serial old new lists r are at in

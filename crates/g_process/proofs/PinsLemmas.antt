@@ -1,4 +1,5 @@
 -- The versions of the dump as if they had been pinned: their blocks are those of its content, and have the texts of the versions.
+-- serves: BelongLemmas, crates above
 use Rattle.std.proofs.Common.{◌≡◌, ℕ, zero, suc, ◌+◌, ◌<◌, ◌==◌, true, false, List, [], ◌∷◌, drop, length, map, take, Option, Some, refl, sym, ◌∙◌, ap, arith, subst, inl, inr, slice_get, get_or}
 use Rattle.std.specs.Prelude.{◌⊎◌, All, Contains}
 use Rattle.std.proofs.lemmas.Bool.{cases_Bool, cond-false, cond-true, eq-eqb}
@@ -121,7 +122,7 @@ pins_texts text serial at (r ∷ rs) content long blocks lens parts =
     all_cons one rest zero d inside = one
     all_cons one rest (suc k) d inside = rest k d (omega (arith, inside))
 
--- a version's copy is the same whatever copy it had
+-- a version's copy doesn't depend on the copy that it had
 pub copy_same : (serial at : ℕ) (rs : List FileRec) (r : FileRec) (a b : Option TapeCopy) → Contains rs r → copy_of (copies_from serial at rs) r.stamp a ≡ copy_of (copies_from serial at rs) r.stamp b
 copy_same serial at [] r a b (i, inside, is) = absurd (let no : ⊥ = omega (arith, inside) in no)
 copy_same serial at (q ∷ qs) r a b there = by_stamp (cases_Bool (q.stamp == r.stamp)) there (λ it. copy_same serial (at + blocks_for q.len) qs r a b it)

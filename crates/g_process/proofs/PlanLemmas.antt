@@ -1,4 +1,6 @@
--- The plan of a process keeps the rules of a plan, its versions are those that aren't empty, and their copies keep the rules of a directory.
+-- The plan of a process satisfies the rules of a plan, its versions are those that aren't empty, and their copies satisfy
+-- the rules of a directory.
+-- serves: copies_from, made_ready, writer_of, AnswerLemmas, BelongLemmas, ExitLemmas, JobLemmas, PrepareLemmas, crates above
 use Rattle.std.proofs.Common.{◌≡◌, ◌≢◌, ℕ, zero, suc, ◌+◌, ◌-◌, ◌^◌, ◌<◌, ◌≤◌, ◌==◌, Bool, true, false, List, [], ◌∷◌, ◌++◌, get_or, length, map, take, Option, Some, None, refl, sym, ◌∙◌, ap, arith, subst, inl, inr, slice_get}
 use Rattle.std.specs.Prelude.{◌⊎◌, ◌&&◌, All, AllPairs, Contains, IfOk, Result, Ok, Err, filter, is_some, nat_lt, slice_index}
 use Rattle.std.specs.List.Sorted.{IsStrictlyIncreasing}
@@ -215,7 +217,7 @@ version_there c r there =
 pub all_versions : (c : Contents) (r : FileRec) → IsRecords c.users (recs_in c) → Contains (recs_in c) r → 0 < r.len → Contains (versions c) r
 all_versions c r rules there some = filter_there (living c) r (lt-ltb 0 r.len some) (all_living c r rules there)
 
--- THEIR COPIES keep the rules
+-- THEIR COPIES satisfy the rules
 abbrev MayStand : ℕ × TapeCopy → Type 0
 MayStand c = IsCopy c.1
 
@@ -256,7 +258,7 @@ copied_apart serial at (q ∷ qs) stamp old apart =
     later : (p : FileRec) → Contains qs p → Contains (q ∷ qs) p
     later p (i, within, is) = (suc i, omega (arith, within), is)
 
--- two records of one key are one
+-- two records with the same key are equal
 pub key_one : (key : FileRec → ℕ) (rs : List FileRec) → AllPairs (λ (r s : FileRec). key r ≢ key s) rs → (r q : FileRec) → Contains rs r → Contains rs q → key q ≡ key r → q ≡ r
 key_one key rs apart r q in_r in_q same = one_of_key key rs q r apart in_q in_r same
 
@@ -300,7 +302,7 @@ made_ready serial at last o ready live tied named number low is =
           (empty_kept serial at o.contents rules.records) rules;
     }
 
--- ONE MORE COPY behind the others
+-- one more copy after the others
 pub copies_push : (serial at : ℕ) (rs : List FileRec) (r : FileRec) → copies_from serial at (rs ++ r ∷ []) ≡ copies_from serial at rs ++ (r.stamp, record { serial = serial; first = at + blocks_of rs }) ∷ []
 copies_push serial at [] r = ap (λ (n : ℕ). let c : TapeCopy = record { serial = serial; first = n } in (r.stamp, c) ∷ []) (let e : at ≡ at + 0 = omega arith in e)
 copies_push serial at (q ∷ qs) r =

@@ -1,4 +1,5 @@
 -- How the planning ends, by the catalogue and by what is in memory.
+-- serves: planned
 use Rattle.std.proofs.Common.{◌≡◌, ℕ, ◌+◌, ◌<◌, ◌≤◌, true, List, [], map, Some, Err, refl, sym, ◌∙◌, ap, subst}
 use Rattle.std.specs.Prelude.{All, Result}
 use Rattle.std.specs.Option.{ForSome}

@@ -1,4 +1,5 @@
 -- How PROCESS is answered, from what was prepared and from what was done.
+-- serves: AnswerLemmas
 use Rattle.std.proofs.Common.{◌≡◌, ℕ, ◌-◌, ◌^◌, ◌<◌, ◌==◌, Bool, true, false, List, [], ◌∷◌, map, Option, Some, None, Err, refl, sym, ◌∙◌, ap, arith, subst, inl, inr, option_map, if◌then◌else◌}
 use Rattle.std.specs.Prelude.{All, Result, find, is_none, is_some, not}
 use Rattle.std.specs.Option.{ForSome}
@@ -49,7 +50,7 @@ early_cases false None false n fault is = absurd (none-some fault is)
 pub is_early : (serial : ℕ) (o : OnlineFacts) (rack : Rack) (fault : StoreFault) → process_refuses serial (up_with o rack None) ≡ Some fault → IsEarly fault
 is_early serial o rack fault is = early_cases (is_none (reel serial rack.reels)) (first_unmounted rack.reels) (o.contents.head.last_dump == 2 ^ 62 - 1) 0 fault is
 
--- where none comes
+-- if no refusal applies
 granted_cases : (a : Bool) (u : Option ℕ) (b : Bool) (n : ℕ) → a ≡ false → u ≡ None → b ≡ false
     → first_fault ((a, NoTape) ∷ fault_from RackNotMounted u ∷ (false, DumpOpen n) ∷ (b, CountersSpent) ∷ []) ≡ None
 granted_cases false None false n is_there is_up unspent = refl
@@ -74,7 +75,7 @@ none_refused serial o rack granted =
     granted_cases (is_none (reel serial rack.reels)) (first_unmounted rack.reels) (o.contents.head.last_dump == 2 ^ 62 - 1) 0 (not_none (reel serial rack.reels) granted.there)
     (all_mounted rack.reels granted.mounted) (ne_eqb o.contents.head.last_dump (2 ^ 62 - 1) granted.unspent)
 
--- THE STORE behind a refusal that isn't a stop
+-- the store after a refusal that isn't a stop
 behind_quiet : (fault : StoreFault) (o : OnlineFacts) (rack : Rack) → (fault ≡ Stopped → ⊥) → (let r : Result ℕ StoreFault = Err fault in behind_process r o rack) ≡ up_with o rack None
 behind_quiet Stopped o rack other = absurd (other refl)
 behind_quiet fault o rack other = refl
@@ -111,7 +112,7 @@ store_up o rack live pins tied = record { tied = tied; live = λ _. live; open_d
 told_after : (o : OnlineFacts) (old new : Rack) → map unread new.reels ≡ map unread old.reels → Told (up_with o old None) → Told (up_with o new None)
 told_after o old new same told = record { disc = told.disc; each = record { each = subst (λ (rs : List Reel). All (λ r. is_some r.blocks ≡ true) rs) (sym same) told.each.each } }
 
--- A REFUSAL that comes neither of a read nor of a write
+-- a refusal that is due neither to a read nor to a write
 module _ (serial : ℕ) (o : OnlineFacts) (old new : Rack) (live : o.live ≡ true) (pins : o.pins ≡ None) (tied : IsTied o) (only : OnlyReads old new) (kept : new.read_faults ≡ old.read_faults)
     (fault : StoreFault) (never : IsLate fault → ⊥) where
   abbrev before : StoreFacts
@@ -158,8 +159,7 @@ module _ (serial : ℕ) (o : OnlineFacts) (old new : Rack) (live : o.live ≡ tr
     dump = λ _. refl;
   })
 
--- ALL OF THEM
--- known without a read, or behind one
+-- all of them, whether or not they need a read
 pub early_never : (fault : StoreFault) → IsEarly fault → IsLate fault → ⊥
 early_never TapeReadFault early late = early
 early_never DiscReadFault early late = early

@@ -1,4 +1,5 @@
--- A reel that is filled block by block from its first one on, beside the others, which are only read.
+-- A reel that is filled block by block from its first one on, while the others are only read.
+-- serves: AnswerLemmas, BecomeLemmas, DoneLemmas, EndLemmas, ExitLemmas, WriteLemmas
 use Rattle.std.proofs.Common.{◌≡◌, ℕ, ◌+◌, ◌<◌, ◌≤◌, Bool, List, [], ◌∷◌, ◌++◌, length, map, take, Option, Some, None, refl, sym, ◌∙◌, ap, arith, subst, inl, inr, option_map, eq-eqb, if◌then◌else◌}
 use Rattle.std.proofs.lemmas.Bool.Decides.{eqb_tells}
 use Rattle.std.proofs.lemmas.List.{length-append, take_all}
@@ -8,7 +9,7 @@ use Rattle.g_tape.specs.Reel.{Reel, ending}
 use Rattle.g_tape.proofs.ReadLemmas.{blocks_after_reads, reel-with_reel, reel-with_reel_other, reel_after_reads, then_read}
 use Rattle.g_process.specs.Progress.{IsBeside, filled}
 
--- ONE MORE BLOCK behind those that stand
+-- one more block after the present ones
 abbrev holding : ℕ → Option (List (List ℕ)) → Reel → Reel
 holding n blocks r = record r { len = n; blocks = blocks }
 
@@ -97,7 +98,7 @@ with_nothing s (r ∷ rs) =
           ∙ ap (λ (xs : List Reel). r ∷ xs) (with_nothing s rs)
     ]
 
--- COUNTS OF READS stay, where the change keeps them
+-- COUNTS OF READS stay, if the change keeps them
 mapped_times : (f : Reel → Reel) → ((r : Reel) → (f r).times_read ≡ r.times_read) → (o : Option Reel) → times_in (option_map f o) ≡ times_in o
 mapped_times f keeps None = refl
 mapped_times f keeps (Some r) = keeps r
@@ -132,7 +133,7 @@ beside_more old mid new one two = record {
   times = λ s k. omega (arith, one.times s k, two.times s k);
 }
 
--- a write behind them
+-- a write after them
 pub beside_changed : (s : ℕ) (f g h : Reel → Reel) (old mid new : Rack) → ((r : Reel) → (f r).serial ≡ r.serial) → ((r : Reel) → (f r).times_read ≡ r.times_read)
     → ((r : Reel) → unread (f r) ≡ f (unread r)) → ((r : Reel) → (g r).serial ≡ r.serial) → ((r : Reel) → (g r).times_read ≡ r.times_read)
     → ((r : Reel) → (h r).serial ≡ r.serial) → ((r : Reel) → (h r).times_read ≡ r.times_read) → ((r : Reel) → f (g r) ≡ h r)
@@ -181,7 +182,7 @@ read_beside s t k w old mid new so has =
           omega (arith, was, count);
     }
 
--- another reel is as it was but for reads
+-- another reel is unchanged except for its record of reads
 pub other_beside : (s t : ℕ) (w : List (List ℕ)) (old mid : Rack) → (s ≡ t → ⊥) → IsBeside (changed s (filled w) old) mid → option_map unread (reel t mid.reels) ≡ option_map unread (reel t old.reels)
 other_beside s t w old mid apart so =
     reel_after_reads t (record (changed s (filled w) old) { fuse = mid.fuse }) mid so ∙ ap (option_map unread) (reel-with_reel_other s t (filled w) (filled_serial w) apart old.reels)
@@ -190,7 +191,7 @@ pub blocks_beside : (s t : ℕ) (w : List (List ℕ)) (old mid : Rack) → (s �
 blocks_beside s t w old mid apart so =
     blocks_after_reads t (record (changed s (filled w) old) { fuse = mid.fuse }) mid so ∙ ap blocks_in (reel-with_reel_other s t (filled w) (filled_serial w) apart old.reels)
 
--- and this one as it was filled
+-- and this one is filled
 pub this_beside : (s : ℕ) (w : List (List ℕ)) (old mid : Rack) → IsBeside (changed s (filled w) old) mid → option_map unread (reel s mid.reels) ≡ option_map unread (option_map (filled w) (reel s old.reels))
 this_beside s w old mid so =
     reel_after_reads s (record (changed s (filled w) old) { fuse = mid.fuse }) mid so ∙ ap (option_map unread) (reel-with_reel s (filled w) (filled_serial w) old.reels)

@@ -1,4 +1,5 @@
--- The reels are released one behind the other, in rising serial.
+-- The reels are released one after another, in rising serial.
+-- serves: release (cut), AnswerLemmas, BecomeLemmas, ExitLemmas, JobLemmas, PlanLemmas, crates above
 use Rattle.std.proofs.Common.{◌≡◌, ℕ, zero, suc, ◌+◌, ◌≤◌, ◌==◌, Bool, true, false, List, [], ◌∷◌, ◌++◌, map, take, Option, Some, None, refl, sym, ◌∙◌, ap, arith, subst, inl, inr, option_map, if◌then◌else◌, slice_get, eq-eqb}
 use Rattle.std.specs.Prelude.{◌⊎◌, ◌||◌, All, Contains, filter}
 use Rattle.std.proofs.lemmas.Bool.{cases_Bool, cond-false, cond-true, ne_eqb}
@@ -95,7 +96,7 @@ released_now ss s r same = by_case (has ss r.serial) ∙ sym (cond-true (has (ss
 released_still : (ss : List ℕ) (s : ℕ) (r : Reel) → (s ≡ r.serial → ⊥) → released ss r ≡ released (ss ++ s ∷ []) r
 released_still ss s r apart = ap (λ (b : Bool). if b then ending 0 zeros r else r) (sym (has_other ss s r.serial apart))
 
--- serials rise, so none comes twice
+-- serials rise, so none occurs twice
 abbrev serials : List Reel → List ℕ
 serials rs = map (λ (r : Reel). r.serial) rs
 
@@ -108,7 +109,7 @@ still_all ss s (r ∷ rs) apart =
     later : (q : Reel) → Contains rs q → Contains (r ∷ rs) q
     later q (i, within, is) = (suc i, omega (arith, within), is)
 
--- no serial behind the first is the same
+-- no later serial equals the first
 abbrev pub AreApart : List Reel → Type 0
 AreApart [] = Unit {0}
 AreApart (r ∷ rs) = ((q : Reel) → Contains rs q → (q.serial ≡ r.serial → ⊥)) × AreApart rs

@@ -1,4 +1,5 @@
 -- A block of a version: where it is read, and what is known of it.
+-- serves: fill (fills), read_source (read), release (cut), write_block (writes)
 use Rattle.std.proofs.Common.{◌≡◌, ◌≢◌, ℕ, zero, suc, ◌+◌, ◌<◌, ◌≤◌, ◌^◌, Bool, true, false, List, [], ◌∷◌, get_or, map, option_map, Option, Some, None, Ok, Err, refl, sym, ◌∙◌, ap, arith, subst, inr, slice_get, if◌then◌else◌}
 use Rattle.std.specs.Prelude.{Contains, Result, nat_lt}
 use Rattle.std.specs.Option.{ForSome}
@@ -26,7 +27,7 @@ use Rattle.g_laws_store.specs.ForgottenCopies.{bare_rec}
 use Rattle.g_process.specs.Progress.{AreReadable, FailedAt, Fills, IsReadable, ReadsSource}
 use Rattle.g_process.proofs.WriteLemmas.{element, element_below, placed}
 
--- A DISC THAT WAS READ is as it was, but for the count of failed reads
+-- a disc after reads is unchanged, except for its count of failed reads
 abbrev disc_of : Option (List (List ℕ)) → ℕ → ℕ → ℕ → Option ℕ → Arms → ℕ → DiscState
 disc_of held size faults writes fuse arms reads = record { held = held; size = size; read_faults = reads; write_faults = faults; writes = writes; fuse = fuse; arms = arms }
 
@@ -46,7 +47,7 @@ pub online_same : (F : Type 0) (o o' : OnlineFacts) → o' ≡ record o { disc =
 online_same F o o' same r ok =
     online_failed F o o' same r ∙ ap (λ (n : ℕ). let x : OnlineFacts = record o { disc = record o.disc { read_faults = n } } in x) (r.kept ok)
 
--- what a read or a write that isn't refused says where it fails
+-- what is known after a failed read or write that isn't refused
 pub read_fails : (s k : ℕ) (old new : Rack) (fault : TapeFault) (into : List ℕ) → refuses_read k (reel s old.reels) ≡ None → (let r : Result (Unit {0}) TapeFault = Err fault in Reading s k old r into new)
     → Rose old.read_faults new.read_faults × (new ≡ record old { read_faults = new.read_faults })
 read_fails s k old new tapes.ReadFailed into free (refused, rose, is) = (rose, is)
@@ -94,7 +95,7 @@ module _ (o : OnlineFacts) (old : Rack) (r : FileRec) (part : ℕ) (serial : ℕ
     refl,
   )
 
-  -- or on tape alone
+  -- or only on tape
   pub the_copy : (is : Bool) → ((f : File) → Contains o.contents.files f → f.rec.number ≡ r.number → is ≡ f.online) → is ≡ false
       → (c : TapeCopy) × (r.tape ≡ Some c) × (c.serial ≢ serial) × (q : Reel) × (reel c.serial old.reels ≡ Some q) × (q.mounted ≡ true) × (c.first + blocks_for r.len ≤ q.len)
   the_copy is tells off =
@@ -174,7 +175,7 @@ filled_in serial p rs o rack k i part q (Ok u) block o' new are stands is (same,
     (same, inr (i, part, q, found.0, stands, source), only, kept)
 filled_in serial p rs o rack k i part q (Err fault) block o' new are stands is fails = fails
 
--- a write that was made burnt the fuse, and did nothing else besides
+-- a write that was made burnt the fuse, and did nothing else
 pub wrote : (s k : ℕ) (block : List ℕ) (old new : Rack) (u : Unit {0}) → (let r : Result (Unit {0}) TapeFault = Ok u in Writing s k block old r new) → new ≡ record (changed s (ending k block) old) { fuse = new.fuse }
 wrote s k block old new u (granted, unspent, is) =
     is ∙ ap (λ (f : Option ℕ). let x : Rack = record (changed s (ending k block) old) { fuse = f } in x) (sym (ap (λ (x : Rack). x.fuse) is))

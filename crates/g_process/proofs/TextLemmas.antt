@@ -1,4 +1,5 @@
 -- The blocks that were read have the texts of the versions, where disc and rack belong together.
+-- serves: ExitLemmas, crates above
 use Rattle.std.proofs.Common.{◌≡◌, ℕ, zero, suc, ◌+◌, ◌-◌, ◌<◌, Bool, true, false, List, [], ◌∷◌, drop, length, map, Option, Some, None, refl, sym, ◌∙◌, ap, arith, subst, slice_get, get_or}
 use Rattle.std.specs.Prelude.{All, Contains, IfSome, is_some}
 use Rattle.std.specs.Option.{ForSome, option_map}
@@ -29,7 +30,7 @@ use Rattle.g_dumper.proofs.NextLemmas.{at_content}
 use Rattle.g_process.specs.Progress.{IsReadable, IsSource}
 use Rattle.g_process.proofs.DumpLemmas.{from_drop, get_below}
 
--- a completed dump stands on its reel
+-- a completed dump lies on its reel
 pub record IsThere (serial : ℕ) (blocks : List (List ℕ)) (d : Dump) : Type 0 where
   pub on : d.serial ≡ serial
   pub stands : StandsOn blocks d
@@ -39,7 +40,7 @@ among serial blocks at from [] are d (i, inside, is) = absurd (let no : ⊥ = om
 among serial blocks at from (e ∷ es) (one, more) d (zero, inside, is) = subst (IsThere serial blocks) is (record { on = one.on; stands = one.stands })
 among serial blocks at from (e ∷ es) (one, more) d (suc i, inside, is) = among serial blocks (ends e) (e.number + 1) es more d (i, omega (arith, inside), is)
 
--- a file that is on the disc has bytes, where the disc tells
+-- a file that is on the disc has bytes, if the disc exposes them
 pub bytes_told : (o : OnlineFacts) → o.live ≡ true → IsTied o → is_some o.disc.held ≡ true → (f : File) → Contains o.contents.files f → f.online ≡ true → (t : List ℕ) × (f.bytes ≡ Some t)
 bytes_told o live tied told f there on =
     let (blocks, held) = told_is o.disc.held told in

@@ -1,4 +1,5 @@
--- The dump, block by block: what stands behind each write, and that the next one can be made.
+-- The dump, block by block: what holds after each write, and that the next one can be made.
+-- serves: copies_from, fill, first_lost (some), release (cut), write_blocks, AnswerLemmas, ContentLemmas, DumpLemmas, ExitLemmas, JobLemmas, and 3 more
 use Rattle.std.proofs.Common.{◌≡◌, ◌≢◌, ℕ, zero, suc, ◌+◌, ◌<◌, ◌≤◌, Bool, true, List, [], ◌∷◌, ◌++◌, get_or, length, Some, None, refl, sym, ◌∙◌, ap, arith, subst, inl, inr, map, option_map, if◌then◌else◌, slice_get}
 use Rattle.std.specs.Prelude.{◌⊎◌, ◌||◌, Contains, nat_lt, not}
 use Rattle.std.proofs.lemmas.Bool.{cond-true, le-ltb, lt-ltb}
@@ -109,7 +110,7 @@ nothing_written serial p rs o rack = record {
   kept = refl;
 }
 
--- reads behind it
+-- reads after it
 pub written_more : (serial : ℕ) (p : Plan) (rs : List FileRec) (o : OnlineFacts) (k : ℕ) (old mid new : Rack) → HasWritten serial p rs o k old mid → OnlyReads mid new → new.read_faults ≡ mid.read_faults
     → HasWritten serial p rs o k old new
 written_more serial p rs o k old mid new so only kept = record {

@@ -1,5 +1,6 @@
--- WHERE THE EVENT ENDED, over devices that tell and belong together: which completed dumps stand then, what the disc names, and what became
--- of each reel. `text` and `shelf` are the bytes of the versions and the completed dumps before it.
+-- Where PROCESS ended, on devices that expose their contents and belong together: which completed dumps exist then, what
+-- the disc names, and what happened to each reel. `text` and `shelf` are the bytes of the versions and the completed dumps
+-- before it.
 use Rattle.std.specs.Prelude.{◌≡◌, ◌≢◌, ◌⊎◌, ℕ, ◌+◌, ◌<◌, ◌≤◌, ◌==◌, true, not, ◌&&◌, nat_lt, List, [], All, Contains, IfSome, Option, Some, None, Result, Ok, Err, length, map, take, slice_get, if◌then◌else◌}
 use Rattle.std.specs.List.{AllZip}
 use Rattle.std.specs.Option.{ForSome}
@@ -21,17 +22,19 @@ use Rattle.g_store_meaning.specs.StoreInvariant.{StoreFacts, with_dump}
 use Rattle.g_process.specs.NamedCopies.{intended_by, moved_by}
 use Rattle.g_process.specs.ProcessPlan.{IsFree, IsTaken, process_plan, versions}
 
--- the blocks of the content have the texts of the versions, one behind the other
+-- The blocks of the content have the texts of the versions, one after another.
 abbrev pub AreParts : (ℕ → List ℕ) → List FileRec → List (List ℕ) → Type 0
 AreParts text rs content = (i part : ℕ) (r : FileRec) (b : List ℕ) → slice_get rs i ≡ Some r → part < blocks_for r.len → slice_get content (blocks_of (take i rs) + part) ≡ Some b → IsPart (text r.stamp) part b
 
+-- The content has the right number of blocks, each of 512 bytes, and they contain the texts of the versions, which have the
+-- right lengths.
 pub record IsContentOf (text : ℕ → List ℕ) (serial : ℕ) (o : OnlineFacts) (content : List (List ℕ)) : Type 0 where
   pub long : length content ≡ content_blocks (process_plan serial o)
   pub blocks : All IsBlock content
   pub lens : All (λ r. length (text r.stamp) ≡ r.len) (versions o.contents)
   pub parts : AreParts text (versions o.contents) content
 
--- behind the refusals: the reel is there, has no completed dump, and room
+-- No refusal occurred before the first write: the reel exists, has no completed dump, and has room.
 pub record MayFill (serial : ℕ) (old : StoreFacts) : Type 0 where
   pub on : Reel
   pub reel_is : reel serial old.rack.reels ≡ Some on
@@ -40,20 +43,21 @@ pub record MayFill (serial : ℕ) (old : StoreFacts) : Type 0 where
   pub free : IsFree serial old.rack
   pub rules : IsPlan (process_plan serial old.online)
 
--- the completed dumps without those of the reels below a serial, the new dump's apart
+-- The completed dumps without those of the reels with lower serials than `until`, except the reel of the new dump.
 abbrev pub cleared : ℕ → ℕ → (ℕ → List Dump) → ℕ → List Dump
 cleared serial until shelf n = if nat_lt n until && not (n == serial) then [] else shelf n
 
--- only the reel that is written may have changed, but for reads
+-- The reel is the one that is written, or nothing but its record of reads has changed.
 abbrev pub IsReadBy : ℕ → Reel → Reel → Type 0
 IsReadBy serial r q = (r.serial ≡ serial) ⊎ (unread q ≡ unread r)
 
--- the reel of the new dump isn't empty, and every other is as it was but for reads
+-- The reel of the new dump isn't empty. Every other reel is unchanged except for its record of reads.
 abbrev pub IsBesideDump : ℕ → Reel → Reel → Type 0
 IsBesideDump serial r q = ((r.serial ≡ serial) × (0 < q.len)) ⊎ ((r.serial ≢ serial) × (unread q ≡ unread r))
 
--- the releases came up to a serial: of the reels below it those that had a completed dump have a block, or aren't known to, where the
--- release was cut; all others are as they were
+-- The releases reached the serial `until`. The reel of the new dump isn't empty. Of the other reels below `until`, those
+-- that had a completed dump now have a block, unless theirs is the interrupted release. All others are unchanged except for
+-- their record of reads.
 abbrev pub IsClearedBy : ℕ → ℕ → Option ℕ → Rack → Reel → Reel → Type 0
 IsClearedBy serial until cut old r q =
     ((r.serial ≡ serial) × (0 < q.len))
@@ -61,15 +65,15 @@ IsClearedBy serial until cut old r q =
     × (((until ≤ r.serial) × (unread q ≡ unread r))
     ⊎ ((r.serial < until) × ((IsFree r.serial old × (unread q ≡ unread r)) ⊎ (IsTaken r.serial old × ((0 < q.len) ⊎ (cut ≡ Some r.serial)))))))
 
--- the release that was cut is the last one
+-- The interrupted release, if there is one, is the last one.
 abbrev pub IsLastCut : ℕ → ℕ → Rack → Option ℕ → Type 0
 IsLastCut serial until old cut = IfSome cut (λ n. (until ≡ n + 1) × (n ≢ serial) × IsTaken n old × Contains (map (λ r. r.serial) old.reels) n)
 
--- the new dump
+-- The new dump.
 abbrev pub new_dump : ℕ → OnlineFacts → List (List ℕ) → Dump
 new_dump serial o content = dump_of (process_plan serial o) content
 
--- ended before the dump was completed
+-- PROCESS ended before the dump was completed.
 pub record LacksMark (shelf : ℕ → List Dump) (serial : ℕ) (old new : StoreFacts) : Type 0 where
   pub may : MayFill serial old
   pub live : new.online.live ≡ true
@@ -78,7 +82,7 @@ pub record LacksMark (shelf : ℕ → List Dump) (serial : ℕ) (old new : Store
   pub reels : AllZip (IsReadBy serial) old.rack.reels new.rack.reels
   pub shelved : AreShelved shelf (told_reels new.rack)
 
--- the dump stands whole, and no reel was released
+-- The dump is completed, and no reel was released.
 pub record HasCompleted (text : ℕ → List ℕ) (shelf : ℕ → List Dump) (serial : ℕ) (old new : StoreFacts) : Type 0 where
   pub may : MayFill serial old
   pub content : List (List ℕ)
@@ -86,7 +90,7 @@ pub record HasCompleted (text : ℕ → List ℕ) (shelf : ℕ → List Dump) (s
   pub reels : AllZip (IsBesideDump serial) old.rack.reels new.rack.reels
   pub shelved : AreShelved (with_dump (new_dump serial old.online content) shelf) (told_reels new.rack)
 
--- the new copies are noted, and reels below a serial are released
+-- The new copies are noted, and the reels below some serial are released.
 pub record HasReleased (text : ℕ → List ℕ) (shelf : ℕ → List Dump) (serial : ℕ) (old new : StoreFacts) : Type 0 where
   pub may : MayFill serial old
   pub content : List (List ℕ)
@@ -100,7 +104,8 @@ pub record HasReleased (text : ℕ → List ℕ) (shelf : ℕ → List Dump) (se
   pub reels : AllZip (IsClearedBy serial until cut old.rack) old.rack.reels new.rack.reels
   pub shelved : AreShelved (cleared serial until (with_dump (new_dump serial old.online content) shelf)) (told_reels new.rack)
 
--- A STOP, at the intent, before the mark stood, at the mark, at the commit of the new copies, at a release
+-- PROCESS stopped: at the intent, before the mark was written, at the mark, at the commit of the new copies, or at a
+-- release.
 pub data Stops (text : ℕ → List ℕ) (shelf : ℕ → List Dump) (serial : ℕ) (old new : StoreFacts) : Type 0 where
   StopsIntent : MayFill serial old → ForSome new.online.disc.held (λ blocks. Holds blocks old.online.contents ⊎ Holds blocks (intended_by serial old.online))
       → map unread new.rack.reels ≡ map unread old.rack.reels → Stops text shelf serial old new
@@ -110,10 +115,11 @@ pub data Stops (text : ℕ → List ℕ) (shelf : ℕ → List Dump) (serial : �
       → Stops text shelf serial old new
   StopsRelease : HasReleased text shelf serial old new → Stops text shelf serial old new
 
--- nothing was written
+-- Nothing was written.
 abbrev pub Untouched : StoreFacts → StoreFacts → Type 0
 Untouched old new = (new.online ≡ old.online) × (map unread new.rack.reels ≡ map unread old.rack.reels)
 
+-- Where PROCESS ended, by its answer. After any other refusal nothing was written.
 abbrev pub Exits : (ℕ → List ℕ) → (ℕ → List Dump) → ℕ → StoreFacts → Result ℕ StoreFault → StoreFacts → Type 0
 Exits text shelf serial old (Ok number) new = (number ≡ old.online.contents.head.last_dump + 1)
     × ((is : HasReleased text shelf serial old new) × (is.cut ≡ None) × All (λ r. r.serial < is.until) old.rack.reels)

@@ -1,4 +1,4 @@
--- WHAT IS MADE READY before anything is written, why nothing is, and what is done then.
+-- What is prepared before anything is written, the reasons why nothing is written, and what is done afterwards.
 use Rattle.std.specs.Prelude.{◌≡◌, ◌≢◌, ◌⊎◌, ℕ, ◌+◌, ◌-◌, ◌^◌, ◌<◌, true, false, List, [], map, All, Some, None, is_some, Result, Ok, Err}
 use Rattle.std.specs.Option.{ForSome}
 use Rattle.g_base.specs.Counts.{Rose, RoseBy}
@@ -27,16 +27,18 @@ use Rattle.g_process.specs.Processing.{process_refuses}
 use Rattle.g_process.specs.Releases.{AreReleased, IsCutAt, taken}
 use Rattle.g_process.specs.Progress.{HasWritten, FailedAt, FailsReading, MayWrite}
 
--- nothing is refused without a read
+-- No refusal that needs no read applies.
 pub record IsGranted (serial : ℕ) (o : OnlineFacts) (rack : Rack) : Type 0 where
   pub there : is_some (reel serial rack.reels) ≡ true
   pub mounted : All (λ r. r.mounted ≡ true) rack.reels
   pub unspent : o.contents.head.last_dump ≢ 2 ^ 62 - 1
 
+-- The copies of all versions in the dump of this job, by stamp.
 abbrev pub copies_of : Job → OnlineFacts → List (ℕ × TapeCopy)
 copies_of job o = copies_from job.serial (first_content job.writer) (versions o.contents)
 
--- WHAT IS ASKED before the first write: the copies are made ready, each version can be read, and every reel can be written
+-- What is required before the first write: the copies are prepared, each version can be read, and every reel can be
+-- written.
 pub record MayCarry (o : OnlineFacts) (rack : Rack) (job : Job) : Type 0 where
   pub number_is : job.number ≡ o.contents.head.last_dump + 1
   pub intent_is : intent_of job.writer ≡ record { serial = job.serial; place = 0; number = job.number }
@@ -46,7 +48,7 @@ pub record MayCarry (o : OnlineFacts) (rack : Rack) (job : Job) : Type 0 where
   pub mounted : All (λ r. r.mounted ≡ true) rack.reels
   pub serials : map (λ l. l.serial) job.lists.items ≡ map (λ r. r.serial) rack.reels
 
--- THE JOB
+-- The prepared job.
 pub record IsPrepared (serial : ℕ) (o : OnlineFacts) (old new : Rack) (job : Job) : Type 0 where
   pub serial_is : job.serial ≡ serial
   pub plan : job.writer ≡ process_plan serial o
@@ -56,7 +58,7 @@ pub record IsPrepared (serial : ℕ) (o : OnlineFacts) (old new : Rack) (job : J
   pub kept : new.read_faults ≡ old.read_faults
   pub may : MayCarry o new job
 
--- what is known of all reels is what an event wants that isn't refused without a read
+-- What is known of all reels, if no refusal that needs no read applies.
 pub record IsCatalogued (serial : ℕ) (o : OnlineFacts) (old new : Rack) (lists : List Listed) : Type 0 where
   pub granted : IsGranted serial o old
   pub reels : AreReels old.reels
@@ -64,7 +66,7 @@ pub record IsCatalogued (serial : ℕ) (o : OnlineFacts) (old new : Rack) (lists
   pub kept : new.read_faults ≡ old.read_faults
   pub listed : AreListed old lists
 
--- what of it is in memory alone
+-- The part of the job that is only in memory.
 pub record IsJob (serial : ℕ) (o : OnlineFacts) (writer : Plan) (lists : List Listed) (job : Job) : Type 0 where
   pub serial_is : job.serial ≡ serial
   pub number_is : job.number ≡ o.contents.head.last_dump + 1
@@ -73,7 +75,7 @@ pub record IsJob (serial : ℕ) (o : OnlineFacts) (writer : Plan) (lists : List 
   pub lists_are : job.lists.items ≡ lists
   pub ready : IsReadyFor job.number (copies_from serial (first_content (process_plan serial o)) (versions o.contents)) job.ready o
 
--- WHY NOTHING IS DONE, once the catalogues of the reels were asked for
+-- Why nothing is written, once the catalogues of the reels have been read.
 abbrev pub RefusesLate : ℕ → OnlineFacts → Rack → Rack → StoreFault → Type 0
 RefusesLate serial o old new TapeReadFault = Rose old.read_faults new.read_faults
 RefusesLate serial o old new (ReelNotFree n) = (n ≡ serial) × IsTaken serial old × (new.read_faults ≡ old.read_faults)
@@ -86,20 +88,20 @@ RefusesLate serial o old new (TapeFull need room) =
 RefusesLate serial o old new NoMemory = new.read_faults ≡ old.read_faults
 RefusesLate serial o old new fault = ⊥
 
--- what is planned by the catalogue
+-- What is planned from the catalogues.
 abbrev pub PlansJob : ℕ → OnlineFacts → Rack → Rack → Result Job StoreFault → Type 0
 PlansJob serial o old new (Ok job) = IsPrepared serial o old new job
 PlansJob serial o old new (Err TapeReadFault) = ⊥
 PlansJob serial o old new (Err fault) = RefusesLate serial o old new fault
 
--- the job, or a refusal: of those that are known without a read, or of the others
+-- The job, or a refusal: one that needs no read, or one of the others.
 abbrev pub Preparing : ℕ → OnlineFacts → Rack → Result Job StoreFault → Rack → Type 0
 Preparing serial o old (Ok job) new = IsGranted serial o old × IsPrepared serial o old new job
 Preparing serial o old (Err fault) new =
     ((process_refuses serial (up_with o old None) ≡ Some fault) × (new ≡ old))
     ⊎ (IsGranted serial o old × RefusesLate serial o old new fault)
 
--- THE INTENT is on the disc, by one commit, and nothing else has changed
+-- One commit wrote the intent, and nothing else has changed.
 pub record HasIntended (i : Intent) (o new : OnlineFacts) : Type 0 where
   pub live : new.live ≡ true
   pub contents : new.contents ≡ with_intent (Some i) o.contents
@@ -113,7 +115,7 @@ pub record HasIntended (i : Intent) (o new : OnlineFacts) : Type 0 where
   pub causes : Causes ⊥ ⊥ o.disc new.disc
   pub tied : IsTied new
 
--- or its commit was stopped
+-- The commit of the intent was stopped.
 pub record StoppedIntending (i : Intent) (o new : OnlineFacts) : Type 0 where
   pub live : new.live ≡ false
   pub told : is_some new.disc.held ≡ is_some o.disc.held
@@ -121,14 +123,14 @@ pub record StoppedIntending (i : Intent) (o new : OnlineFacts) : Type 0 where
   pub causes : Causes ⊥ (Unit {0}) o.disc new.disc
   pub tied : IsTied new
 
--- the dump stands whole on its reel, and the disc names it
+-- The dump is completed on its reel, and the disc names it.
 pub record HasMoved (job : Job) (o : OnlineFacts) (old : Rack) (o' : OnlineFacts) (new : Rack) : Type 0 where
   pub begun : OnlineFacts
   pub intended : HasIntended (intent_of job.writer) o begun
   pub written : HasWritten job.serial job.writer job.versions.items begun (needs job.writer) old new
   pub adopted : IsAdopting job.number (copies_of job o) begun o' (Ok tt)
 
--- A STOP, at each kind of write: of the intent, of a block of the dump, of the new copies, of a release
+-- A stop at each kind of write: of the intent, of a block of the dump, of the new copies, of a release.
 pub data StopsAt (job : Job) (o : OnlineFacts) (old : Rack) (o' : OnlineFacts) (new : Rack) : Type 0 where
   AtIntent : StoppedIntending (intent_of job.writer) o o' → new ≡ old → StopsAt job o old o' new
   AtBlock : HasIntended (intent_of job.writer) o o' → (k : ℕ) → k < needs job.writer → (mid : Rack) → HasWritten job.serial job.writer job.versions.items o' k old mid
@@ -137,7 +139,7 @@ pub data StopsAt (job : Job) (o : OnlineFacts) (old : Rack) (o' : OnlineFacts) (
       → IsAdopting job.number (copies_of job o) begun o' (Err online.Stopped) → StopsAt job o old o' new
   AtRelease : (mid : Rack) → HasMoved job o old o' mid → IsCutAt job.serial job.lists.items mid new → StopsAt job o old o' new
 
--- a read failed behind the intent
+-- A read failed after the intent was written.
 pub record FailsCarrying (job : Job) (o : OnlineFacts) (old : Rack) (fault : StoreFault) (o' : OnlineFacts) (new : Rack) : Type 0 where
   pub begun : OnlineFacts
   pub intended : HasIntended (intent_of job.writer) o begun
@@ -147,7 +149,7 @@ pub record FailsCarrying (job : Job) (o : OnlineFacts) (old : Rack) (fault : Sto
   pub written : HasWritten job.serial job.writer job.versions.items begun at old mid
   pub fails : FailsReading fault begun o' mid new
 
--- WHAT IS DONE with a job
+-- What is done with a job.
 abbrev pub CarriesOut : Job → OnlineFacts → Rack → Result ℕ StoreFault → OnlineFacts → Rack → Type 0
 CarriesOut job o old (Ok number) o' new = (number ≡ job.number) × (mid : Rack) × HasMoved job o old o' mid × AreReleased (taken job.serial job.lists.items) mid new
 CarriesOut job o old (Err Stopped) o' new = StopsAt job o old o' new

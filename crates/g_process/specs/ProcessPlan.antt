@@ -1,4 +1,4 @@
--- WHAT PROCESS WRITES: a dump at block 0 that holds every directory and the bytes of every version.
+-- What PROCESS writes: a dump at block 0 that holds every directory and the bytes of every version.
 use Rattle.std.specs.Prelude.{◌≡◌, ◌⊎◌, ℕ, ◌+◌, ◌<◌, Bool, false, List, [], ◌∷◌, filter, nat_lt, Contains, Some}
 use Rattle.std.specs.Option.{ForSome}
 use Rattle.g_base.specs.Block.{blocks_for}
@@ -15,46 +15,49 @@ use Rattle.g_shelf.specs.HeldBlocks.{AreHeld}
 use Rattle.g_dumper.specs.Beginning.{held_of, plan_of}
 use Rattle.g_laws_store.specs.ForgottenCopies.{bare, every_user}
 
--- the filestore as if no version had a copy and every directory had changed
+-- The filestore as if no version had a copy and every directory had changed.
 abbrev pub forgotten_online : OnlineFacts → OnlineFacts
 forgotten_online o = record o { contents = bare o.contents; changed = every_user o.contents }
 
--- THE PLAN is that of a dump that is opened of it at block 0
+-- The plan is that of a dump which that filestore opens at block 0.
 abbrev pub process_plan : ℕ → OnlineFacts → Plan
 process_plan serial o = plan_of serial 0 (forgotten_online o)
 
--- THE VERSIONS: the files of all users that aren't empty, by owner, then by number, as their records are
+-- The versions: the files of all users that aren't empty, by owner, then by number, with their current records.
 abbrev pub living : Contents → List FileRec
 living c = held_of (every_user c) (recs_in c)
 
+-- Whether the file isn't empty.
 abbrev pub is_filled : FileRec → Bool
 is_filled r = nat_lt 0 r.len
 
+-- The files of all users that aren't empty, in the order of a dump.
 abbrev pub versions : Contents → List FileRec
 versions c = filter is_filled (living c)
 
--- the copies that they get, by stamp, each behind the one before it
+-- The copies that they get, by stamp, end to end.
 abbrev pub copies_from : ℕ → ℕ → List FileRec → List (ℕ × TapeCopy)
 copies_from serial at [] = []
 copies_from serial at (r ∷ rs) = (r.stamp, record { serial = serial; first = at }) ∷ copies_from serial (at + blocks_for r.len) rs
 
--- WHETHER A REEL IS FREE: where it tells what it holds, it has no completed dump, or it has one
+-- Whether a reel is free: if it exposes its contents, it has no completed dump (`IsFree`), or it has one (`IsTaken`).
 pub record IsFree (serial : ℕ) (rack : Rack) : Type 0 where
   pub none : ForSome (blocks_of serial rack) (λ blocks. (dumps : List Dump) → AreCompleted serial blocks dumps → dumps ≡ [])
 
+-- If the reel exposes its contents, it has a completed dump.
 pub record IsTaken (serial : ℕ) (rack : Rack) : Type 0 where
   pub some : ForSome (blocks_of serial rack) (λ blocks. (dumps : List Dump) → AreCompleted serial blocks dumps → dumps ≡ [] → ⊥)
 
--- the bytes of an offline file lie in the completed dumps of its reel, where that tells
+-- The bytes of an offline file lie in the completed dumps of its reel, if the reel exposes its contents.
 pub record IsHeld (rack : Rack) (f : File) : Type 0 where
   pub held : (copy : TapeCopy) → f.rec.tape ≡ Some copy → ForSome (blocks_of copy.serial rack) (λ blocks. (dumps : List Dump) → AreCompleted copy.serial blocks dumps
       → AreHeld dumps copy (blocks_for f.rec.len))
 
--- by owner, then by number
+-- The order of files: by owner, then by number.
 abbrev pub ComesBefore : File → File → Type 0
 ComesBefore f g = (f.rec.owner < g.rec.owner) ⊎ ((f.rec.owner ≡ g.rec.owner) × (f.rec.number < g.rec.number))
 
--- THE FIRST LOST FILE: it is offline and its bytes aren't there; those of each offline file before it are
+-- The first lost file: it is offline and its bytes aren't on tape, but those of each offline file before it are.
 pub record IsFirstLost (o : OnlineFacts) (rack : Rack) (f : File) (copy : TapeCopy) : Type 0 where
   pub there : Contains o.contents.files f
   pub offline : f.online ≡ false

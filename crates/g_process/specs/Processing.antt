@@ -1,4 +1,5 @@
--- HOW PROCESS IS ANSWERED, by `g_process` and by a store: its step, its refusals, its causes, and what became of the reels.
+-- How PROCESS is answered, by `g_process` and by a store: its step, its refusals, its causes, and what happened to the
+-- reels.
 use Rattle.std.specs.List.{AllZip}
 use Rattle.std.specs.Prelude.{◌≡◌, ◌≢◌, ◌⊎◌, ℕ, ◌+◌, ◌-◌, ◌^◌, ◌<◌, ◌≤◌, ◌↔◌, ◌==◌, true, false, List, [], ◌∷◌, All, Option, Some, None, IfErr, is_some, is_none, Result, Ok, Err, slice_get, take, map}
 use Rattle.std.specs.Option.{ForSome}
@@ -31,11 +32,12 @@ use Rattle.g_process.specs.ProcessPlan.{IsFirstLost, IsFree, IsTaken, process_pl
 use Rattle.g_process.specs.Releases.{zeros}
 use Rattle.g_process.specs.Progress.{IsSource}
 
+-- The number of the open dump, or 0.
 abbrev pub open_number : Option DumpFacts → ℕ
 open_number None = 0
 open_number (Some d) = d.plan.number
 
--- THE REFUSALS before a reel is read: they go by labels and mounts and by what is in memory, which are always told
+-- The refusals before a reel is read. They depend on labels, on what is mounted and on memory, which are always known.
 abbrev pub process_refuses : ℕ → StoreFacts → Option StoreFault
 process_refuses serial s = first_fault (
     (is_none (reel serial s.rack.reels), NoTape)
@@ -44,7 +46,7 @@ process_refuses serial s = first_fault (
     ∷ (s.online.contents.head.last_dump == 2 ^ 62 - 1, CountersSpent)
     ∷ [])
 
--- and all others that there are
+-- All other refusals that exist.
 abbrev pub MayRefuse : StoreFault → Type 0
 MayRefuse TapeReadFault = Unit {0}
 MayRefuse (ReelNotFree serial) = Unit {0}
@@ -55,15 +57,15 @@ MayRefuse Stopped = Unit {0}
 MayRefuse NoMemory = Unit {0}
 MayRefuse fault = ⊥
 
--- behind these something may have been written
+-- After these something may have been written.
 abbrev pub IsLate : StoreFault → Type 0
 IsLate TapeReadFault = Unit {0}
 IsLate DiscReadFault = Unit {0}
 IsLate Stopped = Unit {0}
 IsLate fault = ⊥
 
--- EACH COUNT of failures moves with its own answer alone; a stop is one write, of the disc or of the tapes; the disc's count of writes
--- never falls, nobody arms a device, and the reels are the same ones, mounted as they were
+-- Each fault counter rises only with its own answer; a stop is one failed write, of the disc or of the tapes. The disc's
+-- write counter never falls, no device is armed, and the reels are the same ones, mounted as before.
 pub record ProcessCause (old new : StoreFacts) (answer : Result ℕ StoreFault) : Type 0 where
   pub size : new.online.disc.size ≡ old.online.disc.size
   pub later : old.online.disc.writes ≤ new.online.disc.writes
@@ -79,7 +81,8 @@ pub record ProcessCause (old new : StoreFacts) (answer : Result ℕ StoreFault) 
       ⊎ (Rose old.rack.write_faults new.rack.write_faults × (new.online.disc.write_faults ≡ old.online.disc.write_faults))
   pub uncut : (answer ≡ Err Stopped → ⊥) → (new.online.disc.write_faults ≡ old.online.disc.write_faults) × (new.rack.write_faults ≡ old.rack.write_faults)
 
--- THE DISC: two commits; none or the first where a read failed; none with any other refusal, and no other write of the disc
+-- The commits on the disc: two if PROCESS is done, one after a failed read of the disc, none or one after a failed read of
+-- tape, none after any other refusal; and no other write of the disc. After a stop the number isn't specified.
 abbrev pub Wrote : StoreFacts → Result ℕ StoreFault → StoreFacts → Type 0
 Wrote old (Ok number) new = WroteCommits 2 old new
 Wrote old (Err Stopped) new = Unit {0}
@@ -87,39 +90,43 @@ Wrote old (Err DiscReadFault) new = WroteCommits 1 old new
 Wrote old (Err TapeReadFault) new = WroteCommits 0 old new ⊎ WroteCommits 1 old new
 Wrote old (Err fault) new = WroteCommits 0 old new
 
--- THE REELS: the dump fills one up to its mark; of the others each that had a completed dump has the one block of zeros, and each that
--- had none is as it was, but for reads
-
+-- A released reel has exactly one block, of zeros.
 pub record IsReleased (r : Reel) : Type 0 where
   pub len : r.len ≡ 1
   pub block : ForSome r.blocks (λ blocks. blocks ≡ zeros ∷ [])
 
--- another reel than the one that is written: free, and as it was but for reads; or it had a dump, and this became of it
+-- Another reel than the one that is written. It was free, and is unchanged except for its record of reads, or it had a
+-- dump, and `Became` says what happened to it.
 abbrev pub IsOther : ℕ → Rack → (Reel → Reel → Type 0) → Reel → Reel → Type 0
 IsOther serial old Became r q = (r.serial ≢ serial) × ((IsFree r.serial old × (unread q ≡ unread r)) ⊎ (IsTaken r.serial old × Became r q))
 
+-- The reel that was written has exactly the blocks of the dump. Each other reel is unchanged except for its record of reads
+-- if it was free, and released otherwise.
 abbrev pub IsLeftBy : ℕ → ℕ → Rack → Reel → Reel → Type 0
 IsLeftBy serial need old r q = ((r.serial ≡ serial) × (q.len ≡ need)) ⊎ IsOther serial old (λ x y. IsReleased y) r q
 
--- stopped: it is as it was, or released, or its release was cut
+-- After a stop each other reel that had a dump is unchanged, or released, or its release was interrupted.
 abbrev pub IsCutBy : ℕ → Rack → Reel → Reel → Type 0
 IsCutBy serial old r q = (r.serial ≡ serial) ⊎ IsOther serial old (λ x y. (unread y ≡ unread x) ⊎ (IsReleased y ⊎ ((how : Remains) × (unread y ≡ unread (left_by how 0 x))))) r q
 
--- each block of the copy of an offline file was read in this call
+-- The number of blocks of the versions before the i-th.
 abbrev pub blocks_in_front : ℕ → List FileRec → ℕ
 blocks_in_front i rs = blocks_of (take i rs)
 
+-- Each block of the copy of an offline file was read in this call.
 abbrev pub HasReadFile : StoreFacts → StoreFacts → File → Type 0
 HasReadFile old new f = f.online ≡ false → (copy : TapeCopy) → f.rec.tape ≡ Some copy → (i : ℕ) → copy.first ≤ i → i < copy.first + blocks_for f.rec.len → HasRead copy.serial i old.rack new.rack
 
--- THE DUMP is the only one on its reel: that of the plan, in which each block of each version was read from the disc where it is on it, else
--- from its copy
+-- The dump is the only one on its reel. It is that of the plan, and each block of each version was read from the disc if
+-- the file is there, otherwise from its copy.
 pub record IsDumped (serial : ℕ) (old : StoreFacts) (new : Rack) (blocks : List (List ℕ)) : Type 0 where
   pub content : List (List ℕ)
   pub completed : AreCompleted serial blocks (dump_of (process_plan serial old.online) content ∷ [])
   pub sources : (i part : ℕ) (r : FileRec) → slice_get (versions old.online.contents) i ≡ Some r → part < blocks_for r.len
       → (block : List ℕ) × (slice_get content (blocks_in_front i (versions old.online.contents) + part) ≡ Some block) × IsSource old.online old.rack new r part block
 
+-- PROCESS was done. The disc names the new copies, no user counts as changed, the dump is the only one on its reel, all
+-- other reels have none, and every offline file was read.
 pub record HasProcessed (serial number : ℕ) (old new : StoreFacts) : Type 0 where
   pub number_is : number ≡ old.online.contents.head.last_dump + 1
   pub contents : new.online.contents ≡ moved_by serial old.online
@@ -131,8 +138,8 @@ pub record HasProcessed (serial number : ℕ) (old new : StoreFacts) : Type 0 wh
   pub reels : AllZip (IsLeftBy serial (needs (process_plan serial old.online)) old.rack) old.rack.reels new.rack.reels
   pub read : All (HasReadFile old new) old.online.contents.files
 
--- A STOP: at a write of the intent's commit; at one of the dump; at one of the commit behind it; or at a release. A reel is released only
--- where the disc names the copies in the dump, which stands whole then.
+-- What a stop leaves: at a write of the intent's commit, at one of the dump, at one of the next commit, or at a release. A
+-- reel is released only once the disc names the copies in the dump, which is complete by then.
 pub data StopLeaves (serial : ℕ) (old new : StoreFacts) : Type 0 where
   CutIntent : ForSome new.online.disc.held (λ blocks. Holds blocks old.online.contents ⊎ Holds blocks (intended_by serial old.online))
       → map unread new.rack.reels ≡ map unread old.rack.reels → StopLeaves serial old new
@@ -142,12 +149,13 @@ pub data StopLeaves (serial : ℕ) (old new : StoreFacts) : Type 0 where
   CutRelease : new.online.live ≡ true → new.online.contents ≡ moved_by serial old.online
       → ForSome (blocks_at serial new.rack) (IsDumped serial old new.rack) → AllZip (IsCutBy serial old.rack) old.rack.reels new.rack.reels → StopLeaves serial old new
 
--- a failed read leaves the disc as it was, or with the intent
+-- A failed read leaves the disc unchanged, or with the intent.
 pub record ReadLeaves (serial : ℕ) (old new : StoreFacts) : Type 0 where
   pub contents : (new.online.contents ≡ old.online.contents) ⊎ (new.online.contents ≡ intended_by serial old.online)
   pub changed : new.online.changed ≡ old.online.changed
   pub reels : AllZip (IsReadBy serial) old.rack.reels new.rack.reels
 
+-- What PROCESS did, by its answer. After any other refusal this specifies nothing.
 abbrev pub Does : ℕ → StoreFacts → Result ℕ StoreFault → StoreFacts → Type 0
 Does serial old (Ok number) new = HasProcessed serial number old new
 Does serial old (Err Stopped) new = StopLeaves serial old new
@@ -155,17 +163,17 @@ Does serial old (Err DiscReadFault) new = ReadLeaves serial old new
 Does serial old (Err TapeReadFault) new = ReadLeaves serial old new
 Does serial old (Err fault) new = Unit {0}
 
--- the store behind it
+-- The store afterwards.
 abbrev pub behind_process : Result ℕ StoreFault → OnlineFacts → Rack → StoreFacts
 behind_process (Ok number) o rack = up_with o rack None
 behind_process (Err Stopped) o rack = spent_with o rack
 behind_process (Err fault) o rack = up_with o rack None
 
--- HOW PROCESS IS ANSWERED
+-- How PROCESS is answered.
 pub record Processes (serial : ℕ) (old : StoreFacts) (answer : Result ℕ StoreFault) (new : StoreFacts) : Type 0 where
   pub refused : (fault : StoreFault) → process_refuses serial old ≡ Some fault → (answer ≡ Err fault) × (new ≡ old)
   pub granted : process_refuses serial old ≡ None → IfErr answer MayRefuse
-  -- a refusal that comes neither of a read nor of a write changes nothing, but for reads of tape; nobody may count as changed who didn't
+  -- a refusal that is due neither to a read nor to a write changes nothing except the rack's record of reads
   pub same : IfErr answer (λ fault. (IsLate fault → ⊥) → (new.online ≡ old.online) × OnlyReads old.rack new.rack)
   pub taken : (n : ℕ) → answer ≡ Err (ReelNotFree n) → (n ≡ serial) × IsTaken serial old.rack
   pub lost : (full : Full) (n : ℕ) → answer ≡ Err (NoCopy full n) → IsFree serial old.rack
@@ -178,7 +186,7 @@ pub record Processes (serial : ℕ) (old : StoreFacts) (answer : Result ℕ Stor
   pub keeps : IsStore new
   pub told : Told old → Told new
   pub belongs : Told old → Belongs old → Belongs new
-  -- where it ended, by the bytes and the dumps that the store kept
+  -- where it ended, in terms of the bytes and the dumps that the store had
   pub exit : Told old → (text : ℕ → List ℕ) (shelf : ℕ → List Dump) → AreShelved shelf (told_reels old.rack) → IsUp text shelf old → old.spent ≡ false → Exits text shelf serial old answer new
   pub spent : (new.spent ≡ true) ↔ (answer ≡ Err Stopped)
   pub dump : (answer ≡ Err Stopped → ⊥) → new.dump ≡ old.dump

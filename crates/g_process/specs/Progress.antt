@@ -1,4 +1,4 @@
--- HOW FAR THE DUMP IS WRITTEN: which blocks stand on the reel, and where those of versions were read.
+-- How far the dump is written: which blocks are on the reel, and where those of versions were read.
 use Rattle.std.specs.Prelude.{◌≡◌, ◌≢◌, ◌⊎◌, ℕ, ◌+◌, ◌<◌, ◌≤◌, true, false, List, [], ◌∷◌, length, map, All, Contains, Some, Result, Ok, Err, option_map, slice_get}
 use Rattle.std.specs.Option.{ForSome}
 use Rattle.g_base.specs.Block.{blocks_for}
@@ -16,27 +16,27 @@ use Rattle.g_disc_contents.specs.Parts.{IsPart}
 use Rattle.g_incr.specs.Plan.{IsContentAt, IsReadyAt, Plan, needs, waiting}
 use Rattle.g_laws_store.specs.ForgottenCopies.{bare_rec}
 
--- a reel that holds these blocks from its first one on, once one was written
+-- The reel with these blocks from block 0 on, if there is at least one; otherwise unchanged.
 abbrev pub filled : List (List ℕ) → Reel → Reel
 filled [] r = r
 filled (b ∷ bs) r = record r { len = length (b ∷ bs); blocks = option_map (λ _. b ∷ bs) r.blocks }
 
--- nothing happened to the rack but reads, and to its fuse
+-- The rack had nothing but reads, apart from its fuse.
 abbrev pub IsBeside : Rack → Rack → Type 0
 IsBeside old new = OnlyReads (record old { fuse = new.fuse }) new
 
--- A VERSION'S BLOCK is read from the disc where it is on it, else from its copy on tape
+-- A version's block is read from the disc if the file is there, otherwise from its copy on tape.
 pub record IsSource (o : OnlineFacts) (old new : Rack) (r : FileRec) (part : ℕ) (block : List ℕ) : Type 0 where
   pub online : (f : File) → Contains o.contents.files f → f.rec.number ≡ r.number → f.online ≡ true → ForSome f.bytes (λ text. IsPart text part block)
   pub offline : (f : File) → Contains o.contents.files f → f.rec.number ≡ r.number → f.online ≡ false → (copy : TapeCopy) → r.tape ≡ Some copy
       → ForSome (blocks_of copy.serial old) (λ blocks. slice_get blocks (copy.first + part) ≡ Some block) × HasRead copy.serial (copy.first + part) old new
 
--- block k of the dump
+-- Block k of the dump.
 abbrev pub IsBlockOf : Plan → List FileRec → OnlineFacts → Rack → Rack → ℕ → List ℕ → Type 0
 IsBlockOf p rs o old new k block =
     IsReadyAt p k block ⊎ ((i : ℕ) × (part : ℕ) × (r : FileRec) × (slice_get rs i ≡ Some r) × IsContentAt p k i part × IsSource o old new r part block)
 
--- THE FIRST k BLOCKS STAND ON THE REEL, and nothing else happened but reads, none of which failed
+-- The first k blocks are on the reel, and nothing else happened except reads, none of which failed.
 pub record HasWritten (serial : ℕ) (p : Plan) (rs : List FileRec) (o : OnlineFacts) (k : ℕ) (old new : Rack) : Type 0 where
   pub written : List (List ℕ)
   pub long : length written ≡ k
@@ -44,19 +44,19 @@ pub record HasWritten (serial : ℕ) (p : Plan) (rs : List FileRec) (o : OnlineF
   pub rack : IsBeside (changed serial (filled written) old) new
   pub kept : new.read_faults ≡ old.read_faults
 
--- a version can be read: from another reel than the one that is written, where it isn't on the disc
+-- The version can be read. If it isn't on the disc, its copy is on a mounted reel other than the one that is written.
 pub record IsReadable (serial : ℕ) (o : OnlineFacts) (rack : Rack) (r : FileRec) : Type 0 where
   pub file : (f : File) × Contains o.contents.files f × (f.rec ≡ r)
   pub offline : (f : File) → Contains o.contents.files f → f.rec.number ≡ r.number → f.online ≡ false
       → (copy : TapeCopy) × (r.tape ≡ Some copy) × (copy.serial ≢ serial)
       × (q : Reel) × (reel copy.serial rack.reels ≡ Some q) × (q.mounted ≡ true) × (copy.first + blocks_for r.len ≤ q.len)
 
--- the versions of the plan are these, and each can be read
+-- The versions of the plan are these, and each can be read.
 pub record AreReadable (serial : ℕ) (p : Plan) (rs : List FileRec) (o : OnlineFacts) (rack : Rack) : Type 0 where
   pub waiting_are : waiting p.files ≡ map bare_rec rs
   pub each : All (IsReadable serial o rack) rs
 
--- and the reel has room for the dump
+-- The versions can be read, and the reel has room for the dump.
 pub record MayWrite (serial : ℕ) (p : Plan) (rs : List FileRec) (o : OnlineFacts) (rack : Rack) : Type 0 where
   pub readable : AreReadable serial p rs o rack
   pub on : Reel
@@ -64,23 +64,24 @@ pub record MayWrite (serial : ℕ) (p : Plan) (rs : List FileRec) (o : OnlineFac
   pub mounted : on.mounted ≡ true
   pub room : needs p ≤ on.capacity
 
--- A READ FAILED, of the disc or of a reel
+-- A read failed, of the disc or of a reel.
 abbrev pub FailsReading : StoreFault → OnlineFacts → OnlineFacts → Rack → Rack → Type 0
 FailsReading DiscReadFault o o' old new =
     Rose o.disc.read_faults o'.disc.read_faults × (o' ≡ record o { disc = record o.disc { read_faults = o'.disc.read_faults } }) × (new ≡ old)
 FailsReading TapeReadFault o o' old new = Rose old.read_faults new.read_faults × (new ≡ record old { read_faults = new.read_faults }) × (o' ≡ o)
 FailsReading fault o o' old new = ⊥
 
--- it was read, or not
+-- The block was read, or a read failed.
 abbrev pub ReadsSource : FileRec → ℕ → OnlineFacts → Rack → Result (Unit {0}) StoreFault → List ℕ → OnlineFacts → Rack → Type 0
 ReadsSource r part o old (Ok _) block o' new = (o' ≡ o) × IsSource o old new r part block × OnlyReads old new × (new.read_faults ≡ old.read_faults)
 ReadsSource r part o old (Err fault) block o' new = FailsReading fault o o' old new
 
+-- Block k of the dump was built, or a read failed.
 abbrev pub Fills : Plan → List FileRec → ℕ → OnlineFacts → Rack → Result (Unit {0}) StoreFault → List ℕ → OnlineFacts → Rack → Type 0
 Fills p rs k o old (Ok _) block o' new = (o' ≡ o) × IsBlockOf p rs o old new k block × OnlyReads old new × (new.read_faults ≡ old.read_faults)
 Fills p rs k o old (Err fault) block o' new = FailsReading fault o o' old new
 
--- A WRITE FAILED behind reads
+-- A write failed after reads.
 pub record FailedAt (serial k : ℕ) (old new : Rack) : Type 0 where
   pub mid : Rack
   pub reads : OnlyReads old mid
@@ -89,7 +90,7 @@ pub record FailedAt (serial k : ℕ) (old new : Rack) : Type 0 where
   pub how : Remains
   pub rack : new ≡ record (changed serial (left_by how k) mid) { write_faults = new.write_faults; fuse = new.fuse }
 
--- or the block was written
+-- The block was written.
 pub record WroteAt (serial : ℕ) (p : Plan) (rs : List FileRec) (o : OnlineFacts) (k : ℕ) (old new : Rack) : Type 0 where
   pub mid : Rack
   pub reads : OnlyReads old mid
@@ -98,12 +99,13 @@ pub record WroteAt (serial : ℕ) (p : Plan) (rs : List FileRec) (o : OnlineFact
   pub block_is : IsBlockOf p rs o old mid k block
   pub rack : new ≡ record (changed serial (ending k block) mid) { fuse = new.fuse }
 
+-- Block k of the dump was written, or its write failed, or a read failed.
 abbrev pub WritesBlock : ℕ → Plan → List FileRec → ℕ → OnlineFacts → Rack → Result (Unit {0}) StoreFault → OnlineFacts → Rack → Type 0
 WritesBlock serial p rs k o old (Ok _) o' new = (o' ≡ o) × WroteAt serial p rs o k old new
 WritesBlock serial p rs k o old (Err Stopped) o' new = (o' ≡ o) × FailedAt serial k old new
 WritesBlock serial p rs k o old (Err fault) o' new = FailsReading fault o o' old new
 
--- HOW THE WRITING ENDED: at the mark, or at a block whose version couldn't be read, or at a write that failed
+-- How the writing ended: at the mark, at a block whose version couldn't be read, or at a failed write.
 abbrev pub WritesBlocks : ℕ → Plan → List FileRec → OnlineFacts → Rack → Result (Unit {0}) StoreFault → OnlineFacts → Rack → Type 0
 WritesBlocks serial p rs o old (Ok _) o' new = (o' ≡ o) × HasWritten serial p rs o (needs p) old new
 WritesBlocks serial p rs o old (Err Stopped) o' new =

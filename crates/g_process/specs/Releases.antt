@@ -1,4 +1,5 @@
--- WHICH REELS ARE RELEASED: those that had a completed dump, but of the one that was written. Each has one block of zeros then.
+-- Which reels are released: those that had a completed dump, except the one that was written. Afterwards each has one block
+-- of zeros.
 use Rattle.std.specs.Prelude.{◌≡◌, ℕ, ◌==◌, Bool, true, not, ◌&&◌, nat_lt, List, filter, length, map, replicate, take, Some, slice_get, if◌then◌else◌}
 use Rattle.g_base.specs.Counts.{Rose}
 use Rattle.g_tape.specs.Rack.{Rack, changed}
@@ -6,24 +7,27 @@ use Rattle.g_tape.specs.Reel.{Reel, Remains, ending, left_by}
 use Rattle.g_disc_contents.specs.Contents.{has}
 use Rattle.g_shelf.specs.declared.rack.Listed.{Listed}
 
+-- A block of zeros.
 abbrev pub zeros : List ℕ
 zeros = replicate 512 0
 
--- another reel than this one, with a completed dump
+-- The list is that of another reel than this one, and has a completed dump.
 abbrev pub is_taken : ℕ → Listed → Bool
 is_taken serial l = not (l.serial == serial) && nat_lt 0 (length l.notes)
 
+-- The serials of the other reels that have a completed dump.
 abbrev pub taken : ℕ → List Listed → List ℕ
 taken serial lists = map (λ l. l.serial) (filter (is_taken serial) lists)
 
--- the reels of these serials are released
+-- The reels with these serials are released.
 abbrev pub released : List ℕ → Reel → Reel
 released serials r = if has serials r.serial then ending 0 zeros r else r
 
+-- All reels with these serials are released, and nothing else has changed except the fuse.
 abbrev pub AreReleased : List ℕ → Rack → Rack → Type 0
 AreReleased serials old new = new ≡ record old { reels = map (released serials) old.reels; fuse = new.fuse }
 
--- or one of them couldn't be, behind those before it
+-- The release of one of them failed, after the previous ones were released.
 pub record IsCutAt (serial : ℕ) (lists : List Listed) (old new : Rack) : Type 0 where
   pub place : ℕ
   pub list : Listed

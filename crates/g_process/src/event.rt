@@ -1,4 +1,4 @@
-//! The event, from its refusals to the release of the old reels.
+//! PROCESS, from its refusals to the release of the old reels.
 ghost use Rattle.std.specs.Prelude.{◌≡◌, All, Err, IfErr, IfOk, IfNone, IfSome, None, true};
 ghost use Rattle.g_tape.specs.Reads.{OnlyReads};
 ghost use Rattle.g_disc_contents.specs.Facts.{IsTied};
@@ -19,16 +19,18 @@ use g_shelf::first_unmounted;
 use g_tape::Tapes;
 use std::alloc::Global;
 
-/// Writes every user's directory and the bytes of every version to this reel as one dump, from block 0 on: those that are
-/// on the disc are read there, the others from their copies on tape. One commit notes its intent before, and one behind it
-/// the new copies of all files and its number; nobody counts as changed then. At the end every other reel that had a
-/// completed dump is released: its block 0 is overwritten, and it has no other (docs/FORMATS.md). Gives the dump's number.
+/// Writes every user's directory and the bytes of every version to this reel as one dump, from block 0 on. The bytes of
+/// files on the disc are read there, the others from their copies on tape. One commit before the dump notes its intent. One
+/// commit after it notes the new copies of all files and the dump's number; then no user counts as changed. Finally every
+/// other reel that had a completed dump is released: its block 0 is overwritten and becomes its only block
+/// (docs/FORMATS.md). Returns the dump's number.
 ///
-/// In this order: `NoTape`; `RackNotMounted`, of the first reel that isn't mounted; `CountersSpent`; `TapeReadFault`, the
-/// dumps of all reels couldn't be read; `ReelNotFree`, the reel has a completed dump; `NoCopy`, of the first file by owner
-/// and number that isn't on the disc and whose bytes aren't in a completed dump; `TapeFull`, in blocks of tape; `NoMemory`.
-/// Behind these nothing has changed. `DiscReadFault`, `TapeReadFault`: a version couldn't be read; the new intent is on the
-/// disc, and the reel has blocks of a dump that isn't completed. `Stopped`: a write failed, and no further call is taken.
+/// The refusals, in this order: `NoTape`; `RackNotMounted`, for the first reel that isn't mounted; `CountersSpent`;
+/// `TapeReadFault`, if the dumps of some reel couldn't be read; `ReelNotFree`, if the reel has a completed dump; `NoCopy`,
+/// for the first file by owner and number that isn't on the disc and whose bytes aren't in a completed dump; `TapeFull`, in
+/// blocks of tape; `NoMemory`. After these nothing has changed. `DiscReadFault`, `TapeReadFault`: a version couldn't be
+/// read; the new intent is on the disc, and the reel has blocks of an incomplete dump. `Stopped`: a write failed, and no
+/// further call is accepted.
 pub fn process<D: Disc, T: Tapes>(
     alloc: Global,
     online: &mut Online<D>,
@@ -47,7 +49,7 @@ pub fn process<D: Disc, T: Tapes>(
     }
 }
 
-/// What is to be done, with all memory that it takes; or why nothing is. The reels are only read.
+/// Prepares the job, with all memory that it takes, or returns the reason why nothing is done. The reels are only read.
 fn prepared<D: Disc, T: Tapes>(
     alloc: Global,
     online: &Online<D>,
@@ -68,7 +70,7 @@ fn prepared<D: Disc, T: Tapes>(
     }
 }
 
-/// Why nothing is done, by what is known without a read.
+/// The refusal that is known without a read, if any.
 fn refused<D: Disc, T: Tapes>(online: &Online<D>, tapes: &T, serial: u32) -> Option<StoreFault>
     requires live { online.now.live ≡ true }
     ensures is { result ≡ process_refuses serial (up_with online.now (T.rack tapes.now) None) }
@@ -86,7 +88,7 @@ fn refused<D: Disc, T: Tapes>(online: &Online<D>, tapes: &T, serial: u32) -> Opt
     None
 }
 
-/// The intent, the dump, the commit behind it, and the release of the other reels. It takes no memory.
+/// Writes the intent, the dump and the commit after it, and releases the other reels. It allocates nothing.
 fn carry_out<D: Disc, T: Tapes>(
     online: &mut Online<D>,
     tapes: &mut T,

@@ -1,4 +1,4 @@
-//! What is to be done, made ready before anything is written.
+//! The job, which is prepared before anything is written.
 ghost use Rattle.std.specs.Prelude.{◌≡◌, IfOk, true};
 ghost use Rattle.std.specs.Option.{ForSome};
 ghost use Rattle.g_tape.specs.Rack.{Rack, reel};
@@ -19,7 +19,7 @@ use g_shelf::Listed;
 use g_tape::Tapes;
 use std::alloc::Global;
 
-/// The dump that is to be written, the versions whose bytes it takes, what its commit puts in, and the dumps of all reels.
+/// The dump to be written, the versions whose bytes it takes, what its commit installs, and the dumps of all reels.
 #[derive(Drop)]
 pub(crate) struct Job {
     pub(crate) serial: u32,
@@ -30,7 +30,7 @@ pub(crate) struct Job {
     pub(crate) lists: Vec<Listed>,
 }
 
-/// The job, by the catalogue of the rack. `ReelNotFree`, `NoCopy`, `TapeFull`, `NoMemory`.
+/// The job, from the catalogues of the rack. `ReelNotFree`, `NoCopy`, `TapeFull`, `NoMemory`.
 pub(crate) fn planned<D: Disc, T: Tapes>(
     alloc: Global,
     online: &Online<D>,
@@ -69,7 +69,7 @@ pub(crate) fn planned<D: Disc, T: Tapes>(
     }
 }
 
-/// How many blocks the reel can hold.
+/// The capacity of the reel in blocks.
 fn room_on<T: Tapes>(tapes: &T, serial: u32) -> u32
     ensures { ForSome (reel serial (T.rack tapes.now).reels) (λ r. result ≡ r.capacity) }
 {
@@ -113,7 +113,7 @@ fn writer_of<D: Disc>(
     )
 }
 
-/// The job of this writer, with the records that its commit puts in.
+/// The job of this writer, with the records that its commit installs.
 fn made_ready<D: Disc>(
     alloc: Global,
     online: &Online<D>,

@@ -1,4 +1,4 @@
-//! PROCESS: all living versions onto one reel, and the other reels released.
+//! PROCESS: all current versions are consolidated on one reel, and the other reels are released.
 #![tactic(auto)]
 
 mod event;

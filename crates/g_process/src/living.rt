@@ -72,7 +72,7 @@ pub(crate) fn filled(alloc: Global, files: &[FileRec]) -> Result<Vec<FileRec>, N
     Ok(all)
 }
 
-/// The copies of these versions, by stamp, one behind the other from this block of the reel on.
+/// The copies of these versions, by stamp, end to end from this block of the reel on.
 pub(crate) fn copies_from(
     alloc: Global,
     serial: u32,

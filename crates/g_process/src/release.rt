@@ -7,8 +7,8 @@ use g_base::WriteFailed;
 use g_shelf::Listed;
 use g_tape::{TapeFault, Tapes};
 
-/// Overwrites block 0 of each reel that has a completed dump by these lists, but of the one of this serial, with a block of
-/// zeros, which is its only one then.
+/// Overwrites block 0 of each reel that has a completed dump by these lists, except the reel with this serial, by a block
+/// of zeros, which becomes its only block.
 pub(crate) fn release<T: Tapes>(
     tapes: &mut T,
     lists: &[Listed],
@@ -30,7 +30,7 @@ pub(crate) fn release<T: Tapes>(
     Ok(())
 }
 
-/// Writes a block of zeros to the reel, which is its only one then.
+/// Writes a block of zeros to the reel, which becomes its only block.
 fn blank<T: Tapes>(tapes: &mut T, serial: u32) -> Result<(), TapeFault>
     ensures { Writing serial 0 releases.zeros (T.rack tapes.old) result (T.rack tapes.new) }
 {

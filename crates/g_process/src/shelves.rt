@@ -1,4 +1,4 @@
-//! What the catalogue of the rack tells: whether a reel is free, and whether the bytes of all files are there.
+//! What the catalogue of the rack shows: whether a reel is free, and whether the bytes of all files are there.
 ghost use Rattle.std.specs.Prelude.{◌≡◌, ◌↔◌, [], All, Contains, IfNone, IfSome, IsFalse, IsTrue, Some, true, false};
 ghost use Rattle.g_entry.specs.declared.file_rec.TapeCopy.{TapeCopy};
 ghost use Rattle.g_tree.specs.Records.{full_of};
@@ -21,7 +21,7 @@ pub(crate) fn is_free(lists: &[Listed], serial: u32) -> bool
     notes_of(lists, serial).is_empty()
 }
 
-/// The dumps of the reel of this serial, where it is among these.
+/// The dumps of the reel with this serial, if it is among these.
 fn notes_of(lists: &[Listed], serial: u32) -> &[DumpNote]
     ensures { result.now ≡ notes_at serial lists.now }
 {
@@ -33,7 +33,7 @@ fn notes_of(lists: &[Listed], serial: u32) -> &[DumpNote]
     &[]
 }
 
-/// Whether the bytes of the file are on the disc, or its copy on tape is held.
+/// Whether the bytes of the file are on the disc, or its copy is in a completed dump.
 fn is_there<D: Disc>(online: &Online<D>, lists: &[Listed], file: &FileRec) -> bool
     requires live { online.now.live ≡ true }
     requires there { IsOfFile online.now file.now }
@@ -50,7 +50,7 @@ fn is_there<D: Disc>(online: &Online<D>, lists: &[Listed], file: &FileRec) -> bo
     }
 }
 
-/// The first of these files whose bytes are neither on the disc nor at its copy, as the fault that it is.
+/// The first of these files whose bytes are neither on the disc nor in its copy, as a fault.
 pub(crate) fn first_lost<D: Disc>(
     online: &Online<D>,
     lists: &[Listed],

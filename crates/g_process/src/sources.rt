@@ -11,8 +11,8 @@ use g_online::Online;
 use g_plain::StoreFault;
 use g_tape::Tapes;
 
-/// Reads block `part` of the version: from the disc where it is on it, else from its copy on tape. `DiscReadFault`,
-/// `TapeReadFault`; nothing is known of `into` then.
+/// Reads block `part` of the version: from the disc if the file is there, otherwise from its copy on tape. On
+/// `DiscReadFault` and `TapeReadFault` the contents of `into` are unspecified.
 pub(crate) fn read_source<D: Disc, T: Tapes>(
     online: &mut Online<D>,
     tapes: &mut T,

@@ -36,7 +36,7 @@ pub(crate) fn write_blocks<D: Disc, T: Tapes>(
     Ok(())
 }
 
-/// Writes block k of it.
+/// Writes block k of the dump.
 fn write_block<D: Disc, T: Tapes>(
     online: &mut Online<D>,
     tapes: &mut T,
@@ -63,7 +63,7 @@ fn write_block<D: Disc, T: Tapes>(
     }
 }
 
-/// Puts block k of it into `into`.
+/// Writes block k of the dump into `into`.
 fn fill<D: Disc, T: Tapes>(
     online: &mut Online<D>,
     tapes: &mut T,

@@ -1,9 +1,10 @@
 -- A run by rules that answer as others may is a run by those: a run asks them, and looks at nothing else of them.
+-- serves: run_by_rules (anew, demo, ends)
 use Rattle.std.proofs.Common.{◌≡◌, ℕ, List, [], ◌∷◌, Option, Some, None, inl, inr}
 use Rattle.std.specs.Fn.{Shared, FnReturnsAt}
 use denote.Ref.{Bor}
-use Rattle.g_budget.specs.declared.tariff.Charge.{Charge}
-use Rattle.g_budget.specs.declared.tariff.Usage.{Usage}
+use Rattle.g_rules.specs.declared.tariff.Charge.{Charge}
+use Rattle.g_rules.specs.declared.tariff.Usage.{Usage}
 use Rattle.g_day.specs.declared.progress.Failure.{Failure}
 use Rattle.g_day.specs.declared.progress.Failure.TheVariants as failures
 use Rattle.g_demo.specs.declared.demonstration.Demonstration.{Demonstration}
@@ -12,8 +13,8 @@ use Rattle.g_run.specs.Demo.{IsDemoText, PutsDemo}
 use Rattle.g_run.specs.Top.{EndsAnew, EndsAs, EndsDemo}
 use Rattle.g_run.specs.declared.status.Status.{Status}
 use Rattle.g_run.specs.declared.status.Status.TheVariants.{Done, Words, BadScript, ScriptFault, OutputFault, NoMemory, TooLong}
-use Rattle.g_sched.specs.Choice.{IsChosen}
-use Rattle.g_sched.specs.declared.rule.Standing.{Standing}
+use Rattle.g_rules.specs.Choice.{IsChosen}
+use Rattle.g_rules.specs.declared.rule.Standing.{Standing}
 use Rattle.g_script.specs.declared.operator.Timed.{Timed}
 use Rattle.g_turn.specs.State.{Work}
 use Rattle.g_store_model.specs.State.{State}

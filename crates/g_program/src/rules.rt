@@ -5,7 +5,7 @@ ghost use Rattle.g_day.specs.System.{BelongTogether, DumpsGrow, SameDevices};
 ghost use Rattle.g_demo.specs.Words.{AskNothing, IsDemonstration, demo_words, texts_of};
 ghost use Rattle.g_demo.specs.declared.demonstration.Demonstration.{Demonstration};
 ghost use Rattle.g_lines.specs.Lines.{lines_of};
-ghost use Rattle.g_sched.specs.Rule.{IsInRange};
+ghost use Rattle.g_rules.specs.Rule.{IsInRange};
 ghost use Rattle.g_script.specs.Script.{IsParsed};
 ghost use Rattle.g_script.specs.declared.operator.Timed.{Timed};
 ghost use Rattle.g_laws_store.specs.Moving.{DumpsMove};
@@ -17,11 +17,10 @@ ghost use Rattle.g_ticks.specs.Parts.{HaveNoProcess};
 ghost use Rattle.g_run.specs.Top as top;
 ghost use Rattle.g_program.specs.Rules.{answering, price, share_used};
 
-use g_budget::{Charge, Tariff, Usage};
 use g_disc::Disc;
 use g_io::{Sink, Source};
+use g_rules::{Charge, Standing, Tariff, Usage, WeighRule};
 use g_run::{Finish, george};
-use g_sched::{Standing, WeighRule};
 use g_tape::Tapes;
 use std::alloc::Global;
 

@@ -1,4 +1,5 @@
--- The answers of a restore, from those of what was made.
+-- The answers of a restore, from the answers about the directory that was built.
+-- serves: rebuild (belongs, belongs_refused, found, kept, lost, none, ok, only, rose, stopped, unmounted, unread)
 use Rattle.std.proofs.Common.{◌≡◌, ◌≢◌, ◌⊎◌, ◌↔◌, ℕ, List, Option, Some, Result, Ok, Err, refl, sym, subst, inr}
 use Rattle.std.specs.Prelude.{IfErr, IfOk, is_some}
 use Rattle.g_base.specs.ToldContent.{Changes}
@@ -75,7 +76,7 @@ module _ {B : Type 0} (state : B → DiscState) (disc : DiscState) (old new : Ra
   found_of (Ok made) of = tt
   found_of (Err e) of = disc_finds (OnlineFacts × ℕ) e.0 of
 
--- WHERE A DIRECTORY IS MADE all reels are mounted, and no refusal is one of the reels
+-- If a directory is built, all reels are mounted, and no refusal concerns the reels.
 pub unmounted_of : {A B C : Type 0} (dumped : C) (result : Result A (StoreFault × B)) (first : Option ℕ) → IfErr result (λ e. IsOfDisc e.0)
     → ((serial : ℕ) → (◌≡◌ {A = Result C StoreFault} (Ok dumped) (Err (RackNotMounted serial))) ↔ (first ≡ Some serial))
     → (serial : ℕ) → (answer_of result ≡ Err (RackNotMounted serial)) ↔ (first ≡ Some serial)
@@ -91,7 +92,7 @@ pub one_of : {A B : Type 0} (result : Result A (StoreFault × B)) → IfErr resu
 one_of (Ok made) of = tt
 one_of (Err e) of = inr of
 
--- WHERE NONE IS MADE the refusal is one of the reels, whatever would have been answered
+-- If no directory was built, the refusal concerns the reels, for any other answer.
 pub not_of_reels : {P : Type 0} (fault y : StoreFault) → IsOfReels fault → (IsOfReels y → ⊥) → fault ≡ y → P
 not_of_reels fault y of never is = absurd (never (subst IsOfReels is of))
 

@@ -1,4 +1,5 @@
--- Disc and rack go on belonging together.
+-- A restore preserves the belonging of disc and rack.
+-- serves: rebuild (belongs_refused), AnswerLemmas
 use Rattle.std.proofs.Common.{◌≡◌, ◌⊎◌, ℕ, true, List, Option, Some, None, refl, sym, ◌∙◌, ap, subst, inl, inr}
 use Rattle.std.proofs.lemmas.Option.{same_Some}
 use Rattle.g_base.specs.ToldContent.{Changes}
@@ -32,7 +33,7 @@ module _ (held : Option (List (List ℕ))) (reels : List Reel) (number : ℕ) (m
       let same : is.dumps ≡ all_dumps old.shelf reels = all_of_reels reels is.dumps old.shelf told old.shelved is.are in
       subst (DiscBelongs old.text old.shelf reels) (sym is.made_is) (restored_belongs old.text old.shelf reels held is.dumps (sym same) old.rack is.directory)
 
-  -- a disc that holds just what was made
+  -- A disc that holds exactly what was built.
   made_belongs : (after : Option (List (List ℕ))) → ((blocks : List (List ℕ)) (c : Contents) → after ≡ Some blocks → Holds blocks c → c ≡ made) → BelongWith after reels
   made_belongs after only = record {
     text = old.text;

@@ -1,4 +1,5 @@
--- The best of the dumps looked at so far.
+-- The best of the dumps that were checked so far.
+-- serves: greatest
 use Rattle.std.proofs.Common.{◌≡◌, ◌⊎◌, ℕ, ◌+◌, ◌<◌, ◌≤◌, true, false, List, length, get_or, Option, Some, None, sym, ◌∙◌, ap, arith, inl, inr, subst, below_more}
 use Rattle.std.specs.Prelude.{nat_lt}
 use Rattle.std.proofs.lemmas.Bool.{cases_Bool, cond-false, cond-true, false≢true, ltb-false, ltb-true}

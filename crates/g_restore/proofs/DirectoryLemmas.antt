@@ -1,4 +1,5 @@
 -- The directory that the dumps of a rack give, and why there is none.
+-- serves: dumped_directory (kept, lost, none, ok, only, rose, unmounted), AnswerLemmas, RebuildLemmas
 use Rattle.std.proofs.Common.{◌≡◌, ◌⊎◌, ◌↔◌, ℕ, List, [], Option, Some, None, Result, Ok, Err, refl, sym, ◌∙◌, ap, subst, inl, inr, map, All}
 use Rattle.std.specs.Prelude.{IfErr, IfOk}
 use Rattle.g_base.specs.Counts.{Rose}
@@ -95,7 +96,7 @@ pub of_reels : {A : Type 0} (result : Result A StoreFault) → IfErr result IsOf
 of_reels (Ok d) only = tt
 of_reels (Err e) only = dumps_reels e only
 
--- all reels are mounted, so what is said of them isn't that one isn't
+-- All reels are mounted, so the refusal isn't that one isn't.
 pub up_of : {A : Type 0} (result : Result A StoreFault) (first : Option ℕ) → None ≡ first → IfErr result IsOfDumps
     → (serial : ℕ) → (result ≡ Err (RackNotMounted serial)) ↔ (first ≡ Some serial)
 up_of result first up only serial = (λ is. absurd (of_dumps result (RackNotMounted serial) only is), λ is. let no : ⊥ = cc in absurd no)
@@ -117,7 +118,7 @@ pub shelf_of_reels : (fault : ShelfFault) → IsOne fault → IsOfReels (store_f
 shelf_of_reels fault (inl is) = subst (λ (f : ShelfFault). IsOfReels (store_fault f)) (sym is) tt
 shelf_of_reels fault (inr is) = subst (λ (f : ShelfFault). IsOfReels (store_fault f)) (sym is) tt
 
--- so it isn't that no dump is there, nor that a reel isn't mounted
+-- The refusal is neither that there is no dump nor that a reel isn't mounted.
 not_these : (fault : ShelfFault) → IsOne fault → (y : StoreFault) → (y ≡ TapeReadFault → ⊥) → (y ≡ NoMemory → ⊥) → store_fault fault ≡ y → ⊥
 not_these fault (inl is) y not_read not_memory same = not_read (sym same ∙ ap store_fault is)
 not_these fault (inr is) y not_read not_memory same = not_memory (sym same ∙ ap store_fault is)

@@ -1,4 +1,5 @@
--- The directory that dumps give together, and what a restore names where they give none.
+-- The directory that dumps give together, and what a restore names if they give none.
+-- serves: fold (lost, ok), DirectoryLemmas
 use Rattle.std.proofs.Common.{◌≡◌, ◌≢◌, ◌⊎◌, inl, inr, ℕ, ◌+◌, ◌<◌, true, List, length, get_or, take, None, Err, refl, sym, ◌∙◌, ap, arith, subst, All}
 use Rattle.std.specs.Prelude.{is_some}
 use Rattle.std.proofs.lemmas.List.Elements.{All-contains, All-weaker}
@@ -141,7 +142,7 @@ module _ (found : List Found) (dumps : List Dump) (are : AreKnown found dumps) (
         name_is = bad.name_is;
       }
 
-  -- A FILE WHOSE PLACE ISN'T HELD
+  -- A file whose place isn't held.
   pub lost_file : (files : List FileRec) → AreGathered dumps (length f.dir.users.items) f.dir.note.next_stamp f.dir.users.items files
       → (at : ℕ) (copy : TapeCopy) (r : FileRec) → IsFirstNotHeld found files at copy → r ≡ get_or files at r
       → (full : Full) → full ≡ full_of f.dir.users.items r → IsFirstLost dumps full copy.serial

@@ -1,4 +1,5 @@
--- The directories of users, gathered one behind the other.
+-- The directories of users, gathered one after another.
+-- serves: add_directory (none, some), gather_at_once (put), gather_by_user (bad, ok), take_user (bad), NeverLemmas, crates above
 use Rattle.std.proofs.Common.{◌≡◌, ℕ, ◌+◌, ◌<◌, ◌≤◌, Bool, false, List, [], ◌∷◌, ◌++◌, length, get_or, take, Result, Some, Ok, Err, ◌↔◌, refl, sym, ◌∙◌, ap, arith, subst, below_more}
 use Rattle.std.specs.Prelude.{IfOk, IsTrue}
 use Rattle.std.proofs.lemmas.Bool.{false≢true}
@@ -124,7 +125,7 @@ one_put found users i files now u within at put added dumps are =
     subst (λ (us : List UserRec). (more : List FileRec) × Gathers dumps us more × (now ≡ numbered_from 0 more)) (sym (next_user users i u within at))
     (gathered ++ files_of u.number d.files, gathers_push dumps (take i users) u gathered d gathers has, is ∙ behind_is files gathered u.number d.files numbered)
 
--- what was put together and goes together was gathered
+-- Directories that were appended and satisfy the rules together were gathered.
 pub put_gathered : (found : List Found) (users us : List UserRec) (next : ℕ) (files : List FileRec) → ArePut found us files → GoWith (length users) next files
     → (dumps : List Dump) → AreKnown found dumps → AreGathered dumps (length users) next us files
 put_gathered found users us next files put go dumps are =
@@ -149,7 +150,7 @@ one_taken found users next i files now u within at so taken = record {
     more : (dumps : List Dump) → AreKnown found dumps → AreGathered dumps (length users) next (take (i + 1) users) now
     more = put_gathered found users (take (i + 1) users) next now (one_put found users i files now u within at put taken.is) taken.go
 
--- dumps that are apart, as the laws of the state say it
+-- Dumps with distinct numbers, in the form that the laws of the state use.
 pub apart_is : (dumps : List Dump) → AreApart dumps → IsApart dumps
 unfolding IsApart
 apart_is dumps apart = apart

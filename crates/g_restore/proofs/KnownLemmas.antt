@@ -1,4 +1,5 @@
 -- What is in memory and the dumps that it is known of.
+-- serves: fold (none), DirectoryLemmas, FoldLemmas, GatherLemmas, PlaceLemmas, crates above
 use Rattle.std.proofs.Common.{◌≡◌, ℕ, zero, suc, ◌<◌, ◌≤◌, Bool, true, List, [], ◌∷◌, length, get_or, Option, Some, None, refl, sym, ◌∙◌, ap, arith, map, All}
 use Rattle.std.specs.Prelude.{Contains}
 use Rattle.std.proofs.lemmas.List.{get_or-map, get_or_default, length-map}
@@ -102,7 +103,7 @@ module _ (found : List Found) (dumps : List Dump) (same : map known found ≡ ma
       let long : length (get_or found k f).dir.files.items ≡ length d.files = ap (λ (x : Known). length x.files) (known_d f) in
       omega (arith, long, few)
 
--- where none holds_directory there is none
+-- If no dump passes the check, there is no such dump.
 pub none_there : (found : List Found) → NonePasses None found (length found) → found ≡ []
 none_there [] none = refl
 none_there (f ∷ fs) none = absurd (none 0 f (omega arith) refl)

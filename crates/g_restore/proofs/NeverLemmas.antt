@@ -1,4 +1,5 @@
--- Where disc and rack belong together no directory and no copy is lost.
+-- If disc and rack belong together, no directory and no copy is lost.
+-- serves: rebuild (found), crates above
 use Rattle.std.proofs.Common.{◌≡◌, ℕ, ◌+◌, ◌<◌, List, [], ◌∷◌, ◌++◌, length, take, drop, Option, Some, None, Result, Ok, Err, refl, sym, ◌∙◌, ap, arith, subst, All}
 use Rattle.std.specs.Prelude.{IfSome}
 use Rattle.std.proofs.lemmas.List.{take-append-drop}
@@ -24,7 +25,7 @@ use Rattle.g_restore.specs.Losses.{AreApart, GoTogether, HasPlace, IsFirstLost, 
 use Rattle.g_restore.specs.Restoration.{NothingIsLost}
 use Rattle.g_restore.proofs.GatherLemmas.{apart_is}
 
--- where all directories go together, those of the first users do
+-- If all directories satisfy the rules together, so do those of the first users.
 go_front : (dumps : List Dump) (t : DumpedDirectory dumps) (k : ℕ) → GoTogether dumps t.last (take k t.last.users)
 go_front dumps t k =
     let part = gathers_front dumps (take k t.last.users) (drop k t.last.users) t.gathered

@@ -1,4 +1,5 @@
--- Files that are numbered one behind the other, and those of one user.
+-- Files that are numbered consecutively, and those of one user.
+-- serves: add_files, FoldLemmas, GatherLemmas
 use Rattle.std.proofs.Common.{◌≡◌, ◌⊎◌, ℕ, zero, suc, ◌+◌, ◌<◌, ◌≤◌, true, false, List, [], ◌∷◌, ◌++◌, length, get_or, take, refl, sym, ◌∙◌, ap, arith, inl, inr}
 use Rattle.std.specs.Prelude.{◌==◌, All}
 use Rattle.std.proofs.lemmas.Bool.{cases_Bool, cond-false, cond-true}
@@ -10,7 +11,7 @@ use Rattle.g_incr.proofs.NumberLemmas.{length-numbered, numbered-append}
 use Rattle.g_store_meaning.specs.Meaning.{files_of}
 use Rattle.g_restore.specs.Gathering.{added, behind}
 
--- one more file of a list is looked at
+-- One more file of a list is checked.
 pub one_added : (old : List FileRec) (user : ℕ) (from : List FileRec) (i : ℕ) (x : FileRec) → i < length from → x ≡ get_or from i x
     → added (behind old user (take i from)) user x ≡ behind old user (take (i + 1) from)
 one_added old user from i x within at = by_owner (cases_Bool (x.owner == user))
@@ -51,7 +52,7 @@ added_few old user x = by_owner (cases_Bool (x.owner == user))
         let here = ap length (cond-false (x.owner == user) (old ++ with_number (length old) x ∷ []) old isnt) in
         omega (arith, here)
 
--- directories behind directories are numbered on
+-- The numbers continue from one directory to the next.
 pub behind_is : (files gathered : List FileRec) (user : ℕ) (from : List FileRec) → files ≡ numbered_from 0 gathered → behind files user from ≡ numbered_from 0 (gathered ++ files_of user from)
 behind_is files gathered user from is =
     ap (λ (rs : List FileRec). rs ++ numbered_from (length rs) (files_of user from)) is

@@ -1,4 +1,5 @@
--- That a place is held, by the notes and by the dumps.
+-- A place is held according to the notes if and only if it is held by the dumps.
+-- serves: any_has, first_lost (some), FoldLemmas, crates above
 use Rattle.std.proofs.Common.{◌≡◌, ℕ, ◌+◌, ◌-◌, ◌*◌, ◌<◌, ◌≤◌, List, [], ◌∷◌, length, get_or, take, drop, Option, Some, None, refl, sym, ◌∙◌, ap, arith, subst, All}
 use Rattle.std.specs.Prelude.{IfSome}
 use Rattle.std.proofs.lemmas.List.{get_or_default, length-append, length-drop, length-take-le}
@@ -25,7 +26,7 @@ length-joined (b ∷ bs) all =
 blocks_hold : (n : ℕ) → n ≤ 512 * blocks_for n
 blocks_hold n = omega arith
 
--- a text of this length stands at the place
+-- A text of this length is at the place.
 abbrev HasText : List Dump → ℕ → TapeCopy → Type 0
 HasText dumps len c = (text : List ℕ) × (length text ≡ len) × IsContent dumps c text
 
@@ -95,7 +96,7 @@ module _ (found : List Found) (dumps : List Dump) (are : AreKnown found dumps) w
   pub place_lost : (r : FileRec) (c : TapeCopy) → r.tape ≡ Some c → (AnyHas found c (blocks_for r.len) → ⊥) → HasPlace dumps r → ⊥
   place_lost r c is lost has = not_there r.len r.tape c is lost has
 
--- THE FIRST FILE whose copy isn't held
+-- The first file whose copy isn't held.
 pub first_not_held : (found : List Found) (files : List FileRec) (i : ℕ) (x : FileRec) (copy : TapeCopy) → i < length files → x ≡ get_or files i x → All (IsHeld found) (take i files)
     → x.tape ≡ Some copy → (AnyHas found copy (blocks_for x.len) → ⊥) → IsFirstNotHeld found files i copy
 first_not_held found files i x copy within at before is lost = record {

@@ -1,4 +1,5 @@
--- The directory put on a disc, and what is answered.
+-- Writing the directory to a disc, and the answers.
+-- serves: make, rebuild (causes, lost, none, rose), AnswerLemmas
 use Rattle.std.proofs.Common.{◌≡◌, ◌≢◌, ◌⊎◌, ℕ, Bool, true, false, List, [], ◌∷◌, Option, Some, None, Result, Ok, Err, refl, sym, ◌∙◌, ap, subst, inl, inr, map}
 use Rattle.std.specs.Prelude.{◌==◌, IfErr, is_some, if◌then◌else◌}
 use Rattle.std.specs.Option.{option_map}
@@ -75,7 +76,7 @@ is_restored reels held dumps d on is = record {
   made_is = made_is held dumps d is;
 }
 
--- THE RULES of what is made
+-- The rules of the new directory.
 rec_first : (told : Bool) (r : FileRec) (b : Bool) → (let f : File = if b then record { rec = r; online = true; bytes = told_bytes told [] } else record { rec = r; online = false; bytes = None } in f.rec ≡ r)
 rec_first told r true = refl
 rec_first told r false = refl
@@ -123,11 +124,11 @@ pub of_disc : {A B : Type 0} (result : Result A (StoreFault × B)) (fault : Stor
 of_disc (Ok made) fault only is = absurd (not_err made fault is)
 of_disc (Err e) fault only is = subst IsOfDisc (same_err e.0 fault is) only
 
--- a disc that wasn't touched
+-- A disc that wasn't written.
 pub idle : (fault : StoreFault) (s : DiscState) → IsOfReels fault → Causes (fault ≡ DiscReadFault) (fault ≡ Stopped) s s
 idle fault s is = Causes-none s (λ wrong. subst IsOfReels wrong is) (λ wrong. subst IsOfReels wrong is)
 
--- the tree that is put on the disc has the records that were gathered
+-- The tree that is written to the disc has the gathered records.
 same_first : (told : Bool) (d : Dumped) (us : List UserRec) (fs : List FileRec) → us ≡ d.users.items → fs ≡ d.files.items
     → first_contents told (head_of d) us fs ≡ first_contents told (head_of d) d.users.items d.files.items
 same_first told d us fs users files =

@@ -1,4 +1,5 @@
 -- What was read of one reel, and of the reels so far.
+-- serves: dumps_of_reels, read_rack (found), BelongLemmas, DirectoryLemmas, crates above
 use Rattle.std.proofs.Common.{◌≡◌, ℕ, ◌+◌, ◌<◌, ◌≤◌, true, List, [], ◌∷◌, ◌++◌, length, take, Some, refl, sym, ◌∙◌, ap, arith, slice_get, subst, map, All}
 use Rattle.std.specs.Prelude.{is_some}
 use Rattle.std.proofs.lemmas.List.{append-nil, append_assoc, map-append, take_all}
@@ -68,7 +69,7 @@ pub all_reels : (i : ℕ) (found : List Found) (old new : Rack) → length old.r
     → (dumps : List Dump) × AreOnReels old.reels dumps × (map known found ≡ map known_of dumps)
 all_reels i found old new le so = (so.dumps, subst (λ (rs : List Reel). AreOnReels rs so.dumps) (take_all i old.reels le) so.on, so.known_are)
 
--- THE DUMPS OF REELS that tell what they hold are all completed ones
+-- The dumps of reels that expose their blocks are all completed dumps.
 pub all_of_reels : AreAllDumps
 all_of_reels [] dumps shelf told shelved on = on
 all_of_reels (r ∷ rs) dumps shelf told shelved (here, rest, are, on_r, more) =

@@ -1,4 +1,4 @@
--- WHAT A RESTORE NAMES where the completed dumps give no tree: the first user whose directory is lost, or the first file whose bytes are.
+-- What a restore names if the completed dumps give no tree: the first user whose directory is lost, or the first file whose bytes are.
 use Rattle.std.specs.Prelude.{◌≡◌, ℕ, ◌+◌, ◌<◌, List, ◌∷◌, ◌++◌, length, take, slice_get, All, Contains, Some, IfSome, Result, Ok, Err}
 use Rattle.g_name.specs.declared.full.Full.{Full}
 use Rattle.g_entry.specs.declared.file_rec.FileRec.{FileRec}
@@ -15,18 +15,18 @@ use Rattle.g_shelf.specs.CompletedDumps.{AreShelved, all_dumps}
 use Rattle.g_store_meaning.specs.Meaning.{DumpedDirectory, Gathers, IsContent, IsGreatest, files_in}
 use Rattle.g_store_meaning.specs.Reading.{ReelsTold}
 
--- the directories of these users of a dump are held, each in some dump, and together keep the rules of files
+-- The directories of these users of a dump are all held by dumps, and together satisfy the rules of files.
 pub record GoTogether (dumps : List Dump) (last : Dump) (users : List UserRec) : Type 0 where
   pub files : List FileRec
   pub gathers : Gathers dumps users files
   pub rules : AreFiles (length last.users) (numbered_from 0 files)
   pub dated : StampsBelow last.next (numbered_from 0 files)
 
--- user u is bad where those of users 0 to u don't
+-- User u is bad if the directories of users 0 to u don't.
 abbrev pub IsBad : List Dump → Dump → ℕ → Type 0
 IsBad dumps last u = GoTogether dumps last (take (u + 1) last.users) → ⊥
 
--- THE LOST DIRECTORY is that of the least bad user of the greatest dump
+-- The lost directory is that of the first bad user of the dump of greatest number.
 pub record IsLostDirectory (dumps : List Dump) (name : List ℕ) : Type 0 where
   pub last : Dump
   pub greatest : IsGreatest dumps last
@@ -37,11 +37,13 @@ pub record IsLostDirectory (dumps : List Dump) (name : List ℕ) : Type 0 where
   pub least : (lower : ℕ) → lower < number → IsBad dumps last lower → ⊥
   pub name_is : user.user ≡ name
 
--- the place of a file's bytes is held: it is content of completed dumps, as long as the file (an empty one has no place)
+-- The place of the file's bytes is held: it is content of completed dumps, as long as the file. An empty file has no
+-- place.
 abbrev pub HasPlace : List Dump → FileRec → Type 0
 HasPlace dumps r = IfSome r.tape (λ c. (text : List ℕ) × (length text ≡ r.len) × IsContent dumps c text)
 
--- THE LOST COPY, where no user is bad, is that of the first file whose place isn't held: by owner, then in the order of its dump
+-- If no user is bad, the lost copy is that of the first file, by owner and then in the order of its dump, whose place isn't
+-- held.
 pub record IsFirstLost (dumps : List Dump) (full : Full) (serial : ℕ) : Type 0 where
   pub last : Dump
   pub greatest : IsGreatest dumps last
@@ -57,18 +59,19 @@ pub record IsFirstLost (dumps : List Dump) (full : Full) (serial : ℕ) : Type 0
   pub copy_is : file.tape ≡ Some copy
   pub serial_is : copy.serial ≡ serial
 
--- so the directories of all users go together, and every place is held, or one of these is named
+-- If the answer is Ok, the directories of all users satisfy the rules together, and every place is held. A lost
+-- directory or copy is named correctly.
 abbrev pub NamesLost : {A : Type 0} → List Dump → Result A StoreFault → Type 0
 NamesLost dumps (Ok reply) = (t : DumpedDirectory dumps) × All (HasPlace dumps) (files_in t)
 NamesLost dumps (Err (LostDirectory user)) = IsLostDirectory dumps user
 NamesLost dumps (Err (LostCopy full serial)) = IsFirstLost dumps full serial
 NamesLost dumps (Err fault) = Unit {0}
 
--- no two completed dumps have one number
+-- No two completed dumps have the same number.
 abbrev pub AreApart : List Dump → Type 0
 AreApart dumps = (d e : Dump) → Contains dumps d → Contains dumps e → d.number ≡ e.number → d ≡ e
 
--- WHAT A RESTORE OWES OF ITS ANSWER, where the reels tell what they hold
+-- What a restore must establish of its answer, if the reels expose their blocks.
 abbrev pub LostIsNamed : {A : Type 0} → List Reel → Result A StoreFault → Type 0
 LostIsNamed reels answer = ReelsTold reels → (shelf : ℕ → List Dump) → AreShelved shelf reels → AreApart (all_dumps shelf reels)
     → NamesLost (all_dumps shelf reels) answer

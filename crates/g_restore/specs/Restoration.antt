@@ -1,4 +1,4 @@
--- WHAT A RESTORE MAKES OF THE DUMPS, and what it answers.
+-- What a restore builds from the dumps, and its answers.
 use Rattle.std.specs.Prelude.{◌≡◌, ℕ, List, All, Option, Result, Ok, Err}
 use Rattle.g_tape.specs.Rack.{Rack}
 use Rattle.g_tape.specs.Reel.{Reel}
@@ -13,7 +13,8 @@ use Rattle.g_store_meaning.specs.Reading.{ReelsTold}
 use Rattle.g_restore.specs.Reels.{AreOnReels}
 use Rattle.g_restore.specs.Losses.{HasPlace}
 
--- THE DUMPED DIRECTORY of the dumps on these reels, with each place held, on a disc that holds nothing else
+-- The restored contents: the dumped directory of the dumps on these reels, with each place held, on a disc that holds
+-- nothing more.
 pub record IsRestored (reels : List Reel) (held : Option (List (List ℕ))) (number : ℕ) (made : Contents) : Type 0 where
   pub dumps : List Dump
   pub are : AreOnReels reels dumps
@@ -22,12 +23,12 @@ pub record IsRestored (reels : List Reel) (held : Option (List (List ℕ))) (num
   pub number_is : number ≡ directory.last.number
   pub made_is : made ≡ restored held directory
 
--- the answer without the disc that is handed back
+-- The answer, without the disc that is returned with it.
 abbrev pub answer_of : {A B : Type 0} → Result A (StoreFault × B) → Result A StoreFault
 answer_of (Ok reply) = Ok reply
 answer_of (Err e) = Err e.0
 
--- the refusals that come of the reels, those that come of the disc, and all
+-- The refusal concerns the reels, or memory ran out.
 abbrev pub IsOfReels : StoreFault → Type 0
 IsOfReels (store.RackNotMounted serial) = Unit {0}
 IsOfReels store.TapeReadFault = Unit {0}
@@ -37,17 +38,18 @@ IsOfReels (store.LostCopy full serial) = Unit {0}
 IsOfReels store.NoMemory = Unit {0}
 IsOfReels fault = ⊥
 
+-- The refusal concerns the disc, or memory ran out.
 abbrev pub IsOfDisc : StoreFault → Type 0
 IsOfDisc store.DiscReadFault = Unit {0}
 IsOfDisc store.Stopped = Unit {0}
 IsOfDisc store.NoMemory = Unit {0}
 IsOfDisc fault = ⊥
 
--- where the reels tell what they hold, disc and rack that belong together go on doing so
+-- If the reels expose their blocks, disc and rack that belong together still do afterwards.
 abbrev pub KeepsBelonging : Option (List (List ℕ)) → Rack → Option (List (List ℕ)) → Rack → Type 0
 KeepsBelonging held old after new = ReelsTold (told_reels old) → Belong held old → Belong after new
 
--- no directory and no copy is lost
+-- The answer isn't a lost directory or a lost copy.
 abbrev pub NothingIsLost : {A : Type 0} → Result A StoreFault → Type 0
 NothingIsLost (Err (store.LostDirectory user)) = ⊥
 NothingIsLost (Err (store.LostCopy full serial)) = ⊥

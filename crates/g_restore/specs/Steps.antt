@@ -1,4 +1,4 @@
--- The steps of a restore: the directory that is made.
+-- The steps of a restore: the directory that is built.
 use Rattle.std.specs.Prelude.{◌≡◌, ◌≢◌, ◌^◌, ◌<◌, ◌≤◌, true, List, All, None, is_some}
 use Rattle.g_entry.specs.declared.head.Head.{Head}
 use Rattle.g_entry.specs.Rules.{StampsBelow}
@@ -12,7 +12,7 @@ use Rattle.g_tape.specs.Reel.{Reel}
 use Rattle.g_restore.specs.Losses.{HasPlace}
 use Rattle.g_restore.specs.Reels.{AreOnReels}
 
--- the refusals that come of what the dumps hold
+-- The refusal concerns the contents of the dumps, or memory ran out.
 abbrev pub IsOfDumps : StoreFault → Type 0
 IsOfDumps store.NoDump = Unit {0}
 IsOfDumps (store.LostDirectory user) = Unit {0}
@@ -20,7 +20,7 @@ IsOfDumps (store.LostCopy full serial) = Unit {0}
 IsOfDumps store.NoMemory = Unit {0}
 IsOfDumps fault = ⊥
 
--- what is in memory of the directory that dumps give
+-- The directory in memory is the one that the dumps give, and each place is held.
 pub record IsFolded (dumps : List Dump) (d : Dumped) : Type 0 where
   pub directory : DumpedDirectory dumps
   pub places : All (HasPlace dumps) (files_in directory)
@@ -29,7 +29,7 @@ pub record IsFolded (dumps : List Dump) (d : Dumped) : Type 0 where
   pub users_are : d.users.items ≡ directory.last.users
   pub files_are : d.files.items ≡ files_in directory
 
--- a directory that can be put on a disc
+-- The directory can be written to a disc.
 pub record CanBeMade (d : Dumped) : Type 0 where
   pub number : d.number < 2 ^ 62
   pub first : 1 ≤ d.next_stamp
@@ -38,10 +38,11 @@ pub record CanBeMade (d : Dumped) : Type 0 where
   pub dated : StampsBelow d.next_stamp d.files.items
   pub copied : All (λ r. r.len ≢ 0 → is_some r.tape ≡ true) d.files.items
 
+-- The head of the restored directory, which has no intent.
 abbrev pub head_of : Dumped → Head
 head_of d = record { next_stamp = d.next_stamp; last_dump = d.number; intent = None }
 
--- the dumps of the reels give it, and it can be made
+-- The dumps of the reels give this directory, and it can be written to a disc.
 pub record IsGiven (reels : List Reel) (d : Dumped) : Type 0 where
   pub dumps : List Dump
   pub are : AreOnReels reels dumps

@@ -15,7 +15,7 @@ use g_plain::StoreFault;
 use g_tree::full_of;
 use std::alloc::Global;
 
-/// The users and the next stamp of the last dump, its number, and the files of all users.
+/// The number, the users and the next stamp of the last dump, and the files of all users.
 #[derive(Drop)]
 pub struct Dumped {
     pub number: u64,
@@ -24,8 +24,8 @@ pub struct Dumped {
     pub files: Vec<FileRec>,
 }
 
-/// The directory that these dumps give together: the users of the one of greatest number, and of each user the files of the
-/// newest one that holds them. `NoDump` where there is none, `LostDirectory` and `LostCopy` as `rebuild` says; `NoMemory`.
+/// The directory that these dumps give together: the users of the one of greatest number, and for each user the files of
+/// the newest dump that holds them. `NoDump` if there is none; `LostDirectory` and `LostCopy` as for `rebuild`; `NoMemory`.
 pub fn fold(alloc: Global, found: &[Found]) -> Result<Dumped, StoreFault>
     requires few { All HasFew found.now }
     ensures none { result ≡ Err StoreFault.NoDump → found.now ≡ [] }

@@ -29,8 +29,8 @@ impl OfDump for Found {
     }
 }
 
-/// The completed dumps of all reels, in rising serial, those of a reel in their order. Each is read once, without its
-/// content. `ReadFault`, `NoMemory`; the reels are as they were.
+/// The completed dumps of all reels, by increasing serial, those of a reel in their order. Each is read once, without
+/// its content. `ReadFault`, `NoMemory`; the content of the reels is unchanged.
 pub fn read_rack<T: Tapes>(alloc: Global, tapes: &mut T) -> Result<Vec<Found>, ShelfFault>
     requires mounted { All (λ r. r.mounted ≡ true) (T.rack tapes.old).reels }
     ensures found { IfOk result (λ found. (dumps : List Dump)
@@ -43,7 +43,7 @@ pub fn read_rack<T: Tapes>(alloc: Global, tapes: &mut T) -> Result<Vec<Found>, S
     let mut found = Vec::new(alloc);
     for i in 0..tapes.reels() {
         let serial = tapes.serial(i);
-        // In a loop the proof reads the arms of a `match`, and not what `?` returns.
+        // A `match`, since the proof names its arms (`in-Ok`, `in-Err`).
         match read_reel(alloc, tapes, serial, &mut found) {
             Ok(()) => {}
             Err(fault) => return Err(fault),
@@ -52,8 +52,8 @@ pub fn read_rack<T: Tapes>(alloc: Global, tapes: &mut T) -> Result<Vec<Found>, S
     Ok(found)
 }
 
-/// Makes the rack durable and then reads it as `read_rack` does: a restore believes no mark that a power loss could still take.
-/// `ReadFault` also if a reel can't be made durable.
+/// Makes the rack durable and then reads it as `read_rack` does: a restore must not rely on a mark that a power loss could
+/// still remove. `ReadFault` also if a reel can't be made durable.
 pub(crate) fn read_durable_rack<T: Tapes>(
     alloc: Global,
     tapes: &mut T,

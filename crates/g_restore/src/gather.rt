@@ -1,4 +1,4 @@
-//! The directories of users, each from the newest dump that holds it, one behind the other.
+//! Gathers the directories of users, each from the newest dump that holds it.
 ghost use Rattle.std.specs.Prelude.{◌≡◌, ◌⊎◌, ◌↔◌, ◌+◌, ◌≤◌, ℕ, All, IfErr, IfOk, IfSome, IsTrue, List, OnOk, false, length};
 ghost use Rattle.g_incr.specs.Layout.{Dump};
 ghost use Rattle.g_restore.specs.KnownDumps.{AreKnown};
@@ -11,8 +11,8 @@ use g_entry::{FileRec, UserRec, files_keep, stamps_are_below};
 use g_plain::StoreFault;
 use std::alloc::Global;
 
-/// The place and the number of the dump of greatest number among those that hold the directory of this user, or, without a
-/// user, among all; of equal numbers the first.
+/// The position and the number of the dump of greatest number among those that hold the directory of this user, or,
+/// without a user, among all; of equal numbers, the first.
 pub(crate) fn greatest(found: &[Found], user: Option<u8>) -> Option<(usize, u64)>
     ensures { IsBestOf user found.now (length found.now) result }
 {
@@ -38,7 +38,7 @@ fn newer_holder(
     }
 }
 
-/// Of the best dump so far and one behind it the one of greater number, the first where they are equal.
+/// The better of the best dump so far and one after it: the one of greater number, or the first if they are equal.
 fn newer_of(best: Option<(usize, u64)>, i: usize, number: u64) -> Option<(usize, u64)>
     ensures { result ≡ newer_of best i number }
 {
@@ -65,7 +65,7 @@ fn holds_directory(one: &Found, user: Option<u8>) -> bool
 }
 
 /// The files of all these users, by owner, numbered from 0. `LostDirectory` names the first user whose directory no dump
-/// holds, or with whose directory those of the users up to it don't keep the rules of files; `NoMemory`.
+/// holds, or whose directory breaks the rules of files together with those of the users before; `NoMemory`.
 pub(crate) fn gather(
     alloc: Global,
     found: &[Found],
@@ -87,7 +87,8 @@ pub(crate) fn gather(
     }
 }
 
-/// `gather` with the rules looked at once, behind the last directory; `None` where a directory lacks, or they aren't kept.
+/// `gather` with the rules checked once, after the last directory. `None` if a directory is missing, or the rules aren't
+/// satisfied.
 fn gather_at_once(
     alloc: Global,
     found: &[Found],
@@ -116,7 +117,7 @@ fn gather_at_once(
     }
 }
 
-/// `gather` with the rules looked at behind each directory, which tells the first user with whom they aren't kept.
+/// `gather` with the rules checked after each directory, which finds the first user for whom they aren't satisfied.
 fn gather_by_user(
     alloc: Global,
     found: &[Found],
@@ -142,7 +143,8 @@ fn gather_by_user(
     Ok(files)
 }
 
-/// Puts the directory of this user behind the others. Whether there is one, and goes with them.
+/// Appends the directory of this user. Returns whether there is one and it satisfies the rules together with the
+/// others.
 fn take_user(
     alloc: Global,
     found: &[Found],
@@ -163,7 +165,7 @@ fn take_user(
     }
 }
 
-/// Whether the files keep the rules, where there are so many users and this is the next stamp.
+/// Whether the files satisfy the rules, in a directory with that many users and this next stamp.
 fn keep_file_rules(
     alloc: Global,
     users: usize,
@@ -179,7 +181,7 @@ fn keep_file_rules(
     }
 }
 
-/// Puts the directory of this user behind the files, from the newest dump that holds it. Whether one does.
+/// Appends the directory of this user, from the newest dump that holds it. Returns whether one does.
 fn add_directory(found: &[Found], user: u8, files: &mut Vec<FileRec>) -> Result<bool, NoMemory>
     requires few { All HasFew found.now }
     requires low { length files.old.items ≤ 1024 }
@@ -195,7 +197,7 @@ fn add_directory(found: &[Found], user: u8, files: &mut Vec<FileRec>) -> Result<
     }
 }
 
-/// Puts the files of this user behind the others, numbered on.
+/// Appends the files of this user, numbered consecutively after the others.
 fn add_files(from: &[FileRec], user: u8, files: &mut Vec<FileRec>) -> Result<(), NoMemory>
     requires low { length files.old.items + length from.now ≤ 65535 }
     ensures { OnOk result (files.new.items ≡ behind files.old.items user from.now) }
@@ -209,7 +211,7 @@ fn add_files(from: &[FileRec], user: u8, files: &mut Vec<FileRec>) -> Result<(),
     Ok(())
 }
 
-/// Puts the file behind the others, with its place as its number, if it is this user's.
+/// Appends the file, with its position as its number, if it is this user's.
 fn add_file(r: &FileRec, user: u8, files: &mut Vec<FileRec>) -> Result<(), NoMemory>
     requires low { length files.old.items ≤ 65535 }
     ensures { OnOk result (files.new.items ≡ added files.old.items user r.now) }

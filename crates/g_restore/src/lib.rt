@@ -1,4 +1,4 @@
-//! General restore: the filestore that the completed dumps of a rack give together, made on a disc anew.
+//! General restore: builds the filestore that the completed dumps of a rack give together, on an arbitrary disc.
 #![tactic(auto)]
 
 mod directory;
@@ -14,7 +14,7 @@ pub use dumps::{Found, read_rack};
 pub use places::any_has;
 pub use restore::rebuild;
 
-/// Where the reels tell what they hold, the dumps that are read of them are all completed dumps.
+/// If the reels expose their blocks, the dumps that are read from them are all completed dumps.
 pub fn dumps_of_reels()
     ensures all { AreAllDumps }
 {}

@@ -1,4 +1,4 @@
-//! Whether the bytes of files are still on tape.
+//! Checks whether the bytes of files are still on tape.
 ghost use Rattle.std.specs.Prelude.{◌≡◌, ◌↔◌, All, IfNone, IfSome, IsTrue, Some};
 ghost use Rattle.g_base.specs.Block.{blocks_for};
 ghost use Rattle.g_restore.specs.Places.{AnyHas, HasBlocks, IsFirstNotHeld, IsHeld};
@@ -8,7 +8,7 @@ use g_base::blocks_for;
 use g_entry::{FileRec, TapeCopy};
 use g_shelf::holds;
 
-/// The first of the files of whose copy not every block is content of one of the dumps: its place, and the copy.
+/// The first of the files whose copy has a block that isn't content of a dump: its position, and the copy.
 pub(crate) fn first_lost(found: &[Found], files: &[FileRec]) -> Option<(usize, TapeCopy)>
     ensures some { IfSome result (λ lost. IsFirstNotHeld found.now files.now lost.0 lost.1) }
     ensures none { IfNone result (All (IsHeld found.now) files.now) }
@@ -22,7 +22,7 @@ pub(crate) fn first_lost(found: &[Found], files: &[FileRec]) -> Option<(usize, T
     None
 }
 
-/// The copy of the file, if there is one of which not every block is content of one of the dumps.
+/// The copy of the file, if the file has one and not every block of it is content of one of the dumps.
 fn lost_copy(found: &[Found], r: &FileRec) -> Option<TapeCopy>
     ensures copy { IfSome result (λ c. r.now.tape ≡ Some c) }
     ensures lost { IfSome result (λ c. AnyHas found.now c (blocks_for r.now.len) → ⊥) }
@@ -40,7 +40,8 @@ fn lost_copy(found: &[Found], r: &FileRec) -> Option<TapeCopy>
     }
 }
 
-/// Whether so many blocks from the copy's first one on are content of one of the dumps, which may be of several reels.
+/// Whether all `blocks` blocks from the copy's first one on are content of one of the dumps, which may be on several
+/// reels.
 pub fn any_has(found: &[Found], copy: &TapeCopy, blocks: u32) -> bool
     ensures { IsTrue result ↔ AnyHas found.now copy.now blocks }
 {

@@ -1,4 +1,4 @@
-//! The rebuilding of a filestore from the completed dumps of a rack.
+//! Rebuilds a filestore from the completed dumps of a rack.
 ghost use Rattle.std.specs.Prelude.{◌≡◌, ◌≢◌, ◌⊎◌, ◌↔◌, ◌<◌, ◌≤◌, ℕ, All, IfErr, IfOk, List, OnErr, [], is_some};
 ghost use Rattle.g_base.specs.Counts.{Rose};
 ghost use Rattle.g_base.specs.ToldContent.{Changes};
@@ -28,18 +28,19 @@ use g_tape::Tapes;
 use g_tree::Tree;
 use std::alloc::Global;
 
-/// Makes the filestore that the completed dumps give, on this disc, by one commit, and answers the number of the last dump:
-/// the users and the next stamp are that dump's, each user's files those of the newest dump that holds the user, and every
-/// file that isn't empty is offline, at the place that its record names. The disc may have held anything, and need not
-/// belong to the rack. All reels have to be mounted. A refusal hands the disc back, and no reel changes as it is read:
+/// Builds the filestore that the completed dumps give, on this disc, by one commit, and returns the number of the last
+/// dump. The users and the next stamp are those of that dump, each user's files are those of the newest dump that holds the
+/// user, and every file that isn't empty is offline, at the place that its record names. The disc may have held anything,
+/// and need not belong to the rack. All reels must be mounted. A refusal returns the disc, and the content of the reels is
+/// unchanged:
 ///
-/// - `RackNotMounted`: the first reel that isn't mounted. `TapeReadFault`: a reel couldn't be made durable, or a read of it
-///   failed. `NoDump`: no reel has a completed dump. With these, and with `LostDirectory`, `LostCopy` and `NoMemory`, the disc is as it was.
-/// - `LostDirectory`: the first user of the last dump whose directory no dump holds, or with whose directory those of the
-///   users up to it break the rules of a directory. `LostCopy`: else the first file, by owner and then in the order of its
-///   dump, whose place isn't content of completed dumps.
-/// - `DiscReadFault`: the gate couldn't be read; the disc is as it was. `Stopped`: a write failed, and the disc holds what
-///   it held, or the new filestore.
+/// - `RackNotMounted`: the first reel that isn't mounted. `TapeReadFault`: a reel couldn't be made durable, or a read of it failed.
+/// `NoDump`: no reel has a completed dump. With these, and with `LostDirectory`, `LostCopy` and `NoMemory`, the disc is unchanged.
+/// - `LostDirectory`: the first user of the last dump whose directory no dump holds, or whose directory breaks the rules of a directory
+/// together with those of the users before. `LostCopy`: otherwise the first file, by owner and then in the order of its dump, whose place
+/// isn't content of completed dumps.
+/// - `DiscReadFault`: the gate couldn't be read; the disc is unchanged. `Stopped`: a write failed, and the disc holds what it held, or the
+/// new filestore.
 pub fn rebuild<D: Disc, T: Tapes>(
     alloc: Global,
     disc: D,
@@ -70,7 +71,7 @@ pub fn rebuild<D: Disc, T: Tapes>(
         (D.state disc) (D.state e.1)) }
     ensures only { IfErr result (λ e. IsOfReels e.0 ⊎ IsOfDisc e.0) }
 
-    // Disc and rack may belong together or not; where they do, they go on doing so, and nothing is lost.
+    // Disc and rack need not belong together; if they do, they still do afterwards, and nothing is lost.
     ensures belongs { IfOk result (λ made. KeepsBelonging (D.state disc).held (T.rack tapes.old) made.0.disc.held (T.rack tapes.new)) }
     ensures belongs_refused { IfErr result (λ e. KeepsBelonging (D.state disc).held (T.rack tapes.old)
         (D.state e.1).held (T.rack tapes.new)) }
@@ -107,7 +108,7 @@ fn dumped_directory<T: Tapes>(alloc: Global, tapes: &mut T) -> Result<Dumped, St
     }
 }
 
-/// Makes a filestore of the directory on the disc. `DiscReadFault`, `Stopped`, `NoMemory`, as `rebuild` says.
+/// Builds a filestore with the directory on the disc. `DiscReadFault`, `Stopped` and `NoMemory` as for `rebuild`.
 fn make<D: Disc>(
     alloc: Global,
     disc: D,

@@ -1,4 +1,5 @@
 -- A file that isn't on the disc may be brought back, with others taken off by a plan; and the room that there is then is the plan's.
+-- serves: bring_back, put_back, BackLemmas, KeepsLemmas, crates above
 use Rattle.std.proofs.Common.{◌≡◌, ◌≢◌, ℕ, ◌+◌, ◌<◌, ◌==◌, Bool, true, false, ◌&&◌, ◌||◌, List, [], ◌∷◌, get_or, length, map, sum_by, Option, Some, None, is_some, refl, sym, ◌∙◌, ap, arith, subst, inl, inr, if◌then◌else◌, true≢false}
 use Rattle.std.specs.Prelude.{◌⊎◌, All, Contains, nat_lt}
 use Rattle.std.proofs.lemmas.Bool.{and_parts, both_ways, cases_Bool, cond-false, cond-true, eq-eqb, eqb-true, false_from_ne_true, ltb-true}

@@ -1,4 +1,5 @@
--- How it is answered that a file is to come back: by what was read, and by what was put back.
+-- How bringing a file back is answered: by what was read, and by what was written.
+-- serves: bring_back, file_of (value), lost, put_back, crates above
 use Rattle.std.proofs.Common.{◌≡◌, ◌≢◌, ℕ, ◌<◌, ◌≤◌, true, false, List, length, Option, Some, None, Result, Ok, Err, refl, sym, ◌∙◌, ap, arith, subst, inl, inr, true≢false}
 use Rattle.std.specs.Prelude.{◌⊎◌, ◌↔◌, Contains, IfErr, IfOk}
 use Rattle.std.specs.Option.{option_map}
@@ -42,12 +43,12 @@ module _ (number : ℕ) (text : List ℕ) (plan : Unjam) (o new : OnlineFacts) (
   abbrev need : ℕ
   need = blocks_for (length text)
 
-  -- there was room where it isn't refused for want of room
+  -- there was room if it isn't refused for lack of room
   has_room : (answer : Result (Unit {0}) OnlineFault) → IsApplied (Bring number text plan.take) o new answer
       → (answer ≡ Err (online.DiscFull need (room_for (Bring number text plan.take) o)) → ⊥) → plan.room < need → ⊥
   has_room answer applied other less = other (applied.full.1 (omega (arith, less, same_room)))
 
-  -- what isn't a stop leaves all as it was, and is a want of memory
+  -- a fault that isn't a stop leaves everything unchanged, and means that memory ran out
   put_other : (fault : OnlineFault) → fault ≢ online.Stopped → (fault ≡ online.DiscFull need (room_for (Bring number text plan.take) o) → ⊥)
       → (let r : Result (Unit {0}) OnlineFault = Err fault in IsApplied (Bring number text plan.take) o new r) → IsPutBack number text plan o new (Err NoMemory)
   put_other fault other fits applied = record {
@@ -189,7 +190,7 @@ module _ (number : ℕ) (plan : Unjam) (o : OnlineFacts) (before after : Rack) (
   no_full fault need room (inr (inr (inl (name, is)))) full = cc
   no_full fault need room (inr (inr (inr is))) full = cc
 
-  -- refused by the tape, and all is as it was
+  -- refused by the tape, and everything is unchanged
   pub back_refused : (full : Option Full) (fault : StoreFault) → IsTied o → HasReadCopy full c f.rec.len before after (Err fault) → HasBroughtBack number plan f c o o before after (Err fault)
   back_refused full fault tied read = record {
     ok = tt;
@@ -210,7 +211,7 @@ module _ (number : ℕ) (plan : Unjam) (o : OnlineFacts) (before after : Rack) (
   refused_only fault (inr (inr (inl (name, is)))) = inr (inr (inl (name, is)))
   refused_only fault (inr (inr (inr is))) = inr (inr (inr (inr (inr is))))
 
-  -- the bytes were there: put back, or refused by the disc
+  -- the bytes were there: written back, or refused by the disc
   module _ (new : OnlineFacts) (text : List ℕ) (result : Result (List ℕ) StoreFault) (copied : HasCopied c f.rec.len text before after) (tapes : (let r : Result (List ℕ) StoreFault = Ok text in ReadsTapes before after r))
       (put : IsPutBack number text plan o new result) where
     abbrev wanted : ℕ
@@ -292,7 +293,7 @@ module _ (number : ℕ) (plan : Unjam) (o : OnlineFacts) (before after : Rack) (
     pub put_only : IfErr result IsOneOf
     put_only = only_by result put.refusals
 
-    -- and the store keeps what it keeps
+    -- and the store preserves its invariant
     keeps_by : (r : Result (List ℕ) StoreFault) → result ≡ r → o.live ≡ true → IsTied o → IsOnTape number o f c → KeepsDevices o new before after
     keeps_by (Ok t) is live tied away =
         keeps_done o new before after number f c text plan.take live tied away copied tapes.only put.tied put.told
@@ -312,7 +313,7 @@ module _ (number : ℕ) (plan : Unjam) (o : OnlineFacts) (before after : Rack) (
     pub put_keeps : o.live ≡ true → IsTied o → IsOnTape number o f c → KeepsDevices o new before after
     put_keeps live tied away = keeps_by result refl live tied away
 
-  -- a copy that was looked for and is lost
+  -- a copy that was searched for and is lost
   pub refused_lost : (fault : StoreFault) → o.live ≡ true → IsTied o → IsOnTape number o f c → HasReadCopy (name_of_file o.contents.users (recs_in o.contents) number) c f.rec.len before after (Err fault)
       → (name : Full) (serial : ℕ) → (let r : Result (List ℕ) StoreFault = Err fault in r ≡ Err (NoCopy name serial)) → HasLostCopy f c name serial o before
   refused_lost fault live tied away read name serial is =

@@ -1,4 +1,5 @@
 -- The bytes of held blocks are content.
+-- serves: tape_bytes (none, some), crates above
 use Rattle.std.proofs.Common.{◌≡◌, ℕ, zero, suc, ◌+◌, ◌-◌, ◌*◌, ◌<◌, ◌≤◌, List, [], ◌∷◌, ◌++◌, length, map, take, drop, refl, sym, ◌∙◌, ap, subst, arith, length-append}
 use Rattle.std.specs.Prelude.{All, Contains}
 use Rattle.std.specs.Option.{ForSome}
@@ -53,7 +54,7 @@ part_stands reel d first n stands from to =
     ap (drop s) (sym (content_stands reel d stands)) ∙ ap (λ (m : ℕ). drop s (take m whole)) long ∙ drop-take s left whole in
     ap (λ (m : ℕ). take n (drop m reel)) at ∙ ap (take n) (sym (drop-drop s (content_at d) reel)) ∙ sym (take-take n left (drop s whole) (omega (arith, from, to))) ∙ ap (take n) (sym inside)
 
--- whole blocks, one behind the other
+-- whole blocks, one after another
 pub joined_long : (blocks : List (List ℕ)) → All IsBlock blocks → length (joined blocks) ≡ 512 * length blocks
 joined_long [] all = refl
 joined_long (b ∷ bs) all =

@@ -1,4 +1,5 @@
 -- What the bytes of a copy are where disc and rack belong together, and that it isn't lost then.
+-- serves: BackLemmas, KeepsLemmas, crates above
 use Rattle.std.proofs.Common.{◌≡◌, ℕ, ◌-◌, ◌==◌, true, false, List, [], ◌∷◌, length, Option, Some, None, is_some, refl, sym, ◌∙◌, ap, subst, inl, inr}
 use Rattle.std.specs.Prelude.{◌⊎◌, Contains, IfSome}
 use Rattle.std.proofs.lemmas.Bool.{cases_Bool, cond-false, cond-true, eqb-true}
@@ -39,7 +40,7 @@ reel_there s (r ∷ rs) q is = by_case (cases_Bool (s == r.serial)) (reel_there 
         let (there, at) = later (sym (cond-false (s == r.serial) (Some r) (reel s rs) other) ∙ is) in
         (contains_more r q rs there, at)
 
--- the shelf has its completed dumps, where it tells
+-- the shelf has its completed dumps, if it exposes its contents
 pub shelf_of : (shelf : ℕ → List Dump) (s : ℕ) (rack : Rack) (blocks : List (List ℕ)) → AreShelved shelf (told_reels rack) → blocks_of s rack ≡ Some blocks → AreCompleted s blocks (shelf s)
 shelf_of shelf s rack blocks shelved told = by_reel (reel s rack.reels) refl
   where
@@ -50,7 +51,7 @@ shelf_of shelf s rack blocks shelved told = by_reel (reel s rack.reels) refl
         let tells : q.blocks ≡ Some blocks = sym (ap blocks_in some) ∙ told in
         subst (λ (n : ℕ). AreCompleted n blocks (shelf n)) at (shelved.each (unread q) (mapped_there unread rack.reels q there) blocks tells)
 
--- a reel that is mounted tells, where all do, and its dumps are among all
+-- a mounted reel exposes its contents, if all do, and its dumps are among all dumps
 record TellsReel (shelf : ℕ → List Dump) (s : ℕ) (rack : Rack) : Type 0 where
   blocks : List (List ℕ)
   told : blocks_of s rack ≡ Some blocks
@@ -102,7 +103,7 @@ copied_one shelf c len t bytes before after told shelved is long copied =
     one_content (all_dumps shelf reels) (are_right shelf reels told shelved) c bytes t (copied.long ∙ sym long)
     (content_in (shelf c.serial) (all_dumps shelf reels) c bytes tells.on here) is
 
--- A LOST COPY: as a store tells it
+-- a lost copy, as a store reports it
 pub lost_copy : (s : StoreFacts) (f : File) (c : TapeCopy) → Contains s.online.contents.files f → f.online ≡ false → f.rec.tape ≡ Some c → IsNowhere c f.rec.len s.rack
     → IsLostCopy s (full_of s.online.contents.users f.rec) c.serial
 lost_copy s f c there offline copy nowhere =
@@ -132,7 +133,7 @@ belongs_not_lost s f c unspent told belongs there copy nowhere =
     let (is, long) = text_is text shelf s f c up there copy in
     never_lost shelf c f.rec.len (text f.rec.stamp) s.rack told.each shelved is long nowhere
 
--- the copy of a file that was looked for
+-- the copy of a file that was searched for
 pub is_lost : (number : ℕ) (o : OnlineFacts) (rack : Rack) (f : File) (c : TapeCopy) (name : Full) (serial : ℕ) → IsOnTape number o f c → name ≡ full_of o.contents.users f.rec → serial ≡ c.serial
     → IsNowhere c f.rec.len rack → HasLostCopy f c name serial o rack
 is_lost number o rack f c name serial away named on nowhere = record {

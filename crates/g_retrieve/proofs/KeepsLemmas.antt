@@ -1,4 +1,5 @@
--- A store keeps what it keeps where its rack is read and a file is brought back.
+-- A store preserves its invariant when its rack is read and a file is brought back.
+-- serves: BackLemmas, crates above
 use Rattle.std.proofs.Common.{◌≡◌, ℕ, ◌<◌, Bool, true, false, List, [], ◌∷◌, map, get_or, Option, Some, None, is_some, refl, sym, ◌∙◌, ap, subst, arith, inl, inr, if◌then◌else◌}
 use Rattle.std.specs.Prelude.{◌⊎◌, ◌||◌, All, IfSome, length, not, option_map}
 use Rattle.std.specs.Option.{ForSome}
@@ -101,7 +102,7 @@ module _ (s : StoreFacts) (after : Rack) (only : OnlyReads s.rack after) where
 abbrev with_online : OnlineFacts → StoreFacts → StoreFacts
 with_online o s = record s { online = o; spent = not o.live }
 
--- THE CONTENTS behind the change, and between its commits
+-- the contents after the change, and between its commits
 abbrev off : List ℕ → Contents → Contents
 off take c = with_files (taken_off take c.files) c
 
@@ -155,7 +156,7 @@ dump_kept : (dump : Option DumpFacts) (o new : OnlineFacts) (rack : Rack) (numbe
 dump_kept None o new rack number bytes take pins contents is = tt
 dump_kept (Some d) o new rack number bytes take pins contents is = open_kept d o new rack number bytes take pins contents is
 
--- nobody is unmarked
+-- no mark is removed
 grows_to : (old new : List ℕ) → new ≡ old → (n : ℕ) → holds old n ≡ true → holds new n ≡ true
 grows_to old new same n is = ap (λ (l : List ℕ). holds l n) same ∙ is
 
@@ -166,7 +167,7 @@ itself_grows s = record { grows = λ n is. is; grows_open = by_dump s.dump }
     by_dump None = tt
     by_dump (Some d) = λ n is. is
 
--- WHERE IT IS DONE
+-- IF IT IS DONE
 module _ (s : StoreFacts) (new : OnlineFacts) (number : ℕ) (bytes take : List ℕ) (done : HasChanged (Bring number bytes take) s.online new) (tied : IsTied new) (unspent : s.spent ≡ false) (store : IsStore s) where
   store_after : IsStore (with_online new s)
   store_after = record {
@@ -221,12 +222,12 @@ module _ (s : StoreFacts) (new : OnlineFacts) (number : ℕ) (bytes take : List 
         up = λ unspent. (text, shelf, shelved, after);
       }
 
--- WHERE IT WAS STOPPED the store is spent
+-- IF IT WAS STOPPED the store is spent
 module _ (s : StoreFacts) (new : OnlineFacts) (number : ℕ) (bytes take : List ℕ) (stopped : HasStopped (Bring number bytes take) s.online new) (tied : IsTied new) where
   store_stopped : IsStore (with_online new s)
   store_stopped = spent_store s new stopped.live tied
 
-  -- whichever of the three the disc holds, it belongs
+  -- whichever of the three contents the disc holds, it belongs to the rack
   one_belongs : (text : ℕ → List ℕ) (shelf : ℕ → List Dump) (blocks : List (List ℕ)) (c : Contents) → IsUp text shelf s
       → All (BringsText text number (told_bytes true bytes)) s.online.contents.files → AfterStop (Bring number bytes take) s.online blocks → Holds blocks c → DiscBelongs text shelf (told_reels s.rack) c
   one_belongs text shelf blocks c up brings after holds_c = by_case after.one
@@ -261,7 +262,7 @@ module _ (s : StoreFacts) (new : OnlineFacts) (number : ℕ) (bytes take : List 
     up = λ up. absurd (spent_then new stopped.live up);
   }
 
--- THE STORE over these devices: nothing has changed but that the rack was read
+-- THE STORE on these devices: nothing has changed except that the rack was read
 same_store : (s : StoreFacts) (o : OnlineFacts) → s.online ≡ o → s.spent ≡ false → o.live ≡ true → s ≡ with_online o s
 same_store s o at unspent live = λ i. let t : StoreFacts = record s { online = at i; spent = (unspent ∙ sym (ap not live)) i } in t
 
@@ -275,7 +276,7 @@ keeps_same o before after live only = record {
   belongs = λ s over store told was. belongs_read (with_online o s) after (reads_in before after s over.rack_is only) (subst Belongs (same_store s o over.online_is over.unspent live) was);
 }
 
--- the disc tells behind a change where it told before
+-- the disc exposes its contents after a change if it did before
 told_then : (s : StoreFacts) (new : OnlineFacts) → is_some new.disc.held ≡ is_some s.online.disc.held → Told s → Told (with_online new s)
 told_then s new same told = record { disc = same ∙ told.disc; each = told.each }
 

@@ -1,4 +1,5 @@
 -- Bytes that are read block by block.
+-- serves: read_text (read), tape_bytes (read, some), crates above
 use Rattle.std.proofs.Common.{◌≡◌, ℕ, zero, suc, ◌+◌, ◌-◌, ◌*◌, ◌^◌, ◌<◌, ◌≤◌, min, List, [], ◌∷◌, ◌++◌, length, take, drop, Option, Some, None, Ok, refl, sym, ◌∙◌, ap, subst, arith, slice_get, inl, inr, if◌then◌else◌, Bool, true, false, length-append}
 use Rattle.std.specs.Prelude.{◌⊎◌}
 use Rattle.std.specs.Option.{ForSome}
@@ -18,7 +19,7 @@ use Rattle.g_incr.proofs.ListLemmas.{get_drop}
 use Rattle.g_incr.proofs.TapeLemmas.{ReadsTape, reads_then, same_len}
 use Rattle.g_store_meaning.specs.Meaning.{joined}
 
--- SO FAR: the blocks up to block k were read, and their bytes are there as far as they are asked for
+-- so far: the blocks before block k were read, and the required bytes among theirs are there
 pub record HasText (s first k len : ℕ) (bytes : List ℕ) (old new : Rack) : Type 0 where
   pub count : ℕ
   pub at : k ≡ first + count
@@ -97,7 +98,7 @@ pub mounted_there : (o : Option Reel) → refuses_unmount o ≡ None → (r : Re
 mounted_there None free = absurd (let no : ⊥ = cc in no)
 mounted_there (Some r) free = (r, refl)
 
--- BEHIND THE CATALOGUE the blocks that are held are there
+-- after the catalogue was read, the blocks that are held exist
 pub fits_then : (s first n : ℕ) (old mid : Rack) → OnlyReads old mid → refuses_unmount (reel s old.reels) ≡ None → (0 < n → ForSome (reel s old.reels) (λ r. first + n ≤ r.len))
     → (k : ℕ) → first ≤ k → k < first + n → ForSome (reel s mid.reels) (λ r. k < r.len)
 fits_then s first n old mid only free fits k least below q there =
@@ -118,7 +119,7 @@ low_place s first (suc n) rack are free low fits =
     let most = is.sized_most in
     omega (arith, whole, within, most)
 
--- what was read behind it
+-- what was read afterwards
 pub text_then : (s first len : ℕ) (text : List ℕ) (old mid : Rack) → OnlyReads old mid → ForSome (blocks_of s mid) (λ bs. text ≡ take len (joined (take (blocks_for len) (drop first bs))))
     → ForSome (blocks_of s old) (λ bs. text ≡ take len (joined (take (blocks_for len) (drop first bs))))
 text_then s first len text old mid only is bs told = is bs (blocks_after_reads s old mid only ∙ told)

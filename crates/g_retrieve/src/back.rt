@@ -1,4 +1,4 @@
-//! A file that is on tape alone comes back to the disc.
+//! A file that is only on tape is brought back to the disc.
 ghost use Rattle.std.specs.Prelude.{◌≡◌, ◌⊎◌, ◌↔◌, ℕ, ◌<◌, Contains, Err, IfErr, length, false, true, Some};
 ghost use Rattle.std.specs.Option.{ForSome};
 ghost use Rattle.g_base.specs.Block as block;
@@ -26,14 +26,14 @@ use g_tape::Tapes;
 use g_tree::Tree;
 use std::alloc::Global;
 
-/// Brings the file of this number, whose bytes are on tape alone, back to the disc (docs/DEFINITIONS.md), and gives these
-/// bytes: each block of its copy is read, and of its reel's catalogue what isn't known yet, then other files are taken off
-/// the disc by the plan, and the bytes are put there. `WaitTape`: its reel isn't mounted, and nothing was read.
-/// `TapeReadFault`: a read failed. `NoCopy`: the completed dumps of the reel don't hold the copy's place. `DiscFull`: the
-/// bytes need more blocks than the plan's room. Behind these four, in this order, and behind `NoMemory`, the disc and all of
-/// memory are as they were.
-/// `Stopped`: a write of the disc failed; it holds what it held, or that without the files of the plan, or with the file
-/// too, and takes no further call.
+/// Brings the file of this number, whose bytes are only on tape, back to the disc (docs/DEFINITIONS.md), and returns these
+/// bytes. It reads each block of the copy, and as much of its reel's catalogue as isn't known yet. Then other files are
+/// taken off the disc by the plan, and the bytes are written there. `WaitTape`: its reel isn't mounted, and nothing was
+/// read. `TapeReadFault`: a read failed. `NoCopy`: the completed dumps of the reel don't contain the copy's place.
+/// `DiscFull`: the bytes need more blocks than the plan's room. After these four, in this order, and after `NoMemory`, the
+/// disc and all of memory are unchanged.
+/// `Stopped`: a write of the disc failed. The disc holds what it held, or that without the files of the plan, or also with
+/// the file; it accepts no further call.
 pub fn bring_back<D: Disc, T: Tapes>(
     alloc: Global,
     online: &mut Online<D>,
@@ -77,7 +77,7 @@ pub fn bring_back<D: Disc, T: Tapes>(
     }
 }
 
-/// The record of a file that is there.
+/// The record of an existing file.
 pub fn file_of(tree: &Tree, number: u16) -> FileRec
     requires { (r : FileRec) × Contains tree.now.files r × (r.number ≡ number) }
     ensures value { (r : FileRec) → Contains tree.now.files r → r.number ≡ number → result ≡ r }
@@ -89,8 +89,8 @@ pub fn file_of(tree: &Tree, number: u16) -> FileRec
     }
 }
 
-/// The bytes of a file's copy on tape. `WaitTape`: its reel isn't mounted. `TapeReadFault`: a read of it failed. `NoCopy`: the
-/// completed dumps of the reel don't hold the copy's place. `NoMemory`. The reel is as it was.
+/// The bytes of a file's copy on tape. `WaitTape`: its reel isn't mounted. `TapeReadFault`: a read of it failed. `NoCopy`:
+/// the completed dumps of the reel don't contain the copy's place. `NoMemory`. The reel is unchanged.
 pub fn read_copy<T: Tapes>(
     alloc: Global,
     tapes: &mut KnownReels<T>,
@@ -112,7 +112,7 @@ pub fn read_copy<T: Tapes>(
     }
 }
 
-/// The fault of a file whose copy isn't there.
+/// The fault of a file whose copy is lost.
 fn lost(tree: &Tree, number: u16, serial: u32) -> StoreFault
     requires used { (r : FileRec) × Contains tree.now.files r × (r.number ≡ number) }
     requires records { IsRecords tree.now.users tree.now.files }
@@ -125,7 +125,7 @@ fn lost(tree: &Tree, number: u16, serial: u32) -> StoreFault
     }
 }
 
-/// What a reader's fault is to a store, which waits for a reel that isn't mounted.
+/// The store's fault for a fault of the reader. A store waits for a reel that isn't mounted.
 fn read_fault(fault: ShelfFault, serial: u32) -> StoreFault
     ensures { result ≡ as_read serial fault }
 {
@@ -135,7 +135,7 @@ fn read_fault(fault: ShelfFault, serial: u32) -> StoreFault
     }
 }
 
-/// Puts the bytes on the disc, and hands them on.
+/// Writes the bytes to the disc and returns them.
 fn put_back<D: Disc>(
     alloc: Global,
     online: &mut Online<D>,
@@ -148,7 +148,7 @@ fn put_back<D: Disc>(
     requires tied { IsTied online.old }
     ensures { IsPutBack number text unjam.now online.old online.new result }
 {
-    // What is in use fits the disc, so the plan's room is the one without the files that it takes.
+    // What is in use fits on the disc, so the plan's room is the room without the files that it takes.
     let _room = online.room();
     match online.bring(alloc, number, &text, &unjam.take) {
         Ok(()) => Ok(text),

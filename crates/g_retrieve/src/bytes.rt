@@ -17,9 +17,10 @@ use g_name::Text;
 use g_tape::Tapes;
 use std::alloc::Global;
 
-/// The `len` bytes of the copy, read from its reel in this call, each of its blocks, and of the reel's dumps what isn't known
-/// yet. None exactly where the completed dumps of the reel don't hold the place (docs/DEFINITIONS.md, "Content"); an empty file
-/// has no bytes that they would have to hold. `NoTape`, `NotMounted`, `ReadFault`, `NoMemory`; nothing changes but how often the reel's blocks were read.
+/// The `len` bytes of the copy: each of its blocks is read from its reel in this call, and as much of the reel's dumps as
+/// isn't known yet. Without a fault the result is None if and only if the completed dumps of the reel don't contain the
+/// place (docs/DEFINITIONS.md, "g_disc_contents"). For an empty file it is never None. `NoTape`, `NotMounted`, `ReadFault`,
+/// `NoMemory`. Nothing changes except the record of reads.
 pub fn tape_bytes<T: Tapes>(
     alloc: Global,
     tapes: &mut KnownReels<T>,
@@ -29,7 +30,7 @@ pub fn tape_bytes<T: Tapes>(
     ensures reads { ReadsReel copy.now.serial result (T.rack tapes.old) (T.rack tapes.new) }
     ensures len { IfOk result (λ found. IfSome found (λ text. length text ≡ len)) }
 
-    // What it says of the place it says where the reel tells what it holds.
+    // It specifies the place if the reel exposes its contents.
     ensures some { IfOk result (λ found. IfSome found (λ text. ForSome (blocks_of copy.now.serial (T.rack tapes.old))
         (λ blocks. (dumps : List Dump) → AreCompleted copy.now.serial blocks dumps → 0 < len → IsContent dumps copy.now text))) }
     ensures none { IfOk result (λ found. IfNone found (ForSome (blocks_of copy.now.serial (T.rack tapes.old))
@@ -89,7 +90,7 @@ fn read_text<T: Tapes>(
     Ok(Text::from(bytes))
 }
 
-/// The first so many bytes of a block.
+/// The first `count` bytes of a block.
 fn front(block: &Block, count: usize) -> &[u8]
     requires { count ≤ 512 }
     ensures value { result.now ≡ take count block.now }

@@ -1,4 +1,4 @@
-//! The bytes of files that are on tape alone, and how such a file comes back to the disc.
+//! The bytes of files that are only on tape, and how such a file is brought back to the disc.
 #![tactic(auto)]
 
 mod back;

@@ -1,4 +1,4 @@
-//! The devices that a row's run begins with, and what is seen of them behind it.
+//! The devices with which a row's run begins, and how they are read after it.
 ghost use Rattle.std.specs.Prelude.{◌<◌, ◌≤◌, IfOk};
 
 use crate::row::{Row, Seen};
@@ -8,7 +8,7 @@ use g_look::list;
 use g_tape::{MemoryTapes, TapeLeave, Tapes};
 use std::alloc::Global;
 
-/// The row's disc, and what its failing writes leave. An error: no disc has so many blocks, or no memory.
+/// The row's disc, and what its failing writes leave. An error: the number of blocks is out of range, or no memory.
 pub fn disc_of(alloc: Global, row: &Row) -> anyhow::Result<MemoryDisc>
     ensures { IfOk result (λ disc. (2177 < disc.disc.size) × (disc.disc.size ≤ 1048576)) }
 {
@@ -24,7 +24,7 @@ pub fn disc_of(alloc: Global, row: &Row) -> anyhow::Result<MemoryDisc>
     Ok(disc)
 }
 
-/// The row's rack, and what its failing writes leave. An error: no rack or no reel is so, or no memory.
+/// The row's rack, and what its failing writes leave. An error: the rack or a reel is out of range, or no memory.
 pub fn tapes_of(alloc: Global, row: &Row) -> anyhow::Result<MemoryTapes> {
     let mut tapes = rack_of(alloc, row.reels.as_slice())?;
     if row.leaves == "cut" {
@@ -66,7 +66,7 @@ fn capacity_of(blocks: u32) -> anyhow::Result<u32>
     Ok(blocks)
 }
 
-/// What was seen of the row's run, over the devices that it left. An error: the disc can't be read, or no memory.
+/// The results of the row's run, with the devices after it. An error: the disc can't be read, or no memory.
 pub fn seen_of(
     alloc: Global,
     row: &Row,
@@ -83,7 +83,7 @@ pub fn seen_of(
     })
 }
 
-/// The lines of the disc's files, where the row tells of copies.
+/// The lines of the disc's files, if the row has copies.
 fn files_of(alloc: Global, row: &Row, mut disc: MemoryDisc) -> anyhow::Result<String> {
     if row.copies.is_empty() {
         return Ok(String::new(alloc));

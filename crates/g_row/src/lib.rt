@@ -1,5 +1,5 @@
-//! A worked row: a line that names its files and says what differs from the plain case, the devices that it asks for, and whether
-//! what was seen of its run is what it wants.
+//! A worked row: a line that names its files and says what differs from the plain case, the devices that it requires, and whether the results of its
+//! run are the expected ones.
 #![tactic(auto)]
 
 mod devices;

@@ -1,27 +1,27 @@
-//! A row as its line in `rows.txt` has it: the name of its files, and what differs from an empty disc of 4,096 blocks,
-//! one empty reel of 8,192 and the word `run`.
+//! A row, parsed from its line in `rows.txt`: the name of its files, and what differs from an empty disc of 4,096 blocks, one empty reel of 8,192 and
+//! the word `run`.
 
 use anyhow::anyhow;
 use std::alloc::{AllocError, Global};
 
-/// What was seen of a run.
+/// The results of a run.
 #[derive(Drop)]
 pub struct Seen {
     pub status: u8,
     pub text: String,
     /// The length of each reel.
     pub lengths: Vec<u32>,
-    /// A line for each file of the disc, where the row tells of copies.
+    /// A line for each file of the disc, if the row has copies.
     pub files: String,
 }
 
-/// What a row asks for.
+/// The requirements of a row.
 #[derive(Drop)]
 pub struct Row<'a> {
     pub name: &'a str,
-    /// Whether the row has its whole text, or lines that stand in it in this order.
+    /// Whether the expected file has the whole text, or only lines that occur in it in this order.
     whole: bool,
-    /// Whether each line of its files has in front how often it stands.
+    /// Whether each line of its files begins with the number of its repetitions.
     packed: bool,
     pub words: Vec<&'a str>,
     pub(crate) blocks: u32,
@@ -29,23 +29,23 @@ pub struct Row<'a> {
     pub(crate) reels: Vec<u32>,
     /// What a failing write of a tape leaves: `old`, `cut`, `half` or `whole`.
     pub(crate) leaves: &'a str,
-    /// What a failing write of the disc leaves, `old` or `whole`, and the byte of which it leaves a block; 0: none.
+    /// What a failing write of the disc leaves, `old` or `whole`, and the byte with which it fills a block; 0: none.
     pub(crate) disc: &'a str,
     pub(crate) torn: u8,
     /// Which take of the script and which put of the text fails; 0: none.
     pub take: u64,
     pub put: u64,
-    /// Whether each put is to fail once.
+    /// Whether each put should fail once.
     pub each_put: bool,
     status: u8,
-    /// The lengths of the reels at the end, where they are told.
+    /// The lengths of the reels at the end, if the row has them.
     lengths: Vec<u32>,
-    /// The files whose copies are told.
+    /// The files whose copies the row has.
     pub(crate) copies: Vec<Taped<'a>>,
     absent: Vec<&'a str>,
 }
 
-/// A file, and where its copy lies on tape at the end.
+/// A file, and the place of its copy on tape at the end.
 #[derive(Drop)]
 pub struct Taped<'a> {
     file: &'a str,
@@ -54,7 +54,7 @@ pub struct Taped<'a> {
 }
 
 impl<'a> Taped<'a> {
-    /// Reads the full name, the serial and the first block, with commas between.
+    /// Parses the full name, the serial and the first block, separated by commas.
     fn parse(value: &'a str) -> anyhow::Result<Taped<'a>> {
         let Some((file, place)) = value.split_once(',') else {
             return Err(anyhow!("no copy: {value}"));
@@ -69,7 +69,7 @@ impl<'a> Taped<'a> {
         })
     }
 
-    /// Whether a line of the disc's files is this file's, and tells this place.
+    /// Whether a line of the disc's files is this file's, with this place.
     fn is_told(&self, line: &str) -> bool {
         let Some(told) = line.strip_prefix(self.file) else {
             return false;
@@ -88,7 +88,7 @@ impl<'a> Taped<'a> {
 }
 
 impl<'a> Row<'a> {
-    /// Reads a line: the row's name, `text` or `expect`, and settings `key=value`.
+    /// Parses a line: the row's name, `text` or `expect`, and settings `key=value`.
     pub fn parse(alloc: Global, line: &'a str) -> anyhow::Result<Row<'a>> {
         let mut parts = line.split_whitespace();
         let (Some(name), Some(kind)) = (parts.next(), parts.next()) else {
@@ -173,7 +173,7 @@ impl<'a> Row<'a> {
         Ok(())
     }
 
-    /// The text of one of its files, as it is meant.
+    /// The text of one of its files, with repetitions expanded.
     pub fn unpack(&self, alloc: Global, text: String) -> anyhow::Result<String> {
         if self.packed {
             unpacked(alloc, text.as_str())
@@ -182,12 +182,12 @@ impl<'a> Row<'a> {
         }
     }
 
-    /// How the file ends that has what the row wants.
+    /// The ending of the name of the file with the expected text.
     pub fn kind(&self) -> &'static str {
         if self.whole { "text" } else { "expect" }
     }
 
-    /// Why what was seen isn't what the row wants.
+    /// The reason why the results aren't those that the row expects.
     pub fn differs(&self, seen: &Seen, wanted: &str) -> Option<&'static str> {
         if seen.status != self.status {
             return Some("the status");
@@ -220,7 +220,7 @@ impl<'a> Row<'a> {
     }
 }
 
-/// Whether each of the wanted lines stands in the text, in this order.
+/// Whether each of the expected lines occurs in the text, in this order.
 fn stand_in_order(text: &str, wanted: &str) -> bool {
     let mut lines = text.lines();
     wanted
@@ -228,7 +228,7 @@ fn stand_in_order(text: &str, wanted: &str) -> bool {
         .all(|line| lines.any(|other| other.contains(line)))
 }
 
-/// The lines of a text in which each has in front how often it stands.
+/// The lines of a text each of which begins with the number of its repetitions.
 fn unpacked(alloc: Global, text: &str) -> anyhow::Result<String> {
     let mut whole = String::new(alloc);
     for line in text.lines() {
@@ -240,7 +240,7 @@ fn unpacked(alloc: Global, text: &str) -> anyhow::Result<String> {
     Ok(whole)
 }
 
-/// Puts a line behind the text so often.
+/// Appends a line this many times.
 fn push_times(text: &mut String, line: &str, count: u32) -> Result<(), AllocError> {
     for _again in 0..count {
         text.push_str(line)?;

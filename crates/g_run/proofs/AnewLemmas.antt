@@ -1,4 +1,5 @@
 -- TO BEGIN ANEW: lines one behind the other over devices to begin anew with, the first of which beside MOUNT, UNMOUNT and STOP is a FORMAT.
+-- serves: LineLemmas, OverLemmas
 use Rattle.std.proofs.Common.{◌≡◌, ◌⊎◌, ◌≤◌, ◌++◌, ℕ, true, List, [], ◌∷◌, Some, None, All, refl, sym, ◌∙◌, ap, subst, inl, inr}
 use Rattle.std.proofs.lemmas.List.Elements.{All-cons, All-head, All-nil, All-pop, All-tail, All-weaker}
 use Rattle.g_base.proofs.CountLemmas.{Rose-before, Rose-behind}

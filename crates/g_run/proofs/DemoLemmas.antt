@@ -1,10 +1,11 @@
 -- The text of a demonstration, and its summary put.
+-- serves: demo_run, run_demo (put)
 use Rattle.std.proofs.Common.{◌≡◌, ℕ, List, [], ◌∷◌, Option, Some, None, refl, ap, subst, inr}
 use Rattle.std.specs.Fn.{Shared}
 use denote.Ref.{Bor}
-use Rattle.g_budget.specs.declared.tariff.Charge.{Charge}
-use Rattle.g_budget.specs.declared.tariff.Usage.{Usage}
-use Rattle.g_sched.specs.declared.rule.Standing.{Standing}
+use Rattle.g_rules.specs.declared.tariff.Charge.{Charge}
+use Rattle.g_rules.specs.declared.tariff.Usage.{Usage}
+use Rattle.g_rules.specs.declared.rule.Standing.{Standing}
 use Rattle.g_demo.specs.Summary.{summary_of, summary_text}
 use Rattle.g_demo.specs.declared.demonstration.Demonstration.{Demonstration}
 use Rattle.g_demo.specs.Script.{script_text}

@@ -1,10 +1,11 @@
 -- A disc that holds a filestore holds one behind the run, whatever cut it short.
+-- serves: george (stands)
 use Rattle.std.proofs.Common.{◌≡◌, ℕ, false, List, Option, Some, None, ap}
 use Rattle.std.specs.Fn.{Shared}
 use denote.Ref.{Bor}
-use Rattle.g_budget.specs.declared.tariff.Charge.{Charge}
-use Rattle.g_budget.specs.declared.tariff.Usage.{Usage}
-use Rattle.g_sched.specs.declared.rule.Standing.{Standing}
+use Rattle.g_rules.specs.declared.tariff.Charge.{Charge}
+use Rattle.g_rules.specs.declared.tariff.Usage.{Usage}
+use Rattle.g_rules.specs.declared.rule.Standing.{Standing}
 use Rattle.g_script.specs.declared.operator.Timed.{Timed}
 use Rattle.g_store_meaning.specs.Meaning.{told_reels}
 use Rattle.g_laws_store.proofs.StateLemmas.{have_states}

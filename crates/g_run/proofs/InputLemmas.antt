@@ -1,4 +1,5 @@
 -- A source read piece by piece.
+-- serves: read_script (all, taken)
 use Rattle.std.proofs.Common.{zero, suc, ◌≡◌, ◌+◌, ◌-◌, ◌<◌, ◌≤◌, ◌++◌, ℕ, List, [], Option, Some, refl, sym, ◌∙◌, ap, subst, length, take, drop, arith}
 use Rattle.std.proofs.lemmas.List.{drop-drop, length-append, length-drop, length-take-le, take_all, take_at}
 use Rattle.std.proofs.Math.ListN.{drop_of_length-le}

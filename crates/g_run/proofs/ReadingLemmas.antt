@@ -1,4 +1,5 @@
 -- What was read of a script is within the limits of its lines, and no more than the script has bytes.
+-- serves: demo_run, george
 use Rattle.std.proofs.Common.{All, List, Option, [], arith, length, ℕ, ◌++◌, ◌∷◌, ◌≤◌}
 use Rattle.std.specs.Fmt.{decimal}
 use Rattle.std.specs.List.{AllByRecursion}

@@ -1,12 +1,12 @@
 //! A demonstration, run over devices in memory.
 ghost use Rattle.std.specs.Prelude.{◌≡◌, ◌+◌, ◌<◌, [], ◌∷◌, IfOk, length};
-ghost use Rattle.g_budget.specs.Tariff.{IsTariff};
+ghost use Rattle.g_rules.specs.Tariff.{IsTariff};
 ghost use Rattle.g_day.specs.Puts.{FaultCause, Puts};
 ghost use Rattle.g_demo.specs.Script.{script_text};
 ghost use Rattle.g_demo.specs.Summary as spec;
 ghost use Rattle.g_disc.specs.Memory.{blank};
 ghost use Rattle.g_lines.specs.Lines.{lines_of};
-ghost use Rattle.g_sched.specs.Rule.{IsWeighRule};
+ghost use Rattle.g_rules.specs.Rule.{IsWeighRule};
 ghost use Rattle.g_script.specs.Script.{IsParsed};
 ghost use Rattle.g_tape.specs.Memory.{IsEmptyRack, memory_of};
 ghost use Rattle.g_run.specs.Demo.{IsDemoText, PutsDemo};
@@ -15,12 +15,11 @@ use crate::boxed_disc::BoxedDisc;
 use crate::boxed_tapes::BoxedTapes;
 use crate::over::{ScriptEnd, run_script};
 use g_base::NoMemory;
-use g_budget::{Charge, Usage};
 use g_day::{Failure, put_made};
 use g_demo::{Demonstration, SummarySink, script_of, summary_text};
 use g_disc::MemoryDisc;
 use g_io::Sink;
-use g_sched::Standing;
+use g_rules::{Charge, Standing, Usage};
 use g_script::{Script, parse_script};
 use g_tape::MemoryTapes;
 use g_ticks::Rules;

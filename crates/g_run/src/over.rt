@@ -1,9 +1,9 @@
 //! A script that was read, done to its end.
 ghost use Rattle.std.specs.Prelude.{◌≡◌, ◌+◌, ◌≤◌, ◌<◌, ◌++◌, All, IfErr, IfOk, length};
-ghost use Rattle.g_budget.specs.Tariff.{IsTariff};
+ghost use Rattle.g_rules.specs.Tariff.{IsTariff};
 ghost use Rattle.g_day.specs.Parts.{IsReady};
 ghost use Rattle.g_job_table.specs.Numbers.{AreOpen};
-ghost use Rattle.g_sched.specs.Rule.{IsWeighRule};
+ghost use Rattle.g_rules.specs.Rule.{IsWeighRule};
 ghost use Rattle.g_run_model.specs.Texts as texts;
 ghost use Rattle.g_run.specs.ScriptEnd.{ClosesBy, DidScript, TakenDown, both};
 ghost use Rattle.g_ticks.specs.Parts.{DidAll, IsTimedWithin};
@@ -13,14 +13,13 @@ use crate::boxed_tapes::BoxedTapes;
 use crate::remaining_ticks::remaining_ticks_fit;
 use crate::script::do_lines;
 use g_base::NoMemory;
-use g_budget::{Charge, Usage};
 use g_day::{Day, Ended, Failure, System, put_made, take_down};
 use g_disc::Disc;
 use g_io::Sink;
 use g_job_table::{Crew, closing_text};
 use g_known::KnownReels;
 use g_name::Text;
-use g_sched::Standing;
+use g_rules::{Charge, Standing, Usage};
 use g_script::{Script, Timeds};
 use g_tape::Tapes;
 use g_ticks::{Rules, tick_until_due};

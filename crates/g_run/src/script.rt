@@ -1,17 +1,16 @@
 //! The lines of a script, each done when it is due, or when nothing can step.
 ghost use Rattle.std.specs.Prelude.{◌≡◌, ◌+◌, ◌<◌, [], ◌∷◌, All, length};
-ghost use Rattle.g_budget.specs.Tariff.{IsTariff};
+ghost use Rattle.g_rules.specs.Tariff.{IsTariff};
 ghost use Rattle.g_day.specs.Parts.{IsReady};
 ghost use Rattle.g_job_table.specs.Numbers.{AreOpen};
-ghost use Rattle.g_sched.specs.Rule.{IsWeighRule};
+ghost use Rattle.g_rules.specs.Rule.{IsWeighRule};
 ghost use Rattle.g_ticks.specs.Parts.{DidLines, IsTimedWithin};
 
-use g_budget::{Charge, Usage};
 use g_day::{Day, Ended};
 use g_disc::Disc;
 use g_io::Sink;
 use g_operator::operator_line;
-use g_sched::Standing;
+use g_rules::{Charge, Standing, Usage};
 use g_script::{Timed, Timeds};
 use g_tape::Tapes;
 use g_ticks::{Rules, tick_until_due};

@@ -1,5 +1,6 @@
--- Events of two states that differ in first blocks of copies alone, in which no device failed: they have one answer, and leave
--- two such states.
+-- Events of two states that differ only in first blocks of copies, in which no device failed: they have the same answer,
+-- and leave two such states.
+-- serves: OneTextLemmas, OpenAlikeLemmas, ProcessAlikeLemmas, WorldAlikeLemmas
 use Rattle.std.proofs.Common.{◌≡◌, ◌||◌, ℕ, Bool, true, false, not, List, [], ◌∷◌, Option, Some, None, option_map, is_some, is_none, Result, Ok, Err, MatchOption, if◌then◌else◌, refl, sym, ◌∙◌, ap, subst, inl, inr, arith}
 use Rattle.std.proofs.lemmas.Bool.{false≢true}
 use Rattle.std.specs.List.{list_all}

@@ -1,4 +1,5 @@
 -- How a call is answered: as on the plain tree, or by a device.
+-- serves: LawLemmas, TreeLemmas, crates above
 use Rattle.std.proofs.Common.{◌≡◌, ℕ, List, [], ◌∷◌, Option, Some, None, refl, sym, ◌∙◌, ap, subst, inl, inr}
 use Rattle.std.specs.Prelude.{◌≢◌, ◌⊎◌, Bool, true, false, not, Result, Ok, Err, is_some, unwrap_or, ◌&&◌}
 use Rattle.g_plain.specs.declared.calls.StoreCall.{StoreCall}

@@ -1,4 +1,5 @@
 -- When a device was armed: never, once, and in two parts.
+-- serves: crates above
 use Rattle.std.proofs.Common.{◌≡◌, ◌≤◌, ℕ, ◌∙◌, ap, inl, inr, arith}
 use Rattle.g_base.specs.Fuse.{Arms, armed_with}
 use Rattle.g_run_model.specs.Top.{IsArmedIn}

@@ -1,4 +1,5 @@
--- States without the first blocks of copies on tape: which blocks those are tells nobody anything.
+-- States without the first blocks of copies on tape: no answer depends on these blocks.
+-- serves: AlikeLemmas, OneTextLemmas, OpenAlikeLemmas, ProcessAlikeLemmas, WorldAlikeLemmas
 use Rattle.std.proofs.Common.{◌≡◌, ◌⊎◌, ◌+◌, ◌-◌, ◌<◌, ◌≤◌, ◌&&◌, ◌||◌, ℕ, Bool, true, false, not, List, [], ◌∷◌, sum_by, Option, Some, None, option_map, is_some, is_none, unwrap_or, Result, Ok, Err, MatchOption, nat_lt, if◌then◌else◌, refl, sym, ◌∙◌, ap, subst, inl, inr}
 use Rattle.std.specs.Ordering.{nat_cmp}
 use Rattle.std.specs.FinMap.{FinMap, entries, get, insert, remove}
@@ -165,7 +166,7 @@ module _ (s : State) (k : Holding) (who : List ℕ) (call : StoreCall) where
       least : (lower : ℕ) → lower < until → room_until (bare_state s) (bare_holding k) who call lower < need (bare_state s) (bare_holding k) who call
       least lower below = subst (λ (n : ℕ). room_until (bare_state s) (bare_holding k) who call lower < n) (sym need_bare) (subst (λ (r : ℕ). r < need s k who call) (sym (room_until_bare lower)) (plan.least lower below))
 
-  -- the state behind a call, by its places, its intent and its open dump
+  -- the state after a call, by its places, its intent and its open dump
   abbrev with_parts : FinMap nat_cmp Place → Option Intent → Option OpenDump → State
   with_parts m i d = record (bare_state s) {
     holding = Some (record k { tree = plain_tree k.tree who call; places = m; kept = without_all (changes k.tree who call) k.kept; intent = i });

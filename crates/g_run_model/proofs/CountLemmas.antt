@@ -1,4 +1,5 @@
 -- What the devices count, event by event.
+-- serves: CountedTurnLemmas, crates above
 use Rattle.std.proofs.Common.{◌≡◌, ℕ, ◌+◌, ◌++◌, Bool, true, false, cond, filter, List, [], ◌∷◌, refl, sym, ◌∙◌, subst, arith}
 use Rattle.g_base.specs.Counts.{Rose}
 use Rattle.g_base.proofs.CountLemmas.{HasRisenBy-Rose, HasRisenBy-none, HasRisenBy-then}
@@ -14,7 +15,7 @@ first_zero a b e = omega (arith, e)
 second_zero : (a b : ℕ) → a + b ≡ 0 → b ≡ 0
 second_zero a b e = omega (arith, e)
 
--- A COUNT OF FAILURES: none came; one did; and some behind others
+-- a count of failures: there was none; there was one; and some after others
 pub no_failure : (a b : ℕ) → b ≡ a → Failures 0 a b
 no_failure a b e = record { rose = HasRisenBy-none (omega (arith, e)); none = λ none. e }
 
@@ -63,7 +64,7 @@ event_none d = happened_same d d refl refl refl refl refl refl
 four : (a b c d : ℕ) → (a + b) + (c + d) ≡ (a + c) + (b + d)
 four a b c d = omega arith
 
--- ONE PART BEHIND THE OTHER
+-- one part after the other
 failed_then : (k l m n : ℕ) (old now new : Devices) → WritesFailed k m old now → WritesFailed l n now new → WritesFailed (k + l) (m + n) old new
 failed_then k l m n old now new was is = record {
   of_disc = was.of_disc + is.of_disc;

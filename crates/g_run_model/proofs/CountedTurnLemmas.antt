@@ -1,11 +1,12 @@
--- A turn's program that was run over a store is a list of moves of the world, as many of which have an outcome as the devices
--- counted; and so is a front of it, where memory ran out.
+-- A turn's program that was run on a store is a list of moves of the world, with as many failures as the devices counted;
+-- and so is a prefix of it, if memory ran out.
+-- serves: StoreTurnLemmas, crates above
 use Rattle.std.proofs.Common.{◌≡◌, ℕ, false, List, [], ◌∷◌, ◌++◌, map, Option, Some, None, slice_get, Err, refl, sym, ap, subst, inl, inr}
 use Rattle.std.specs.Fn.{Shared}
 use denote.Ref.{Bor}
 use Rattle.g_turn.specs.State.{Work}
-use Rattle.g_budget.specs.declared.tariff.Charge.{Charge}
-use Rattle.g_budget.specs.declared.tariff.Usage.{Usage}
+use Rattle.g_rules.specs.declared.tariff.Charge.{Charge}
+use Rattle.g_rules.specs.declared.tariff.Usage.{Usage}
 use Rattle.g_job.specs.Beginning.{standing_of}
 use Rattle.g_job.specs.TurnEnd.{IsPriced, turn_end}
 use Rattle.g_job.specs.State.{JobState}
@@ -15,8 +16,8 @@ use Rattle.g_job.specs.declared.turn.Turn.TheVariants as turns
 use Rattle.g_plain.specs.Programs.{Answer, Asks, Call, Gives, IsAnswer, Ran, RanInPart}
 use Rattle.g_plain.specs.declared.calls.StoreCall.{StoreCall}
 use Rattle.g_plain.specs.declared.faults.StoreFault.TheVariants.{NoMemory}
-use Rattle.g_sched.specs.Choice.{IsChosen}
-use Rattle.g_sched.specs.declared.rule.Standing.{Standing}
+use Rattle.g_rules.specs.Choice.{IsChosen}
+use Rattle.g_rules.specs.declared.rule.Standing.{Standing}
 use Rattle.g_store_model.specs.CallStep.{Outcome, Plain}
 use Rattle.g_store_model.specs.State.{State}
 use Rattle.g_run_model.specs.Devices.{Devices}
@@ -29,7 +30,7 @@ use Rattle.g_run_model.proofs.TurnLemmas.{MayBegin, in_turn, run_append, with_tu
 pub keeps_itself : (w : World) → KeepsLines w w
 keeps_itself w = record { lines = refl; bad = refl; over = refl; count = refl; disc_stops = refl; tape_stops = refl }
 
--- the end of a turn keeps the lines and what goes with them
+-- the end of a turn preserves the lines and what belongs to them
 pub turn_keeps : (after : JobState) (turn : Turn) (w : World) → KeepsLines w (turn_told after turn w)
 turn_keeps after turns.Broken w = record { lines = refl; bad = refl; over = refl; count = refl; disc_stops = refl; tape_stops = refl }
 turn_keeps after (turns.Wants serial) w = record { lines = refl; bad = refl; over = refl; count = refl; disc_stops = refl; tape_stops = refl }
@@ -73,7 +74,7 @@ module _ {F U S : Type 0} (tariffs : Shared F (Bor Usage × Unit {0}) Charge) (t
         let step : IsCall s job.user call one.0 r.0 one.1 = subst (λ (u : List ℕ). IsCall s u call one.0 r.0 one.1) (sym user) one.2 in
         (Answered one.0 ∷ rest.0, rest.1, rest.2, (with_turn w one.1 number (more r.0), (number, call, more, job, r.0, one.1, refl, here, step, r.3, refl), rest.3), rest.4, one_then one.0 rest.0 old r.1 new one.4 rest.5)
 
--- the world behind a turn
+-- the world after a turn
 abbrev pub turned_world : World → JobState → State → Work → Turn → JobState → World
 turned_world w job t work turn after = record (turn_told after turn (shows job after (with_turn (record w { phase = Stepped }) t job.number (Gives work)))) { turn = None; phase = Turned }
 

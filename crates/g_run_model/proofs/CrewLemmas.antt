@@ -1,4 +1,6 @@
--- Lists of jobs: each has a number of its own, those that come are behind the others, and those that go leave the rest.
+-- Lists of jobs: each has a number of its own, new ones are added after the others, and the others remain when one is
+-- removed.
+-- serves: EndsLemmas, OneTextLemmas, PieceLemmas, PricedLemmas, PutLemmas, ReadLemmas, ShareLemmas, TakenLemmas, crates above
 use Rattle.std.proofs.Common.{◌≡◌, ◌<◌, ◌≤◌, ◌+◌, ◌==◌, ◌⊎◌, ℕ, zero, suc, Bool, true, false, cond, not, List, [], ◌∷◌, ◌++◌, filter, find, Option, Some, None, slice_get, refl, sym, ◌∙◌, ap, subst, inl, inr, if◌then◌else◌, le_trans, eq-eqb, ne_eqb, eqb-true, arith}
 use Rattle.g_job.specs.State.{JobState}
 use Rattle.g_run_model.specs.World.{with_job, without_job}
@@ -36,7 +38,7 @@ pub rising_lower : (low less : ℕ) (jobs : List JobState) (top : ℕ) → less 
 rising_lower low less [] top le r = le_trans le r
 rising_lower low less (j ∷ jobs) top le r = (le_trans le r.0, r.1)
 
--- a job that comes
+-- a job is added
 pub rising_push : (low : ℕ) (jobs : List JobState) (top : ℕ) (job : JobState) → job.number ≡ top → AreRising low jobs top → AreRising low (jobs ++ job ∷ []) (top + 1)
 rising_push low [] top job is r = (subst (λ (n : ℕ). low ≤ n) (sym is) r, omega (arith, is))
 rising_push low (j ∷ jobs) top job is r = (r.0, rising_push (j.number + 1) jobs top job is r.1)
@@ -52,7 +54,7 @@ rising_with j low (k ∷ jobs) top r = by (k.number == j.number) refl (rising_wi
         (subst (λ (n : ℕ). low ≤ n) same r.0, subst (λ (n : ℕ). AreRising (n + 1) (with_job j jobs) top) same rest)
     by false e rest = (r.0, rest)
 
--- jobs that go
+-- jobs that are removed
 pub rising_filter : (p : JobState → Bool) (low : ℕ) (jobs : List JobState) (top : ℕ) → AreRising low jobs top → AreRising low (filter p jobs) top
 rising_filter p low [] top r = r
 rising_filter p low (j ∷ jobs) top r = by (p j) (rising_filter p (j.number + 1) jobs top r.1)
@@ -61,7 +63,7 @@ rising_filter p low (j ∷ jobs) top r = by (p j) (rising_filter p (j.number + 1
     by true rest = (r.0, rest)
     by false rest = rising_lower (j.number + 1) low (filter p jobs) top (let least : low ≤ j.number = r.0 in omega (arith, least)) rest
 
--- a job is the one of its number where it is the first, or one behind it
+-- a job is the one of its number if it is the first, or a later one
 abbrev IsOne : (JobState → Bool) → ℕ → List JobState → JobState → Type 0
 IsOne p low jobs job = (low ≤ job.number) × (numbered job.number jobs ≡ Some job) × (p job ≡ true)
 
@@ -104,7 +106,8 @@ number_of number low (j ∷ jobs) top job r found = by (j.number == number) refl
         (ap (λ (x : JobState). x.number) (sym (one_job j job found)) ∙ same, omega (arith, same, below))
     by false e found again = again found
 
--- who is found where one was put into the place of another: it, under its number, and the same as before under all others
+-- which job is found after one was replaced by another: the new one, under its number, and the same as before under all
+-- others
 pub found_same : (j : JobState) (jobs : List JobState) (job : JobState) → numbered j.number (with_job j jobs) ≡ Some job → job ≡ j
 found_same j [] job found = no_job job found
 found_same j (k ∷ jobs) job found = by (k.number == j.number) refl found (λ e. found_same j jobs job e)
@@ -124,7 +127,7 @@ found_other j number other (k ∷ jobs) = by (k.number == j.number) refl (found_
         ∙ sym (ap (λ (c : Bool). cond c (Some k) (numbered number jobs)) (ap (λ (n : ℕ). n == number) same ∙ other))
     by false e rest = ap (λ (r : Option JobState). cond (k.number == number) (Some k) r) rest
 
--- who is found where the job of a number is taken out: nobody under it, and the same as before under all others
+-- which job is found after the job of a number is removed: none under that number, and the same as before under all others
 pub left_none : (number : ℕ) (jobs : List JobState) → numbered number (without_job number jobs) ≡ None
 left_none number [] = refl
 left_none number (k ∷ jobs) = by (k.number == number) refl (left_none number jobs)
@@ -142,7 +145,7 @@ left_other gone number other (k ∷ jobs) = by (k.number == gone) refl (left_oth
         rest ∙ sym (ap (λ (c : Bool). cond c (Some k) (numbered number jobs)) (ap (λ (n : ℕ). n == number) (eqb-true k.number gone e) ∙ other))
     by false e rest = ap (λ (r : Option JobState). cond (k.number == number) (Some k) r) rest
 
--- who is found where one came: one who was there, or it
+-- which job is found after one was added: an old one, or the new one
 pub found_push : (number : ℕ) (jobs : List JobState) (job found : JobState) → numbered number (jobs ++ job ∷ []) ≡ Some found
     → (numbered number jobs ≡ Some found) ⊎ ((job.number ≡ number) × (found ≡ job))
 found_push number [] job found is = by (job.number == number) refl is

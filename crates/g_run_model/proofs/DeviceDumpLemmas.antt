@@ -1,4 +1,5 @@
--- In a state for which devices stand a tree is dumped wherever a reel has a dump.
+-- In a state that devices represent a tree is dumped if a reel has a dump.
+-- serves: crates above
 use Rattle.std.proofs.Common.{◌≡◌, ◌&&◌, ◌++◌, ℕ, Bool, true, List, [], ◌∷◌, map, Option, Some, None, option_map, refl, sym, ◌∙◌, ap, subst}
 use Rattle.std.specs.List.{list_all}
 use Rattle.g_incr.specs.Layout.{Dump}

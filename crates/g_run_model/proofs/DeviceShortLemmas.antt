@@ -1,4 +1,5 @@
--- The trees of a state for which devices stand have files of at most 65,536 bytes.
+-- The trees of a state that devices represent have files of at most 65,536 bytes.
+-- serves: crates above
 use Rattle.std.proofs.Common.{◌≡◌, ◌≤◌, ℕ, Bool, true, false, cond, All, List, [], ◌∷◌, map, length, Option, Some, None, IfSome, option_map, refl, sym, ◌∙◌, ap, subst}
 use Rattle.std.proofs.lemmas.List.Elements.{recursion_from_All}
 use Rattle.std.specs.FinMap.{get-from_entries}

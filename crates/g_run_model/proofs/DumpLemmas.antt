@@ -1,11 +1,12 @@
 -- Each step of a dump is one of its needs.
+-- serves: dumps_come_to_an_end
 use Rattle.std.proofs.Common.{◌≡◌, ℕ, ◌+◌, ◌<◌, Option, Some, None, sym, ◌∙◌, ap, subst, inl, inr}
 use Rattle.std.specs.Prelude.{◌⊎◌, Result, Ok, Err}
 use Rattle.std.specs.Fn.{Shared}
 use denote.Ref.{Bor}
-use Rattle.g_budget.specs.declared.tariff.Usage.{Usage}
-use Rattle.g_budget.specs.declared.tariff.Charge.{Charge}
-use Rattle.g_sched.specs.declared.rule.Standing.{Standing}
+use Rattle.g_rules.specs.declared.tariff.Usage.{Usage}
+use Rattle.g_rules.specs.declared.tariff.Charge.{Charge}
+use Rattle.g_rules.specs.declared.rule.Standing.{Standing}
 use Rattle.g_plain.specs.declared.faults.StoreFault.{StoreFault}
 use Rattle.g_plain.specs.declared.faults.StoreFault.TheVariants.{Stopped, DiscReadFault}
 use Rattle.g_store_model.specs.State.{State, Holding, OpenDump}

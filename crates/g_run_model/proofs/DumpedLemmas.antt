@@ -1,4 +1,5 @@
--- What is dumped, and which dump is open, behind each move.
+-- What is dumped, and which dump is open, after each move.
+-- serves: dumped_is_what_a_dump_opened_on
 use Rattle.std.proofs.Common.{◌≡◌, ℕ, List, [], ◌∷◌, ◌++◌, Option, Some, None, refl, sym, ◌∙◌, ap, subst, inl, inr}
 use Rattle.std.specs.Prelude.{◌⊎◌, Bool, true, false, nat_lt, not, ◌||◌, ◌==◌, ◌+◌, ◌-◌, ◌^◌, Result, Ok, Err, option_map, MatchBool, MatchOption, if◌then◌else◌, is_some, codes}
 use Rattle.std.specs.Fmt.{decimal}
@@ -8,9 +9,9 @@ use Rattle.std.specs.Ordering.{nat_cmp}
 use Rattle.std.proofs.lemmas.List.{append_assoc, append-nil}
 use Rattle.std.proofs.lemmas.Option.{some_pair_parts}
 use denote.Ref.{Bor}
-use Rattle.g_budget.specs.declared.tariff.Usage.{Usage}
-use Rattle.g_budget.specs.declared.tariff.Charge.{Charge}
-use Rattle.g_sched.specs.declared.rule.Standing.{Standing}
+use Rattle.g_rules.specs.declared.tariff.Usage.{Usage}
+use Rattle.g_rules.specs.declared.tariff.Charge.{Charge}
+use Rattle.g_rules.specs.declared.rule.Standing.{Standing}
 use Rattle.g_monitor.specs.Parts.{full_text}
 use Rattle.g_name.specs.declared.full.Full.{Full}
 use Rattle.g_name.specs.declared.path.Path.{Path}
@@ -57,7 +58,7 @@ Opens s new = (d : OpenDump) × (s.open_dump ≡ None) × (new.open_dump ≡ Som
 abbrev Completes : State → State → Type 0
 Completes s new = (x : DumpedTree) × (new.dumped ≡ Some x) × (about s.open_dump ≡ Some (x.number, x.tree)) × (about new.open_dump ≡ None)
 
--- a PROCESS puts the tree that there is in its place, and opens no dump
+-- PROCESS installs the current tree as the dumped one, and opens no dump
 abbrev Renews : State → State → Type 0
 Renews s new = (x : DumpedTree) × (new.dumped ≡ Some x) × (tree_in s ≡ Some x.tree) × ((about new.open_dump ≡ None) ⊎ (about new.open_dump ≡ about s.open_dump))
 
@@ -157,7 +158,7 @@ module _ (s : State) (k : Holding) (who : List ℕ) (call : StoreCall) where
   call_dumps : (o : Outcome) (answer : Result StoreReply StoreFault) (new : State) → CallStep s k who call o answer new → Keeps s new
   call_dumps = call_kept (λ (x : State). Keeps s x) s k who call (refl, inr refl) (refl, inl refl) (λ until. (refl, inl refl)) called (λ until. ((called until).0, inl refl))
 
--- the world's store behind a line
+-- the world's store after a line
 stays : (w new v : World) → new ≡ v → v.store ≡ w.store → Keeps w.store new.store
 stays w new v is same = same_state w.store new.store (ap (λ (x : World). x.store) is ∙ same)
 
@@ -227,7 +228,7 @@ processing_dumps o w new serial true (r, s, (k, holds, step, says_so), is) =
     subst (λ (x : State). Keeps w.store x ⊎ Renews w.store x) (sym at_s) (process_dumps w.store k serial o r s holds step)
 processing_dumps o w new serial false (plain, is) = inl (stays w new (line_refused NotStarted w) is refl)
 
--- of a line: a DUMP alone opens a dump, a PROCESS alone puts another tree there
+-- for a line: only a DUMP opens a dump, only a PROCESS installs another dumped tree
 abbrev LineDumps : Operator → State → State → Type 0
 LineDumps what s new = (Keeps s new ⊎ Opens s new) ⊎ ((is_process what ≡ true) × Renews s new)
 
@@ -307,7 +308,7 @@ module _ {F U : Type 0} (tariffs : Shared F (Bor Usage × Unit {0}) Charge) (tar
   came_still begin moves x move (inr (front, back, o, w, behind, is, before, step, dumped, tree)) =
       inr (front, back ++ move ∷ [], o, w, behind, ap (λ (ms : List Move). ms ++ move ∷ []) is ∙ append_assoc front (TakeLine true o ∷ back) (move ∷ []), before, step, dumped, tree)
 
-  -- behind these moves: where what is dumped and what is open came from
+  -- after these moves: the origin of what is dumped and of what is open
   record Tracks (begin : World) (moves : List Move) (w : World) : Type 0 where
     pub run : Run tariffs tariff rules rule begin moves w
     pub dumped : (w.store.dumped ≡ begin.store.dumped) ⊎ ((x : DumpedTree) × (w.store.dumped ≡ Some x) × Came begin moves x)

@@ -1,4 +1,5 @@
 -- A job has at most one more free turn than there were MOUNT lines, and at most its allowance of charged ones.
+-- serves: jobs_come_to_an_end, OneTextLemmas, crates above
 use Rattle.std.proofs.Common.{◌≡◌, ◌<◌, ◌≤◌, ◌+◌, ◌-◌, ◌⊎◌, ◌&&◌, ℕ, Bool, true, false, cond, List, [], ◌∷◌, ◌++◌, filter, length, length-append, take, sum_by, Option, Some, None, refl, sym, ◌∙◌, ap, subst, inl, inr, if◌then◌else◌, append_assoc, codes, arith}
 use Rattle.std.proofs.lemmas.Bool.{false≢true}
 use Rattle.std.proofs.lemmas.List.Elements.{recursion_from_All}
@@ -9,8 +10,8 @@ use Rattle.std.specs.Fmt.{decimal}
 use Rattle.std.specs.Fn.{Shared}
 use denote.Ref.{Bor}
 use Rattle.g_turn.specs.State.{Work}
-use Rattle.g_budget.specs.declared.tariff.Charge.{Charge}
-use Rattle.g_budget.specs.declared.tariff.Usage.{Usage}
+use Rattle.g_rules.specs.declared.tariff.Charge.{Charge}
+use Rattle.g_rules.specs.declared.tariff.Usage.{Usage}
 use Rattle.g_job.specs.Beginning.{job_begun}
 use Rattle.g_job.specs.State.{JobState}
 use Rattle.g_job.specs.declared.turn.Turn.{Turn}
@@ -20,7 +21,7 @@ use Rattle.g_plain.specs.Programs.{Answer, Asks, Call, Gives}
 use Rattle.g_plain.specs.declared.calls.StoreCall.{StoreCall}
 use Rattle.g_plain.specs.declared.faults.StoreFault.{StoreFault}
 use Rattle.g_plain.specs.declared.faults.StoreFault.TheVariants.{NotStarted, Running, Stopped, WaitTape}
-use Rattle.g_sched.specs.declared.rule.Standing.{Standing}
+use Rattle.g_rules.specs.declared.rule.Standing.{Standing}
 use Rattle.g_script.specs.declared.operator.Operator.{Operator}
 use Rattle.g_script.specs.declared.operator.Operator.TheVariants as line
 use Rattle.g_script.specs.declared.operator.Timed.{Timed}
@@ -53,7 +54,7 @@ candid_on s k who call o more answer new step (inl honest) = inl (honest.2 answe
 candid_on s k who call o more answer new step (inr (inl (serial, stops, low))) = absurd stops
 candid_on s k who call o more answer new step (inr (inr stops)) = absurd stops
 
--- so many in all moves
+-- this many in all moves
 abbrev pub all_in : (Move → ℕ) → List Move → ℕ
 all_in g [] = 0
 all_in g (move ∷ moves) = g move + all_in g moves
@@ -62,12 +63,12 @@ all_in g (move ∷ moves) = g move + all_in g moves
 abbrev pub mounts : List Timed → ℕ
 mounts lines = length (filter is_mount lines)
 
--- the lines that are left behind a move, and how many MOUNT lines were done
+-- the lines that remain after a move, and how many MOUNT lines were done
 abbrev pub LinesGo : List Timed → List Timed → ℕ → ℕ → Type 0
 LinesGo old new m m2 = ((new ≡ old) × (m2 ≡ m)) ⊎ ((next : Timed) × (old ≡ next ∷ new) × (m2 ≡ m + mounts (next ∷ [])))
 
 module _ (n : ℕ) (u q : Bool) (a : ℕ) where
-  -- what is known behind a line
+  -- what is known after a line
   abbrev Keeps : ℕ → ℕ → ℕ → List Timed → World → Type 0
   Keeps f m c rest w = IsTakenIn n u q a f m c w × (w.lines ≡ rest)
 
@@ -150,7 +151,7 @@ module _ (n : ℕ) (u q : Bool) (a : ℕ) where
     typed_keeps t change w true idle h = changed_keeps t change w (open_at t w.jobs) refl idle h
     typed_keeps t change w false idle h = h
 
-    -- A LINE, by what it asks
+    -- A LINE, by what it requires
     line_keeps : (at : ℕ) (o : Outcome) (what : Operator) (w new : World) → IsTimed (record { turn = at; what = what }) → w.turn ≡ None → Keeps f m c rest w → LineGives o what w new
         → (m2 : ℕ) × (m2 ≡ m + mounts (record { turn = at; what = what } ∷ [])) × Keeps f m2 c rest new
     line_keeps at o line.Format w new timed idle h gives =
@@ -205,7 +206,7 @@ module _ (n : ℕ) (u q : Bool) (a : ℕ) where
     turned after (turns.Ran units money) w h lines = (h, lines)
     turned after (turns.Ended units money) w h lines = (h, lines)
 
-  -- what is known behind a move
+  -- what is known after a move
   abbrev pub Goes : ℕ → ℕ → ℕ → World → Move → World → Type 0
   Goes f m c w move new =
       (f2 : ℕ) × (m2 : ℕ) × (c2 : ℕ) × (f2 ≡ f + free_in n move) × (c2 ≡ c + charged_in n move) × IsTakenIn n u q a f2 m2 c2 new × LinesGo w.lines new.lines m m2
@@ -331,7 +332,7 @@ done_are lines done left is =
     ap (λ (ls : List Timed). take (length ls - length left) ls) is ∙ ap (λ (k : ℕ). take k (done ++ left)) count ∙ taken_front done left
 
 module _ {F U : Type 0} (tariffs : Shared F (Bor Usage × Unit {0}) Charge) (tariff : F) (rules : Shared U (Bor Standing × Unit {0}) ℕ) (rule : U) where
-  -- nobody is there when a run begins
+  -- there is no job when a run begins
   pub begun : (n : ℕ) (u : Bool) (lines : List Timed) (bad : Option ℕ) (s : State) → IsTakenIn n u false 0 0 0 0 (start lines bad s)
   begun n u lines bad s = record {
     rising = (let low : 0 ≤ 1 = omega arith in low);

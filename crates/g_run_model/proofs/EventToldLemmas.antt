@@ -1,5 +1,6 @@
--- An event whose answer doesn't tell its outcome is the event in which no device failed; and an answer of a device's own comes
--- with its outcome alone.
+-- An event whose answer doesn't show its outcome is the event in which no device failed; and an answer that only a device
+-- causes occurs only with its outcome.
+-- serves: AlikeLemmas, OpenAlikeLemmas, StoreLemmas, StoreTurnLemmas, crates above
 use Rattle.std.proofs.Common.{◌≡◌, ◌⊎◌, ◌&&◌, ◌||◌, ◌==◌, ◌+◌, ◌-◌, ◌^◌, ℕ, Bool, true, false, cond, not, List, [], ◌∷◌, ◌++◌, Option, Some, None, Result, Ok, Err, MatchOption, option_map, is_some, is_none, nat_lt, unwrap_or, refl, sym, ◌∙◌, ap, subst, inl, inr}
 use Rattle.std.proofs.lemmas.Bool.{false≢true}
 use Rattle.std.specs.List.{list_all}
@@ -22,22 +23,22 @@ use Rattle.g_store_model.specs.Process.{ProcessStep, Processes, process_needs, p
 use Rattle.g_plain.specs.declared.faults.StoreFault.TheVariants as fault
 use Rattle.g_run_model.specs.Events.{IsTold}
 
--- An outcome and an answer that tell each other: an outcome is told by the answer, and an answer of a device's own comes
--- with its outcome alone.
+-- An outcome and an answer that determine each other: the answer shows the outcome, and an answer that only a device causes
+-- occurs only with its outcome.
 pub record OutcomeTold {A : Type 0} (outcome : Outcome) (answer : Result A StoreFault) : Type 0 where
   pub told : IsTold outcome answer
   pub disc_read : answer ≡ Err fault.DiscReadFault → outcome ≡ DiscRead
   pub tape_read : answer ≡ Err fault.TapeReadFault → outcome ≡ TapeRead
   pub cut : answer ≡ Err fault.Stopped → outcome ≡ Cut
 
--- a refusal that is none of the devices' own
+-- a refusal that no device causes
 abbrev pub IsOwn : StoreFault → Type 0
 IsOwn DiscReadFault = ⊥
 IsOwn TapeReadFault = ⊥
 IsOwn Stopped = ⊥
 IsOwn fault = Unit {0}
 
--- an answer that is none of the devices' own is told by the outcome of no failure
+-- an answer that no device causes shows the outcome without failure
 same_fault : {A : Type 0} (f g : StoreFault) → (let one : Result A StoreFault = Err f in one ≡ Err g) → f ≡ g
 same_fault f g e = cc
 
@@ -87,11 +88,11 @@ told_cut o answer so is = subst (λ (x : Outcome). OutcomeTold x answer) (sym so
   cut = λ e. refl;
 })
 
--- the same of an event, whatever it is: with the outcome that it had, or with no failure
+-- the same for any event: with the outcome that it had, or without failure
 abbrev pub ToldBy : {A : Type 0} → (Outcome → Result A StoreFault → State → Type 0) → Outcome → Result A StoreFault → State → Type 0
 ToldBy By o answer new = (told : Outcome) × By told answer new × OutcomeTold told answer × ((told ≡ o) ⊎ (told ≡ Plain))
 
--- HOW REFUSALS GO WITH OUTCOMES: one of the devices' own with its outcome alone, and any other without a failure too
+-- how refusals depend on outcomes: one that a device causes occurs only with its outcome, any other also without a failure
 abbrev pub IsOwnOf : Option StoreFault → Type 0
 IsOwnOf None = Unit {0}
 IsOwnOf (Some f) = IsOwn f
@@ -121,12 +122,13 @@ module _ {A : Type 0} (reply : A) (s after : State) (answer : Result A StoreFaul
       let at : Event (Some Stopped) reply s after answer new = subst (λ (x : Option StoreFault). Event x reply s after answer new) is event in
       (o, refl, told_cut o answer so at.0, inl refl)
 
--- checks that are none of the devices' own, or don't hold
+-- checks that no device causes, or that don't hold
 abbrev AreOwn : Checks → Type 0
 AreOwn [] = Unit {0}
 AreOwn (check ∷ checks) = ((check.0 ≡ false) ⊎ IsOwn check.1) × AreOwn checks
 
--- of checks in front the first that holds is the refusal, whatever comes behind; or what comes behind decides
+-- if one of the first checks holds, the first of them is the refusal, independently of the later ones; otherwise the later
+-- ones decide
 abbrev FrontDecides : Checks → Type 0
 FrontDecides front = ((g : StoreFault) × IsOwn g × ((more : Checks) → first_fault (front ++ more) ≡ Some g)) ⊎ ((more : Checks) → first_fault (front ++ more) ≡ first_fault more)
 
@@ -149,7 +151,7 @@ own_first (check ∷ checks) own = by check.0 refl own.0 (own_first checks own.1
     by true e (inr own) rest = own
     by false e own_or rest = rest
 
--- a check of the devices' own that holds, behind others
+-- a device's check that holds, after others
 module _ (f : Outcome → Option StoreFault) (front : Checks) (own : AreOwn front) (plain : (more : Checks) × (f Plain ≡ first_fault (front ++ more))) where
   held_by : (o : Outcome) (fault : StoreFault) → (f o ≡ Some fault → GoesWith f o) → (rest : Checks) → f o ≡ first_fault (front ++ (true, fault) ∷ rest) → GoesWith f o
   held_by o fault goes rest is = by (front_decides front own)
@@ -265,7 +267,7 @@ module _ (s : State) where
           (from_own MountFirst (λ serial. tt) (unmounted_reel s k.intent), (inl refl, (inl refl, tt)))
           (ap (λ (b : Bool). first_fault (fault_from MountFirst (unmounted_reel s k.intent) ∷ (false, TapeReadFault) ∷ (b, Stopped) ∷ [])) e) refl
 
-  -- where it isn't a failed read of the disc, a start is an event
+  -- if it isn't a failed read of the disc, a start is an event
   abbrev StartsPlainly : Holding → Outcome → Result (Option ℕ) StoreFault → State → Type 0
   StartsPlainly k o answer new =
       Event (start_refuses s k o) (option_map (λ d. d.number) (dump_adopted s k)) s (coming_up s (adopted (dump_adopted s k) k)) answer new
@@ -325,7 +327,7 @@ module _ (s : State) where
   early_goes Cut = quiet (restore_early s) Cut (fault_from RackNotMounted (first_reel (λ r. not r.mounted) s.reels) ∷ (false, TapeReadFault) ∷ (list_all has_none s.reels, NoDump) ∷ [])
       (from_own RackNotMounted (λ serial. tt) (first_reel (λ r. not r.mounted) s.reels), (inl refl, (inr tt, tt))) refl refl
 
-  -- an outcome goes with both of its refusals
+  -- an outcome matches both of its refusals
   none_apart : {P : Type 0} (f : Option StoreFault) (g : StoreFault) → f ≡ None → f ≡ Some g → P
   none_apart f g none some = absurd (let no : ⊥ = cc in no)
 
@@ -472,7 +474,7 @@ call_outcome s k who call o g new step = by_early (refused (λ x. new ≡ s) (ea
     by_early (inr (some, is)) =
         of_early (early_which (fault_of k.tree who call) (is_offline s k who call && not (is_mounted s (reel_of s k who call))) (is_tape_read o && is_offline s k who call) (reel_of s k who call) g some)
 
--- an answer that is none of the devices' own has a step in which no device failed
+-- an answer that no device causes has a step in which no device failed
 own_too : (s : State) (k : Holding) (who : List ℕ) (call : StoreCall) (o : Outcome) (fault : StoreFault) (new : State) → IsOwn fault → CallStep s k who call o (Err fault) new
     → ToldBy (CallStep s k who call) o (Err fault) new
 own_too s k who call o fault new own step =

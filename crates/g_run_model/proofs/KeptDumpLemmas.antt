@@ -1,4 +1,5 @@
--- Behind each event a tree is dumped wherever a reel has a dump, if it was so before.
+-- After each event a tree is dumped if a reel has a dump, provided that this was so before.
+-- serves: OneTextLemmas, ProcessedLemmas, crates above
 use Rattle.std.proofs.Common.{◌≡◌, ◌==◌, ◌&&◌, ◌||◌, ℕ, Bool, true, false, List, [], ◌∷◌, Option, Some, None, option_map, Result, Ok, Err, refl, sym, ◌∙◌, ap, subst, inl, inr, if◌then◌else◌}
 use Rattle.std.specs.List.{list_all}
 use Rattle.g_name.specs.declared.full.Full.{Full}

@@ -1,10 +1,11 @@
 -- Laws of the run.
+-- serves: calls_are_answered_plainly, crates above
 use Rattle.std.proofs.Common.{◌≡◌, ℕ, Option, Some, sym, ◌∙◌, ap, subst}
 use Rattle.std.specs.Fn.{Shared}
 use denote.Ref.{Bor}
-use Rattle.g_budget.specs.declared.tariff.Usage.{Usage}
-use Rattle.g_budget.specs.declared.tariff.Charge.{Charge}
-use Rattle.g_sched.specs.declared.rule.Standing.{Standing}
+use Rattle.g_rules.specs.declared.tariff.Usage.{Usage}
+use Rattle.g_rules.specs.declared.tariff.Charge.{Charge}
+use Rattle.g_rules.specs.declared.rule.Standing.{Standing}
 use Rattle.g_plain.specs.PlainTree.{Tree}
 use Rattle.g_run_model.specs.Accounts.{tree_of}
 use Rattle.g_plain.specs.PlainAnswers.{PlainOrDevice}

@@ -1,4 +1,5 @@
 -- Maps by stamp, whose values are changed each by its stamp.
+-- serves: AlikeLemmas, BareLemmas, OpenAlikeLemmas, ProcessAlikeLemmas
 use Rattle.std.proofs.Common.{◌≡◌, ◌&&◌, ℕ, Bool, true, false, T, cond, List, [], ◌∷◌, map, Option, Some, None, option_map, refl, sym, ◌∙◌, ap, subst, eqb-true}
 use Rattle.std.specs.Cmp.{nat_cmp_total, unsigned_tied}
 use Rattle.std.specs.Ordering.{eq_by_cmp, is_lt, nat_cmp}
@@ -64,7 +65,7 @@ module _ {X Y : Type 0} (f : X → Y) where
   mapped-from_entries [] = mapped-empty
   mapped-from_entries (e ∷ es) = mapped-insert (from_entries es) e.0 e.1 ∙ ap (λ (m : FinMap nat_cmp Y). insert m e.0 (f e.1)) (mapped-from_entries es)
 
--- one change behind another, in either order
+-- one change after another, in either order
 pub mapped-mapped : {X Y : Type 0} (f : X → Y) (g : ℕ → X → X) (h : ℕ → Y → Y) → ((k : ℕ) (x : X) → f (g k x) ≡ h k (f x))
     → (m : FinMap nat_cmp X) → mapped (λ k x. f x) (mapped g m) ≡ mapped h (mapped (λ k x. f x) m)
 mapped-mapped {X} {Y} f g h same m = same_maps _ _ (λ q.

@@ -1,5 +1,6 @@
--- Which reels are mounted behind each event: none more than before, but for MOUNT. And a call that waits, waits for a reel
--- that isn't mounted.
+-- Which reels are mounted after each event: no more than before, except after MOUNT. And a call that waits, waits for a
+-- reel that isn't mounted.
+-- serves: EndsLemmas, ProcessedLemmas, ShortLemmas, TakenLemmas
 use Rattle.std.proofs.Common.{◌≡◌, ◌==◌, ◌⊎◌, ◌&&◌, ℕ, Bool, true, false, not, List, [], ◌∷◌, Option, Some, None, Result, Ok, Err, option_map, is_some, unwrap_or, refl, sym, ◌∙◌, ap, subst, inl, inr, if◌then◌else◌, ◌||◌}
 use Rattle.std.proofs.lemmas.Bool.{false≢true}
 use Rattle.g_plain.proofs.StepAnswers.{own_fault}
@@ -110,7 +111,7 @@ module _ (s : State) (k : Holding) (who : List ℕ) (call : StoreCall) where
   call_mounts = call_kept (λ (x : State). NoMount s x) s k who call (λ serial mounted. mounted) (λ serial mounted. mounted) (λ until serial mounted. mounted)
       (λ until. same_reels s (after_call s k who call until) (after_reels until)) (λ until. same_reels s (down (after_call s k who call until)) (after_reels until))
 
--- a wait is for the version's reel, where that isn't mounted
+-- a wait is for the version's reel, if that isn't mounted
 wait_early : (f : Option StoreFault) (a b : Bool) (reel serial : ℕ) → first_fault ((is_some f, unwrap_or f Stopped) ∷ (a, WaitTape reel) ∷ (b, TapeReadFault) ∷ []) ≡ Some (WaitTape serial)
     → (f ≡ Some (WaitTape serial)) ⊎ ((a ≡ true) × (reel ≡ serial))
 wait_early (Some g) a b reel serial e = inl e

@@ -1,4 +1,5 @@
--- Where no count rose, the text follows from the script, the state that there was, the charges and the weigh rule.
+-- IF no count rose, the text follows from the script, the state that there was, the charges and the weigh rule.
+-- serves: text_is_one
 use Rattle.std.proofs.Common.{◌≡◌, ◌⊎◌, ◌<◌, ◌+◌, ◌&&◌, ◌++◌, ℕ, zero, suc, Bool, true, false, not, List, [], ◌∷◌, map, Option, Some, None, option_map, slice_get, Result, codes, if◌then◌else◌, refl, sym, ◌∙◌, ap, subst, inl, inr, arith}
 use Rattle.std.proofs.lemmas.Bool.{false≢true}
 use Rattle.std.proofs.lemmas.List.Elements.{recursion_from_All}
@@ -9,8 +10,8 @@ use Rattle.std.specs.Fmt.{decimal}
 use Rattle.std.specs.Fn.{FnReturnsAt, Shared}
 use denote.Ref.{Bor}
 use Rattle.g_turn.specs.State.{Work}
-use Rattle.g_budget.specs.declared.tariff.Charge.{Charge}
-use Rattle.g_budget.specs.declared.tariff.Usage.{Usage}
+use Rattle.g_rules.specs.declared.tariff.Charge.{Charge}
+use Rattle.g_rules.specs.declared.tariff.Usage.{Usage}
 use Rattle.g_job.specs.Beginning.{standing_of}
 use Rattle.g_job.specs.TurnEnd.{turn_end}
 use Rattle.g_job.specs.State.{JobState}
@@ -21,9 +22,9 @@ use Rattle.g_plain.specs.Programs.{Answer, Asks, Call, Gives}
 use Rattle.g_plain.specs.declared.calls.StoreCall.{StoreCall}
 use Rattle.g_plain.specs.declared.faults.StoreFault.{StoreFault}
 use Rattle.g_plain.specs.declared.faults.StoreFault.TheVariants.{NotStarted, Running}
-use Rattle.g_sched.specs.Choice.{IsChosen, IsNoLater}
-use Rattle.g_sched.specs.Rule.{IsInRange, IsWeighRule}
-use Rattle.g_sched.specs.declared.rule.Standing.{Standing}
+use Rattle.g_rules.specs.Choice.{IsChosen, IsNoLater}
+use Rattle.g_rules.specs.Rule.{IsInRange, IsWeighRule}
+use Rattle.g_rules.specs.declared.rule.Standing.{Standing}
 use Rattle.g_script.specs.declared.operator.Operator.{Operator}
 use Rattle.g_script.specs.declared.operator.Operator.TheVariants as line
 use Rattle.g_script.specs.declared.operator.Timed.{Timed}
@@ -144,7 +145,7 @@ parted Ticked Ticked moves others k e = (tt, e)
 parted Over Over moves others k e = (tt, e)
 parted m n moves others k e = absurd (let no : ⊥ = cc in no)
 
--- a program that asks, and one that is done
+-- a program that makes a call, and one that is done
 abbrev asked_in : StoreCall → Asks Work → StoreCall
 asked_in d (Call c more) = c
 asked_in d (Gives w) = d
@@ -180,7 +181,7 @@ first_one a n b m (inl less) (inr (same, le)) = absurd (let no : ⊥ = omega (ar
 first_one a n b m (inr (same, le)) (inl more) = absurd (let no : ⊥ = omega (arith, more, same) in no)
 first_one a n b m (inr (same, le)) (inr (same2, le2)) = omega (arith, le, le2)
 
--- WHAT IS STORED behind a move: a tree is dumped wherever a reel has a dump
+-- what is stored after a move: a tree is dumped if a reel has a dump
 stored : (s t new : State) → new ≡ t → KeepsDumps s t → KeepsDumps s new
 stored s t new is keeps = subst (λ (x : State). KeepsDumps s x) (sym is) keeps
 

@@ -1,4 +1,5 @@
--- The opening of a dump, of two states that differ in first blocks of copies alone: the two dumps differ in no more.
+-- The opening of a dump, in two states that differ only in first blocks of copies: the two dumps differ in nothing else.
+-- serves: ProcessAlikeLemmas, WorldAlikeLemmas
 use Rattle.std.proofs.Common.{◌≡◌, ◌+◌, ◌-◌, ◌^◌, ◌≤◌, ◌&&◌, ◌||◌, ◌==◌, ◌++◌, ℕ, Bool, true, false, T, cond, not, List, [], ◌∷◌, length, map, flat_map, filter, Option, Some, None, option_map, is_some, is_none, unwrap_or, Result, nat_lt, if◌then◌else◌, refl, sym, ◌∙◌, ap, subst, eqb-true, arith}
 use Rattle.std.proofs.lemmas.List.{map-append}
 use Rattle.std.proofs.lemmas.Bool.{false≢true, ltb-true, ltb-false, and_from}
@@ -116,7 +117,7 @@ some_at (Some p) e = refl
 pub no_bytes : (row : FileRow) → nat_lt 0 (length row.bytes) ≡ false → length row.bytes ≡ 0
 no_bytes row e = let le : length row.bytes ≤ 0 = ltb-false 0 (length row.bytes) e in omega (arith, le)
 
--- places are alike, but for their first blocks, where those of the current files are
+-- places are alike, except for their first blocks, if those of the current files are
 module _ (t u : Tree) (trees : t ≡ u) (places others : FinMap nat_cmp Place) (current : (q : ℕ) → is_some (get places q) ≡ is_current t q)
     (current_too : (q : ℕ) → is_some (get others q) ≡ is_current u q)
     (at_file : (q : ℕ) (full : Full) (row : FileRow) → get t.files full ≡ Some row → row.stamp ≡ q → bare_place (place_at places q) ≡ bare_place (place_at others q)) where
@@ -196,7 +197,7 @@ owns_bare k m (e ∷ es) =
 own_copies_bare : (k : Holding) (m : FinMap nat_cmp Place) → bare_copies (own_copies k m) ≡ own_copies (bare_holding k) (bare_places m)
 own_copies_bare k m = mapped-from_entries bare_copy (flat_map (own_copy k m) (entries k.tree.files)) ∙ ap (λ (es : List (ℕ × TapeCopy)). let x : FinMap nat_cmp TapeCopy = from_entries es in x) (owns_bare k m (entries k.tree.files))
 
--- THE STATE BEHIND AN OPENING
+-- the state after an opening
 opened_with : State → Holding → ℕ → FinMap nat_cmp Place → ℕ → FinMap nat_cmp ℕ → FinMap nat_cmp TapeCopy → State
 opened_with s k serial m needs waiting own = record s {
   holding = Some (record k { intent = Some (record { serial = serial; place = end_of s serial; number = k.last + 1 }) });
@@ -229,7 +230,7 @@ module _ (s t : State) (serial : ℕ) (a b : Result ℕ StoreFault) (new other :
   behind m n places = opening_bare s k serial m ∙ ap (λ (x : State). opening x (bare_holding k) serial (bare_places m)) same
       ∙ ap (λ (x : Holding). opening (bare_state t) x serial (bare_places m)) here ∙ ap (λ (x : FinMap nat_cmp Place). opening (bare_state t) (bare_holding h) serial x) places ∙ sym (opening_bare t h serial n)
 
-  -- where it isn't opened, where the copies would lie doesn't matter
+  -- if it isn't opened, it doesn't matter where the copies would lie
   open_by : (f : Option StoreFault) → open_refuses s k serial Plain ≡ f → OpenStep s k serial Plain a new → OpenStep t h serial Plain b other → AreSame a b new other
   open_by None e (m, noted, one) (n, noted2, two) =
       event_alike (k.last + 1) s t (opening s k serial m) (opening t h serial n) a b new other same

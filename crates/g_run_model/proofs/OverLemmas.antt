@@ -1,12 +1,13 @@
--- A run that is over goes no further.
+-- A run that is over has no further move.
+-- serves: lib, OneTextLemmas, crates above
 use Rattle.std.proofs.Common.{◌≡◌, ℕ, zero, suc, List, [], ◌∷◌, Option, Some, None, refl, sym, ◌∙◌, ap, subst, inl, inr}
 use Rattle.std.specs.Prelude.{◌⊎◌, ◌&&◌, not, slice_get, filter, codes, ◌++◌, Bool, true, false, Result, Ok, Err, MatchBool, if◌then◌else◌}
 use Rattle.std.specs.Fn.{Shared}
 use Rattle.std.specs.Fmt.{decimal}
 use denote.Ref.{Bor}
-use Rattle.g_budget.specs.declared.tariff.Usage.{Usage}
-use Rattle.g_budget.specs.declared.tariff.Charge.{Charge}
-use Rattle.g_sched.specs.declared.rule.Standing.{Standing}
+use Rattle.g_rules.specs.declared.tariff.Usage.{Usage}
+use Rattle.g_rules.specs.declared.tariff.Charge.{Charge}
+use Rattle.g_rules.specs.declared.rule.Standing.{Standing}
 use Rattle.g_plain.specs.declared.faults.StoreFault.{StoreFault}
 use Rattle.g_plain.specs.declared.faults.StoreFault.TheVariants.{Stopped, Running, NotStarted}
 use Rattle.g_plain.specs.Programs.{Asks}
@@ -174,7 +175,7 @@ module _ {F U : Type 0} (tariffs : Shared F (Bor Usage × Unit {0}) Charge) (tar
   at_end w new Ticked ends (idle, inr (stepped, none), is) = not_stepped (sym ends.phase ∙ stepped)
   at_end w new Over ends (between, idle, lines, nothing, going, is) = false_true (sym going ∙ ends.over)
 
-  -- a move goes on, or comes to the end
+  -- a move continues the run, or ends it
   pub step_over : (w new : World) (move : Move) → w.over ≡ false → Step tariffs tariff rules rule w move new → (new.over ≡ false) ⊎ IsAtEnd new
   step_over w new (TakeLine tape o) e (next, rest, lines, between, idle, due, is_tape, gives) = inl (line_over o next.what (record w { lines = rest }) new gives ∙ e)
   step_over w new (Dumped o) e (between, idle, undue, dumping, (r, s, step, is)) = inl (over_is w new _ is (dump_over _ r s w) ∙ e)

@@ -1,8 +1,9 @@
--- The text that a move puts, in pieces, and what they are of the files of jobs at terminals.
+-- The text that a move prints, in pieces, and how they relate to the files of jobs at terminals.
+-- serves: PutLemmas
 use Rattle.std.proofs.Common.{◌≡◌, ◌+◌, ◌==◌, ◌&&◌, ℕ, Bool, true, false, cond, List, [], ◌∷◌, ◌++◌, drop, length, Option, Some, None, IfSome, append_assoc, append-nil, refl, sym, ◌∙◌, ap, subst, inl, inr, if◌then◌else◌, eq-eqb, eqb-true, arith}
 use Rattle.std.specs.List.{AllByRecursion}
 use Rattle.g_turn.specs.State.{Broken, Done, Full, Stop, Waits, Work}
-use Rattle.g_budget.specs.declared.tariff.Charge.{Charge}
+use Rattle.g_rules.specs.declared.tariff.Charge.{Charge}
 use Rattle.g_job.specs.TurnEnd.{behind_turn, charged, end_by, is_money_up, is_time_up, turn_end, turn_of, units_of, money_of, up_line}
 use Rattle.g_job.specs.State.{JobState}
 use Rattle.g_job.specs.declared.turn.Turn.{Turn}
@@ -15,7 +16,7 @@ use Rattle.g_run_model.specs.Texts.{file_with, files_with, put_as}
 use Rattle.g_run_model.proofs.CrewLemmas.{AreRising, no_job, numbered, one_job}
 use Rattle.g_run_model.proofs.ShareLemmas.{below_none}
 
--- pieces one behind the other
+-- pieces one after another
 pub text_append : (xs ys : List Piece) → text_of_pieces (xs ++ ys) ≡ text_of_pieces xs ++ text_of_pieces ys
 text_append [] ys = refl
 text_append (x ∷ xs) ys = ap (λ (r : List ℕ). piece_text x ++ r) (text_append xs ys) ∙ sym (append_assoc (piece_text x) (text_of_pieces xs) (text_of_pieces ys))
@@ -72,7 +73,7 @@ module _ (last : JobState → List ℕ) where
   files_others [] = tt
   files_others (j ∷ jobs) = (other_by j j.terminal refl, files_others jobs)
 
-  -- nothing is put for a number that none of them has
+  -- nothing is printed for a number that no job has
   pub files_none : (number t : ℕ) (jobs : List JobState) → numbered number jobs ≡ None → output_at number t (pieces_of jobs) ≡ []
   files_none number t [] none = refl
   files_none number t (k ∷ jobs) none = by (k.number == number) refl none (λ e. files_none number t jobs e)
@@ -146,7 +147,7 @@ end_grown j w None (Some charge) = by (is_time_up j charge) (is_money_up j charg
 pub turn_grown : (j : JobState) (w : Work) (charge : Option Charge) (turn : Turn) (after : JobState) → turn_end j w charge ≡ Some (turn, after) → Grown j turn after
 turn_grown j w charge turn after ends = subst (λ (e : Option (Turn × JobState)). IfSome e (λ x. Grown j x.0 x.1)) ends (end_grown j w w.stop charge)
 
--- what is put at once is what was added
+-- what is printed at once is what was added
 drop_front : (xs ys : List ℕ) → drop (length xs) (xs ++ ys) ≡ ys
 drop_front [] ys = refl
 drop_front (x ∷ xs) ys = drop_front xs ys

@@ -1,4 +1,5 @@
--- Every turn keeps its limits, and so a tariff charges a unit at least.
+-- Every turn satisfies its limits, and so a tariff charges at least one unit.
+-- serves: EndsLemmas, ReadLemmas
 use Rattle.std.proofs.Common.{◌&&◌, ◌≡◌, ◌⊎◌, ◌≤◌, ◌+◌, ◌==◌, ◌++◌, ℕ, Bool, true, false, not, List, [], ◌∷◌, filter, length, Option, Some, None, IfSome, slice_get, Result, Ok, Err, MatchBool, codes, if◌then◌else◌, refl, sym, ◌∙◌, ap, subst, inl, inr, eqb-true, lit≤, arith}
 use Rattle.std.proofs.lemmas.Option.{some_pair_parts}
 use Rattle.std.specs.Fmt.{decimal}
@@ -10,9 +11,9 @@ use Rattle.g_turn.proofs.CommandBounds.{does_fired_gives, line_gives, runs_or_ta
 use Rattle.g_turn.specs.Bounds.{AlwaysGives, IsKeptWithin, MayAnswer}
 use Rattle.g_turn.specs.State.{AgainCommand, AgainLine, Broken, Done, Full, Pending, Stop, Waits, Work}
 use Rattle.g_turn.specs.Turns.{begins, with_kept}
-use Rattle.g_budget.specs.Tariff.{IsTariff, IsUsage}
-use Rattle.g_budget.specs.declared.tariff.Charge.{Charge}
-use Rattle.g_budget.specs.declared.tariff.Usage.{Usage}
+use Rattle.g_rules.specs.Tariff.{IsTariff, IsUsage}
+use Rattle.g_rules.specs.declared.tariff.Charge.{Charge}
+use Rattle.g_rules.specs.declared.tariff.Usage.{Usage}
 use Rattle.g_job.specs.Beginning.{begin, job_begun, room_of}
 use Rattle.g_job.specs.TurnEnd.{behind_turn, charged, end_by, is_money_up, is_time_up, up_line}
 use Rattle.g_job.specs.State.{JobState}
@@ -24,7 +25,7 @@ use Rattle.g_plain.specs.Programs.{Answer, Asks, Call, Gives}
 use Rattle.g_plain.specs.declared.calls.StoreCall.{StoreCall}
 use Rattle.g_plain.specs.declared.faults.StoreFault.{StoreFault}
 use Rattle.g_plain.specs.declared.faults.StoreFault.TheVariants.{NotStarted, Running, Stopped}
-use Rattle.g_sched.specs.declared.rule.Standing.{Standing}
+use Rattle.g_rules.specs.declared.rule.Standing.{Standing}
 use Rattle.g_script.specs.declared.operator.Operator.{Operator}
 use Rattle.g_script.specs.declared.operator.Operator.TheVariants as line
 use Rattle.g_script.specs.declared.operator.Timed.{Timed}
@@ -51,7 +52,7 @@ use Rattle.g_run_model.proofs.ProcessedLemmas.{process_short}
 abbrev pub IsFit : JobState → Type 0
 IsFit j = (length j.desk.units.writers ≤ 16) × IfSome j.pending (IsKeptWithin (room_of j))
 
--- THE JOBS are fit, and what is left of a turn's program keeps its limits
+-- THE JOBS are fit, and the rest of a turn's program satisfies its limits
 pub record AreFit (jobs : List JobState) (next : ℕ) (turn : Option (ℕ × Asks Work)) : Type 0 where
   pub rising : AreRising 0 jobs next
   pub fits : (n : ℕ) (job : JobState) → numbered n jobs ≡ Some job → IsFit job
@@ -92,7 +93,7 @@ fit_gone next t idle = record {
   gives = λ n p is job found. no_job job found;
 }
 
--- a job comes
+-- a job is added
 fit_push : (jobs : List JobState) (next : ℕ) (t : Option (ℕ × Asks Work)) (job : JobState) → t ≡ None → job.number ≡ next → IsFit job → AreFit jobs next t → AreFit (jobs ++ job ∷ []) (next + 1) t
 fit_push jobs next t job idle is fit h = record {
   rising = rising_push 0 jobs next job is h.rising;

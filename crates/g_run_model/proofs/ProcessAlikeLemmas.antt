@@ -1,5 +1,6 @@
--- PROCESS, of two states that differ in first blocks of copies alone, in which no device failed: they have one answer, and leave two
--- such states.
+-- PROCESS, in two states that differ only in first blocks of copies, in which no device failed: they have the same answer,
+-- and leave two such states.
+-- serves: WorldAlikeLemmas
 use Rattle.std.proofs.Common.{◌≡◌, ◌⊎◌, ◌+◌, ◌-◌, ◌^◌, ◌&&◌, ◌==◌, ℕ, Bool, true, false, not, List, [], ◌∷◌, length, map, Option, Some, None, option_map, is_some, is_none, Result, Ok, Err, MatchOption, nat_lt, nat_le, if◌then◌else◌, refl, sym, ◌∙◌, ap, subst, inl, inr}
 use Rattle.std.proofs.lemmas.Bool.{false≢true, lt-ltb, leb-false, ltb-true}
 use Rattle.std.specs.Ordering.{nat_cmp}
@@ -76,7 +77,7 @@ module _ (serial : ℕ) (k h : Holding) (trees : k.tree ≡ h.tree) (lasts : k.l
         own = at_own i;
       } in x
 
--- THE REELS: all others are released, whatever bound is above all serials
+-- the reels: all others are released, for any bound above all serials
 first_none : (p : ReelRow → Bool) (r : ReelRow) (rs : List ReelRow) → first_reel p (r ∷ rs) ≡ None → (p r ≡ false) × (first_reel p rs ≡ None)
 first_none p r rs none = by (p r) refl none
   where

@@ -1,4 +1,5 @@
 -- What a PROCESS leaves, case by case: what is so of each of the states that it may leave is so of the one that it left.
+-- serves: DumpedLemmas, EndsLemmas, OneTextLemmas, PricedLemmas, TreeLemmas, crates above
 use Rattle.std.proofs.Common.{◌≡◌, ◌==◌, ◌&&◌, ◌⊎◌, ℕ, Bool, true, false, List, [], ◌∷◌, map, Option, Some, None, Result, Err, MatchOption, option_map, refl, sym, ◌∙◌, ap, subst, inl, inr, if◌then◌else◌}
 use Rattle.std.specs.List.{list_all}
 use Rattle.std.specs.Ordering.{nat_cmp}
@@ -21,7 +22,7 @@ use Rattle.g_run_model.proofs.StepLemmas.{tree_held}
 abbrev pub noted : State → Holding → ℕ → Bool → State
 noted s k serial used = record s { reels = with_reel serial (with_used used) s.reels; holding = Some (with_intent s serial k) }
 
--- and the dump stands whole on it
+-- and the dump is complete on it
 abbrev pub marked_only : State → Holding → ℕ → DumpedTree → State
 marked_only s k serial d = record (marked_by s k serial d) { holding = Some (with_intent s serial k) }
 

@@ -1,13 +1,14 @@
--- EVERY MOVE puts its text in pieces, and what it puts for a terminal's job is what that job's file grew by.
+-- EVERY MOVE prints its text in pieces, and what it prints for a terminal's job is what was added to that job's file.
+-- serves: terminals_print_their_files
 use Rattle.std.proofs.Common.{◌≡◌, ◌<◌, ◌≤◌, ◌+◌, ◌==◌, ◌&&◌, ℕ, Bool, true, false, cond, nat_le, not, List, [], ◌∷◌, ◌++◌, Option, Some, None, Result, Ok, Err, MatchBool, append_assoc, append-nil, codes, refl, sym, ◌∙◌, ap, subst, inl, inr, if◌then◌else◌, eqb-true, ne_eqb, arith}
 use Rattle.std.proofs.lemmas.Bool.{leb-false, leb-true}
 use Rattle.std.specs.List.{AllByRecursion}
 use Rattle.std.specs.Fmt.{decimal}
 use Rattle.std.specs.Fn.{Shared}
 use denote.Ref.{Bor}
-use Rattle.g_budget.specs.declared.tariff.Charge.{Charge}
-use Rattle.g_budget.specs.declared.tariff.Usage.{Usage}
-use Rattle.g_sched.specs.declared.rule.Standing.{Standing}
+use Rattle.g_rules.specs.declared.tariff.Charge.{Charge}
+use Rattle.g_rules.specs.declared.tariff.Usage.{Usage}
+use Rattle.g_rules.specs.declared.rule.Standing.{Standing}
 use Rattle.g_job.specs.State.{JobState}
 use Rattle.g_job.specs.Terminal.{with_stack}
 use Rattle.g_job.specs.declared.turn.Turn.{Turn}
@@ -37,7 +38,7 @@ use Rattle.g_run_model.proofs.CrewLemmas.{AreRising, found_by, found_other, left
 use Rattle.g_run_model.proofs.PieceLemmas.{Grown, Last, added_is, eqb_same, files_none, files_one, files_others, files_text, its_number, other_number, output_append, pieces_of, text_append, turn_grown}
 use Rattle.g_run_model.proofs.TickLemmas.{turn_added, turn_adds}
 
--- how a number's job goes with what was put for it at t
+-- how a number's job continues with what was printed for it at t
 abbrev pub GrowsBy : ℕ → ℕ → List Piece → Option JobState → Option JobState → Type 0
 GrowsBy number t ps None None = output_at number t ps ≡ []
 GrowsBy number t ps None (Some after) = after.terminal ≡ Some t → after.monitor ≡ output_at number t ps
@@ -59,7 +60,7 @@ rising_is jobs new next next2 same is r = subst (λ (js : List JobState). AreRis
 not_later : (next next2 : ℕ) → next2 ≡ next → next ≤ next2
 not_later next next2 is = omega (arith, is)
 
--- a job that stays as it is, or isn't there
+-- a job that is unchanged, or doesn't exist
 stays_grown : (number t : ℕ) (ps : List Piece) (o : Option JobState) → output_at number t ps ≡ [] → GrowsBy number t ps o o
 stays_grown number t ps None e = e
 stays_grown number t ps (Some j) e = (refl, λ at_t. sym (append-nil j.monitor) ∙ ap (λ (x : List ℕ). j.monitor ++ x) (sym e))
@@ -147,7 +148,7 @@ shut_puts : (w new : World) (b : Bool) → AreRising 0 w.jobs w.next_job → new
 shut_puts w new true rising shuts = shuts_puts w.store.open_dump w new rising shuts
 shut_puts w new false rising is = puts_is w new _ is (refused_puts NotStarted w rising)
 
--- a job comes behind the others
+-- a job is added after the others
 push_some : (number : ℕ) (jobs : List JobState) (job k : JobState) → numbered number jobs ≡ Some k → numbered number (jobs ++ job ∷ []) ≡ Some k
 push_some number [] job k is = no_job k is
 push_some number (x ∷ jobs) job k is = by (x.number == number) is (λ e. push_some number jobs job k e)
@@ -165,7 +166,7 @@ push_none number (x ∷ jobs) job is = by (x.number == number) is (λ e. push_no
     by true is again = absurd (let no : ⊥ = cc in no)
     by false is again = again is
 
--- what is put of a job that comes: its first line, at a terminal
+-- what is printed for a new job: its first line, at a terminal
 abbrev coming : Option ℕ → ℕ → List ℕ → List Piece
 coming None number monitor = []
 coming (Some t) number monitor = At number t monitor ∷ []
@@ -232,7 +233,7 @@ login_by_puts : (t : ℕ) (user : List ℕ) (time : ℕ) (w : World) (b : Bool) 
 login_by_puts t user time w true rising = login_puts t user time w (login_refusal w t user time) rising
 login_by_puts t user time w false rising = refused_puts NotStarted w rising
 
--- a job goes on as another of its number
+-- a job continues as another one of its number
 with_found : (after : JobState) (jobs : List JobState) (job : JobState) → numbered after.number jobs ≡ Some job → numbered after.number (with_job after jobs) ≡ Some after
 with_found after [] job is = no_job job is
 with_found after (k ∷ jobs) job is = by (k.number == after.number) refl is (λ e. with_found after jobs job e)
@@ -303,7 +304,7 @@ dump_puts number (Ok (Completed n)) s w rising = puts_line w _ w.count (dump_tex
 dump_puts number (Err Stopped) s w rising = puts_down w _ w.count (codes "SYSTEM STOPPED") rising refl refl refl
 dump_puts number (Err fault) s w rising = puts_line w _ w.count (dump_text number (codes "LOST " ++ fault_line fault)) rising refl refl refl
 
--- behind what was added to the file: the rest of what the end of a turn puts
+-- after what was added to the file: the rest of what the end of a turn prints
 abbrev rest_ended : Option ℕ → List ℕ → List Piece
 rest_ended None whole = Other whole ∷ []
 rest_ended (Some t) whole = []
@@ -347,7 +348,7 @@ module _ (w : World) (job after : JobState) (rising : AreRising 0 w.jobs w.next_
   abbrev puts_at : (turn : Turn) (added : List ℕ) → List Piece
   puts_at turn added = coming after.terminal job.number added ++ rest_of w.count after turn w.jobs
 
-  -- the jobs behind it
+  -- the jobs afterwards
   abbrev jobs_behind : Turn → List JobState
   jobs_behind turns.Broken = []
   jobs_behind (turns.Wants serial) = with_job after w.jobs
@@ -378,7 +379,7 @@ module _ (w : World) (job after : JobState) (rising : AreRising 0 w.jobs w.next_
     apart_rest number t (turns.Ended units money) e =
         same_grown number t (rest_ended after.terminal after.monitor) (numbered number w.jobs) (numbered number (without_job after.number w.jobs)) (left_other after.number number e w.jobs) (rest_output after.terminal after.monitor number t)
 
-    -- what is put alike goes alike
+    -- texts that are printed alike have the same effect
     alike : (number t : ℕ) (ps qs : List Piece) (o p : Option JobState) → output_at number t ps ≡ output_at number t qs → GrowsBy number t qs o p → GrowsBy number t ps o p
     alike number t ps qs None None e h = e ∙ h
     alike number t ps qs None (Some a) e h = λ at_t. h at_t ∙ sym e
@@ -512,7 +513,8 @@ module _ {F U : Type 0} (tariffs : Shared F (Bor Usage × Unit {0}) Charge) (tar
   step_puts w new Ticked rising (idle, done, is) = puts_is w new _ is (puts_none w _ rising refl refl refl)
   step_puts w new Over rising (between, idle, lines, nothing, going, is) = puts_is w new _ is (closed_puts w rising)
 
-  -- WHAT IS KNOWN behind moves from the start: the text in pieces; each terminal's job has its file put, and nobody who comes later anything
+  -- what is known after moves from the start: the text in pieces; the file of each terminal's job is printed, and nothing
+  -- for jobs of later numbers
   abbrev pub Out : ℕ → ℕ → ℕ → List Piece → Option JobState → Type 0
   Out next number t ps None = next ≤ number → output_at number t ps ≡ []
   Out next number t ps (Some job) = job.terminal ≡ Some t → output_at number t ps ≡ job.monitor
@@ -565,7 +567,7 @@ module _ {F U : Type 0} (tariffs : Shared F (Bor Usage × Unit {0}) Charge) (tar
   known_start : (lines : List Timed) (bad : Option ℕ) (s : State) → Known (start lines bad s) []
   known_start lines bad s = record { text = refl; others = tt; rising = (let low : 0 ≤ 1 = omega arith in low); out = λ number t above. refl }
 
-  -- A JOB that is at a terminal now: how it goes on
+  -- a job that is at a terminal now: how it continues
   module _ (number t : ℕ) (job : JobState) where
     abbrev Now : ℕ → Option JobState → List ℕ → List ℕ → Type 0
     Now next (Some a) output more = (a.terminal ≡ Some t) × (output ≡ a.monitor)

@@ -1,4 +1,5 @@
--- WHAT A TERMINAL'S JOB READS: at each event its document has just the lines that were typed for it.
+-- WHAT A TERMINAL'S JOB READS: at each event its document has exactly the lines that were typed for it.
+-- serves: terminals_read_what_is_typed
 use Rattle.std.proofs.Common.{not, ◌≡◌, ◌⊎◌, ◌<◌, ◌≤◌, ◌+◌, ◌==◌, ◌&&◌, ◌++◌, ℕ, Bool, true, false, List, [], ◌∷◌, filter, length, Option, Some, None, IfSome, is_some, slice_get, Result, Ok, Err, MatchBool, codes, if◌then◌else◌, append_assoc, append-nil, refl, sym, ◌∙◌, ap, subst, inl, inr, eqb-true, ne_eqb, arith}
 use Rattle.std.proofs.lemmas.Bool.{false≢true}
 use Rattle.std.proofs.lemmas.Option.{some_pair_parts}
@@ -8,8 +9,8 @@ use denote.Ref.{Bor}
 use Rattle.g_turn.proofs.DocumentLemmas.{LeavesIt, SameOrNone, begins_leaves}
 use Rattle.g_turn.specs.Bounds.{AlwaysGives, MayAnswer}
 use Rattle.g_turn.specs.State.{Broken, Done, Full, Pending, Stop, Waits, Work}
-use Rattle.g_budget.specs.declared.tariff.Charge.{Charge}
-use Rattle.g_budget.specs.declared.tariff.Usage.{Usage}
+use Rattle.g_rules.specs.declared.tariff.Charge.{Charge}
+use Rattle.g_rules.specs.declared.tariff.Usage.{Usage}
 use Rattle.g_job.specs.Beginning.{begin, job_begun, room_of}
 use Rattle.g_job.specs.TurnEnd.{behind_turn, charged, end_by, is_money_up, is_time_up, up_line}
 use Rattle.g_job.specs.State.{JobState}
@@ -24,7 +25,7 @@ use Rattle.g_plain.specs.Programs.{Answer, Asks, Call, Gives}
 use Rattle.g_plain.specs.declared.calls.StoreCall.{StoreCall}
 use Rattle.g_plain.specs.declared.faults.StoreFault.{StoreFault}
 use Rattle.g_plain.specs.declared.faults.StoreFault.TheVariants.{NotStarted, Running, Stopped}
-use Rattle.g_sched.specs.declared.rule.Standing.{Standing}
+use Rattle.g_rules.specs.declared.rule.Standing.{Standing}
 use Rattle.g_script.specs.declared.operator.Operator.{Operator}
 use Rattle.g_script.specs.declared.operator.Operator.TheVariants as line
 use Rattle.g_script.specs.declared.operator.Timed.{Timed}
@@ -47,7 +48,7 @@ use Rattle.g_run_model.proofs.TakenLemmas.{crew_after}
 abbrev At : Type 0
 At = ℕ → List (List ℕ)
 
--- its document has these lines, or no level is left, and what it goes on with has a level
+-- its document has these lines, or no level is left, and what it continues with has a level
 abbrev HasRead : List (List ℕ) → JobState → Type 0
 HasRead lines j = SameOrNone lines j.desk.levels.levels × (is_some j.pending ≡ true → 0 < length j.desk.levels.levels)
 
@@ -79,7 +80,7 @@ reads_gone so jobs next old turn h = record {
 no_terminal : {P : Type 0} (t : ℕ) (o : Option ℕ) → o ≡ None → o ≡ Some t → P
 no_terminal t o none some = absurd (let e : (let one : Option ℕ = Some t in one ≡ None) = sym some ∙ none in let no : ⊥ = cc in no)
 
--- a job comes: it is at no terminal, or its document is empty
+-- a job is added: it is at no terminal, or its document is empty
 reads_push : (so : At) (jobs : List JobState) (next : ℕ) (turn : Option (ℕ × Asks Work)) (job : JobState) → turn ≡ None → job.number ≡ next
     → ((t : ℕ) → job.terminal ≡ Some t → HasRead [] job) → Reads so jobs next turn → Reads so (jobs ++ job ∷ []) (next + 1) turn
 reads_push so jobs next turn job idle is new h = record {
@@ -148,7 +149,7 @@ end_reads lines j w g None (Some charge) = by (is_time_up j charge) (is_money_up
     by false true = (refl, refl, (g.0.1, no_pending w.desk.levels.levels))
     by false false = (refl, refl, (g.0.1, no_pending w.desk.levels.levels))
 
--- whatever a turn made, its end keeps the job's terminal and number
+-- for any result of a turn, its end preserves the job's terminal and number
 seat_kept : (j : JobState) (w : Work) (stop : Option Stop) (charge : Option Charge) → IfSome (end_by stop j w charge) (λ e. (e.1.terminal ≡ j.terminal) × (e.1.number ≡ j.number))
 seat_kept j w (Some (Waits serial)) None = (refl, refl)
 seat_kept j w (Some (Waits serial)) (Some charge) = tt

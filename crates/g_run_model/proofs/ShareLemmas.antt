@@ -1,15 +1,16 @@
--- What the jobs of a run have left, as sums: behind a job that goes on as another, that is gone, or that comes.
+-- What the jobs of a run have left, as sums: after a job continues as another, is removed, or is added.
+-- serves: PieceLemmas, crates above
 use Rattle.std.proofs.Common.{◌≡◌, ◌<◌, ◌≤◌, ◌+◌, ◌-◌, ◌==◌, ℕ, Bool, true, false, cond, not, List, [], ◌∷◌, sum_by, Some, None, refl, ◌∙◌, ap, if◌then◌else◌, eqb-true, ne_eqb, arith}
 use Rattle.std.proofs.lemmas.List.Sums.{sum_by-cons}
 use Rattle.g_job.specs.State.{JobState}
 use Rattle.g_run_model.specs.World.{with_job, without_job}
 use Rattle.g_run_model.proofs.CrewLemmas.{AreRising, no_job, numbered, one_job}
 
--- a job's share: the units that are left of its allowance, and one where it can step
+-- a job's share: the units that are left of its allowance, plus one if it can step
 abbrev pub share : (JobState → Bool) → JobState → ℕ
 share can j = (j.allowance - j.used) + (if can j then 1 else 0)
 
--- nobody below the first number
+-- no job is below the first number
 pub below_none : (number low : ℕ) (jobs : List JobState) (top : ℕ) → number < low → AreRising low jobs top → numbered number jobs ≡ None
 below_none number low [] top less r = refl
 below_none number low (j ∷ jobs) top less r =
@@ -17,7 +18,7 @@ below_none number low (j ∷ jobs) top less r =
     let other : (j.number == number) ≡ false = ne_eqb j.number number (λ same. let no : ⊥ = omega (arith, less, least, same) in no) in
     ap (λ (b : Bool). cond b (Some j) (numbered number jobs)) other ∙ below_none number (j.number + 1) jobs top (omega (arith, less, least)) r.1
 
--- where nobody has a number, putting a job in its place and taking it out leaves the list
+-- if no job has the number, replacing and removing it leaves the list unchanged
 with_none : (j : JobState) (jobs : List JobState) → numbered j.number jobs ≡ None → with_job j jobs ≡ jobs
 with_none j [] none = refl
 with_none j (k ∷ jobs) none = by (k.number == j.number) none (λ e. with_none j jobs e)
@@ -35,7 +36,7 @@ without_none number (k ∷ jobs) none = by (k.number == number) none (λ e. with
     by false e again = ap (λ (js : List JobState). k ∷ js) (again e)
 
 module _ (f : JobState → ℕ) where
-  -- a job goes on as another
+  -- a job continues as another
   pub sum_by-with : (new old : JobState) (low : ℕ) (jobs : List JobState) (top : ℕ) → AreRising low jobs top → numbered new.number jobs ≡ Some old → sum_by f (with_job new jobs) + f old ≡ sum_by f jobs + f new
   sum_by-with new old low [] top r found = no_job old found
   sum_by-with new old low (k ∷ jobs) top r found = by (k.number == new.number) refl found (λ e. sum_by-with new old (k.number + 1) jobs top r.1 e)

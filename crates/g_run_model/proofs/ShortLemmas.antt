@@ -1,5 +1,6 @@
--- Every file of the trees that there are has at most 65,536 bytes, behind each event too. So a store answers each call as a turn
--- may be answered.
+-- Every file of the current trees has at most 65,536 bytes, also after each event. Therefore a store answers each call as a
+-- turn may be answered.
+-- serves: PricedLemmas, ProcessedLemmas, ReadLemmas
 use Rattle.std.proofs.Common.{◌≡◌, ◌≤◌, ◌+◌, ◌||◌, ℕ, Bool, true, false, cond, not, List, ◌∷◌, ◌++◌, length, length-append, Option, Some, None, IfSome, option_map, unwrap_or, Result, Ok, Err, MatchOption, if◌then◌else◌, refl, sym, ◌∙◌, subst, inl, inr, arith}
 use Rattle.std.proofs.lemmas.Bool.{false≢true}
 use Rattle.std.specs.FinMap.{FinMap, get, get-empty, get-insert, get-remove, insert, remove}
@@ -107,7 +108,7 @@ event_short (Some fault) reply s after r new keeps (err, is) = short_of s s new 
 pub format_short : (s : State) (o : Outcome) (r : Result (Unit {0}) StoreFault) (new : State) → FormatStep s o r new → KeepsShort s new
 format_short s o r new event = event_short _ _ s _ r new (λ h. record { held = formatted_short; dumped = h.dumped; opened = tt }) event
 
--- the tree of what is held
+-- the tree that is held
 pub held_short : (s : State) (k : Holding) → s.holding ≡ Some k → AreShort s → IsShort k.tree
 held_short s k holds h = subst (λ (x : Option Holding). IfSome x (λ y. IsShort y.tree)) holds h.held
 

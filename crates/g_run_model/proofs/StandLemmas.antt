@@ -1,4 +1,5 @@
--- What devices stand for is what they are read as.
+-- What devices represent is what they are read as.
+-- serves: DeviceShortLemmas, crates above
 use Rattle.std.proofs.Common.{◌≡◌, ℕ, false, List, [], ◌∷◌, Contains, Option, Some, None, refl, sym, ◌∙◌, subst, arith}
 use Rattle.std.specs.Prelude.{All, IfSome, is_some, map}
 use Rattle.std.specs.Option.{option_map}
@@ -50,7 +51,7 @@ module _ (held : Option (List (List ℕ))) (reels : List Reel) (text : ℕ → L
   held_by None is = tt
   held_by (Some c) (blocks, at, holds, belongs) = (blocks, at, holds, views c belongs)
 
--- whatever it holds belongs to the reels
+-- for any contents of the disc, they belong to the reels
 belongs_by : (held : Option (List (List ℕ))) (text : ℕ → List ℕ) (shelf : ℕ → List Dump) (reels : List Reel) (contents : Option Contents) → HoldsThis held text shelf reels contents
     → (blocks : List (List ℕ)) (c : Contents) → held ≡ Some blocks → Holds blocks c → DiscBelongs text shelf reels c
 belongs_by held text shelf reels None is blocks c at holds = absurd (is blocks c at holds)
@@ -83,7 +84,7 @@ read_as d s stand = record {
   };
 }
 
--- AND THE OTHER WAY: of what is read, by the texts and dumps by which disc and rack belong together
+-- conversely: for what is read, with the texts and dumps by which disc and rack belong together
 abbrev first_dumped : (dumps : List Dump) → ((d : Dump) → Contains dumps d → DumpedDirectory dumps) → Option (DumpedDirectory dumps)
 first_dumped [] tree = None
 first_dumped (d ∷ ds) tree = Some (tree d (0, omega arith, refl))

@@ -1,4 +1,5 @@
 -- Refusals of a step, by cases.
+-- serves: AnswerLemmas, DumpedLemmas, EventToldLemmas, KeptDumpLemmas, LawLemmas, MountLemmas, ProcessedLemmas, ShortLemmas, ToldLemmas, TreeLemmas, and 1 more
 use Rattle.std.proofs.Common.{◌≡◌, ℕ, List, Option, Some, None, refl, sym, ap, subst, inl, inr}
 use Rattle.std.specs.Prelude.{◌≢◌, ◌⊎◌, Result, Ok, Err, option_map, MatchOption}
 use Rattle.g_plain.specs.declared.calls.StoreCall.{StoreCall}
@@ -21,12 +22,12 @@ one_fault f g e = cc
 pub not_err : {A : Type 0} (reply : StoreReply) (f : StoreFault) → (let one : Result StoreReply StoreFault = Err f in one ≡ Ok reply) → A
 not_err reply f e = absurd (let no : ⊥ = cc in no)
 
--- a refusal that is no stop left the state as it was
+-- a refusal that isn't a stop left the state unchanged
 pub left_same : (s : State) (k : Holding) (who : List ℕ) (call : StoreCall) (o : Outcome) (until : ℕ) (f : StoreFault) (new : State) → f ≢ Stopped → LeftByRefusal s k who call o until f new → new ≡ s
 left_same s k who call o until Stopped new other left = absurd (other refl)
 left_same s k who call o until f new other left = left
 
--- a refusal is before room is looked for, or behind
+-- a refusal occurs before room is computed, or after it
 pub refused : {P : Type 0} (Q : StoreFault → Type 0) (f : Option StoreFault) (fault : StoreFault) → MatchOption f P (λ g. (let one : Result StoreReply StoreFault = Err fault in one ≡ Err g) × Q g)
     → ((f ≡ None) × P) ⊎ ((f ≡ Some fault) × Q fault)
 refused Q None fault step = inl (refl, step)
@@ -34,8 +35,8 @@ refused Q (Some g) fault step =
     let same : fault ≡ g = one_fault fault g step.0 in
     inr (ap Some (sym same), subst Q (sym same) step.1)
 
--- WHAT A CALL LEAVES: what holds of the state before it and of that behind it, of both when they are down, and of the one before with files put
--- off when it is down, holds whatever was answered
+-- what a call leaves: if a property holds of the state before it and of that after it, of both when they are down, and of
+-- the former with files taken off when it is down, then it holds for any answer
 module _ (P : State → Type 0) (s : State) (k : Holding) (who : List ℕ) (call : StoreCall) (same : P s) (gone : P (down s)) (cut : (until : ℕ) → P (down (after_unjam s k who call until)))
     (after : (until : ℕ) → P (after_call s k who call until)) (after_gone : (until : ℕ) → P (down (after_call s k who call until))) where
   left_kept : (o : Outcome) (until : ℕ) (f : StoreFault) (new : State) → LeftByRefusal s k who call o until f new → P new
@@ -57,7 +58,8 @@ module _ (P : State → Type 0) (s : State) (k : Holding) (who : List ℕ) (call
   pub call_kept : (o : Outcome) (answer : Result StoreReply StoreFault) (new : State) → CallStep s k who call o answer new → P new
   call_kept o answer new step = early_kept o (early s k who call o) answer new step
 
--- WHAT AN EVENT LEAVES, and a line that brings the system up: the state as it was or that of the event, each of them up or down
+-- what an event leaves, and a line that brings the system up: the state before or that of the event, each of them up or
+-- down
 pub event_kept : {A : Type 0} (P : State → Type 0) (f : Option StoreFault) (reply : A) (s after : State) (r : Result A StoreFault) (new : State) → P s → P (down s) → P after → P (down after) → Event f reply s after r new → P new
 event_kept P None reply s after r new same gone done done_gone (ok, is) = subst P (sym is) done
 event_kept P (Some Stopped) reply s after r new same gone done done_gone (err, inl is) = subst P (sym is) gone

@@ -1,4 +1,5 @@
 -- How a store answers a call, as an event of a run.
+-- serves: StoreTurnLemmas
 use Rattle.std.proofs.Common.{◌≡◌, ℕ, List, Err, refl, sym, subst}
 use Rattle.std.proofs.lemmas.Bool.{false≢true}
 use Rattle.g_name.specs.declared.full.Full.{Full}
@@ -13,7 +14,7 @@ use Rattle.g_store_model.specs.State.{State}
 use Rattle.g_run_model.specs.Events.{IsCall}
 use Rattle.g_run_model.proofs.EventToldLemmas.{call_told, OutcomeTold}
 
--- the call was an event from this state, and the store stands for the state behind it
+-- the call was an event from this state, and the store represents the state after it
 pub record IsEvent (t : State) (who : List ℕ) (call : StoreCall) (answer : Answer) (new : StoreFacts) : Type 0 where
   pub outcome : Outcome
   pub after : State
@@ -41,7 +42,7 @@ module _ (old new : StoreFacts) (who : List ℕ) (call : StoreCall) (told : Told
       let from : From t old who call answer new = is.step (λ x. belongs) t stands in
       steps_event t from.before old new who call answer (from.told told) told (is.no_copy told belongs) real from.steps
 
-  -- want of memory leaves the state
+  -- running out of memory leaves the state unchanged
   pub memory_keeps : Answers old who call (Err NoMemory) new → StandsForState new t
   memory_keeps is =
       let from : From t old who call (Err NoMemory) new = is.step (λ x. belongs) t stands in

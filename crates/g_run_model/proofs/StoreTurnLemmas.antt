@@ -1,10 +1,11 @@
--- A turn over a store whose devices tell and belong together, as moves of a run.
+-- A turn on a store whose devices expose their contents and belong together, as moves of a run.
+-- serves: crates above
 use Rattle.std.proofs.Common.{◌≡◌, ℕ, false, List, [], map, Some, None, slice_get, Err, refl}
 use Rattle.std.specs.Fn.{Shared}
 use denote.Ref.{Bor}
 use Rattle.g_turn.specs.State.{Work}
-use Rattle.g_budget.specs.declared.tariff.Charge.{Charge}
-use Rattle.g_budget.specs.declared.tariff.Usage.{Usage}
+use Rattle.g_rules.specs.declared.tariff.Charge.{Charge}
+use Rattle.g_rules.specs.declared.tariff.Usage.{Usage}
 use Rattle.g_job.specs.Beginning.{standing_of}
 use Rattle.g_job.specs.TurnEnd.{IsTurn}
 use Rattle.g_job.specs.State.{JobState}
@@ -15,8 +16,8 @@ use Rattle.g_plain.specs.Programs.{Answer, Asks, IsAnswer, RanInPart}
 use Rattle.g_plain.specs.Runs.{RanBy}
 use Rattle.g_plain.specs.declared.calls.StoreCall.{StoreCall}
 use Rattle.g_plain.specs.declared.faults.StoreFault.TheVariants.{NoMemory}
-use Rattle.g_sched.specs.Choice.{IsChosen}
-use Rattle.g_sched.specs.declared.rule.Standing.{Standing}
+use Rattle.g_rules.specs.Choice.{IsChosen}
+use Rattle.g_rules.specs.declared.rule.Standing.{Standing}
 use Rattle.g_store_meaning.specs.Answers.{Answers, Belongs, HasCause, Told}
 use Rattle.g_store_meaning.specs.Reading.{StandsForState}
 use Rattle.g_store_meaning.specs.StoreInvariant.{StoreFacts}
@@ -31,7 +32,7 @@ use Rattle.g_run_model.proofs.EventToldLemmas.{told_own, OutcomeTold}
 use Rattle.g_run_model.proofs.StoreLemmas.{answer_event, memory_keeps}
 use Rattle.g_run_model.proofs.TurnLemmas.{MayBegin, in_turn, with_turn}
 
--- the store tells, belongs, and stands for the state
+-- the store exposes its contents, belongs together, and represents the state
 pub record StoreIsNow (s : StoreFacts) (t : State) : Type 0 where
   pub told : Told s
   pub belongs : Belongs s

@@ -1,12 +1,13 @@
--- What is known of one number's job in a run: how many free turns it may have had by the lines that were done, and that what
--- was charged is within its allowance.
+-- What is known of one number's job in a run: how many free turns it may have had by the lines that were done, and that
+-- what was charged is within its allowance.
+-- serves: EndsLemmas, OneTextLemmas, PricedLemmas, ReadLemmas
 use Rattle.std.proofs.Common.{◌≡◌, ◌<◌, ◌≤◌, ◌+◌, ◌-◌, ◌==◌, ◌⊎◌, ◌&&◌, ℕ, Bool, true, false, not, List, [], ◌∷◌, ◌++◌, filter, Option, Some, None, IfSome, slice_get, refl, sym, ◌∙◌, ap, subst, inl, inr, if◌then◌else◌, eqb-true, arith}
 use Rattle.std.proofs.lemmas.Bool.{false≢true, leb-false}
 use Rattle.std.proofs.lemmas.Option.{some_pair_parts}
 use Rattle.std.proofs.Math.Nat.{le-min}
 use Rattle.g_turn.specs.Causes.{GoesOn, IsHonest, StopsAt}
 use Rattle.g_turn.specs.State.{Broken, Desk, Done, Full, Stop, Waits, Work}
-use Rattle.g_budget.specs.declared.tariff.Charge.{Charge}
+use Rattle.g_rules.specs.declared.tariff.Charge.{Charge}
 use Rattle.g_job.proofs.TurnBounds.{turn_honest}
 use Rattle.g_job.specs.TurnEnd.{behind_turn, broken, charged, end_by, is_money_up, is_time_up, money_of, turn_end, turn_of, units_left, units_of, up_line, waited}
 use Rattle.g_job.specs.State.{JobState}
@@ -25,7 +26,7 @@ use Rattle.g_run_model.proofs.MountLemmas.{NoMount}
 abbrev pub IsCandid : State → Asks Work → Type 0
 IsCandid s p = IsHonest p ⊎ (((serial : ℕ) × StopsAt (Waits serial) p × (is_mounted s serial ≡ false)) ⊎ StopsAt Broken p)
 
--- the charge of a turn, where there is one, takes a unit at least
+-- the charge of a turn, if there is one, takes a unit at least
 abbrev pub TakesUnit : Move → Type 0
 TakesUnit (TurnOver number (Some charge)) = 1 ≤ charge.units
 TakesUnit move = Unit {0}
@@ -33,7 +34,7 @@ TakesUnit move = Unit {0}
 abbrev pub one_if : Bool → ℕ
 one_if b = if b then 1 else 0
 
--- the jobs behind a turn
+-- the jobs after a turn
 abbrev pub crew_after : Turn → JobState → List JobState → List JobState
 crew_after turns.Broken j jobs = []
 crew_after (turns.Wants serial) j jobs = with_job j jobs
@@ -51,7 +52,7 @@ free_end j w (Some Full) = tt
 free_end j w (Some Done) = tt
 free_end j w None = tt
 
--- a job that goes on behind a turn that is charged
+-- a job that continues after a charged turn
 pub record GoesOnWith (j : JobState) (charge : Charge) (after : JobState) : Type 0 where
   pub number : after.number ≡ j.number
   pub allowance : after.allowance ≡ j.allowance
@@ -88,7 +89,7 @@ charged_ends j w charge None = by (is_time_up j charge) (is_money_up j charge) r
     by false true e = inr (_, _, refl, refl)
     by false false e = inl (_, _, refl, goes_on j w charge e)
 
--- who waits by its work, waits for a reel that isn't mounted
+-- a job that waits by its work, waits for a reel that isn't mounted
 abbrev serial_in : Option Stop → ℕ
 serial_in (Some (Waits serial)) = serial
 serial_in stop = 0
@@ -119,7 +120,7 @@ module _ (n : ℕ) (u q : Bool) (a : ℕ) where
     pub born : q ≡ true → (u ≡ true) × (n < next) × (c ≤ a) × ((job : JobState) → numbered n jobs ≡ Some job → job.allowance ≡ a)
     pub taking : (p : Asks Work) → turn ≡ Some (n, p) → (f ≤ m) × IsCandid s p
 
-  -- what is said of the number's job stays where that is the same one, whatever becomes of the others, of the store and of the turn
+  -- what holds of the number's job still holds if that is the same one, for any other jobs, any store and any turn
   same_job : {f m c next : ℕ} {jobs : List JobState} {s : State} {t : Option (ℕ × Asks Work)} (m2 : ℕ) (new : State) (others : List JobState) (left : Option (ℕ × Asks Work)) → IsTaken f m c jobs next s t
       → AreRising 0 others next → numbered n others ≡ numbered n jobs → f ≤ 1 + m2
       → ((job : JobState) → numbered n jobs ≡ Some job → has_reel new job ≡ true → f ≤ m2) → ((p : Asks Work) → left ≡ Some (n, p) → (f ≤ m2) × IsCandid new p)
@@ -135,7 +136,7 @@ module _ (n : ℕ) (u q : Bool) (a : ℕ) where
     taking = taking;
   }
 
-  -- where all jobs are the same
+  -- if all jobs are the same
   same_jobs : {f m c next : ℕ} {jobs : List JobState} {s : State} {t : Option (ℕ × Asks Work)} (m2 : ℕ) (new : State) (left : Option (ℕ × Asks Work)) → IsTaken f m c jobs next s t → f ≤ 1 + m2
       → ((job : JobState) → numbered n jobs ≡ Some job → has_reel new job ≡ true → f ≤ m2) → ((p : Asks Work) → left ≡ Some (n, p) → (f ≤ m2) × IsCandid new p)
       → IsTaken f m2 c jobs next new left
@@ -151,7 +152,7 @@ module _ (n : ℕ) (u q : Bool) (a : ℕ) where
   can_lower s new fewer job None can = refl
   can_lower s new fewer job (Some serial) can = fewer serial can
 
-  -- the store goes on, and mounts nothing
+  -- the store changes, and mounts nothing
   pub taken_on : (f m c : ℕ) (jobs : List JobState) (next : ℕ) (s new : State) (t : Option (ℕ × Asks Work)) → t ≡ None → NoMount s new → IsTaken f m c jobs next s t → IsTaken f m c jobs next new t
   taken_on f m c jobs next s new t idle fewer h =
       same_jobs m new t h h.free (λ job found can. h.able job found (can_lower s new fewer job job.wants can)) (λ p is. no_turn t (n, p) idle is)
@@ -176,7 +177,7 @@ module _ (n : ℕ) (u q : Bool) (a : ℕ) where
     taking = λ p is. no_turn left (n, p) idle is;
   }
 
-  -- a job comes
+  -- a job is added
   pub taken_push : (f m c : ℕ) (jobs : List JobState) (next : ℕ) (s : State) (t : Option (ℕ × Asks Work)) (job : JobState) → t ≡ None → job.number ≡ next
       → (job.used < job.allowance) × (job.allowance ≤ 1000000) → IsTaken f m c jobs next s t → IsTaken f m c (jobs ++ job ∷ []) (next + 1) s t
   taken_push f m c jobs next s t job idle is fair h = record {
@@ -215,7 +216,7 @@ module _ (n : ℕ) (u q : Bool) (a : ℕ) where
           let below : n < next = b.1 in
           (b.0, omega (arith, below), b.2, λ x found. allowed below b.3 x (found_push n jobs job x found))
 
-  -- a job in its place with another desk, which stands where it stood
+  -- a job in its place with another desk, in the same situation
   pub taken_edit : (f m c : ℕ) (jobs : List JobState) (next : ℕ) (s : State) (t : Option (ℕ × Asks Work)) (job : JobState) (d : Desk) → t ≡ None → numbered job.number jobs ≡ Some job
       → IsTaken f m c jobs next s t → IsTaken f m c (with_job (record job { desk = d }) jobs) next s t
   taken_edit f m c jobs next s t job d idle here h = by (job.number == n) refl
@@ -280,7 +281,7 @@ module _ (n : ℕ) (u q : Bool) (a : ℕ) where
       let old = h.taking p (ap (λ (y : ℕ). let t : Option (ℕ × Asks Work) = Some (y, p) in t) parts.0) in
       (old.0, subst (λ (y : Asks Work). IsCandid new y) parts.1 (on old.1)))
 
-  -- so many free and charged turns more, behind a turn
+  -- this many more free and charged turns, after a turn
   abbrev pub Turned : ℕ → ℕ → ℕ → List JobState → ℕ → State → ℕ → ℕ → Type 0
   Turned f m c jobs next s free charges = (f2 : ℕ) × (c2 : ℕ) × (f2 ≡ f + free) × (c2 ≡ c + charges) × IsTaken f2 m c2 jobs next s None
 
@@ -305,7 +306,7 @@ module _ (n : ℕ) (u q : Bool) (a : ℕ) where
     others_stay : (left : List JobState) → AreRising 0 left next → numbered n left ≡ numbered n jobs → IsTaken f m c left next s None
     others_stay left rising same = same_job m s left None h rising same h.free h.able (λ x e. no_turn None (n, x) refl e)
 
-    -- another number's job goes on, or is gone
+    -- another number's job continues, or is gone
     other_on : (after : JobState) → after.number ≡ number → (number == n) ≡ false → IsTaken f m c (with_job after jobs) next s None
     other_on after is apart = others_stay (with_job after jobs) (rising_with after 0 jobs next h.rising) (found_other after n (ap (λ (x : ℕ). x == n) is ∙ apart) jobs)
 
@@ -313,7 +314,7 @@ module _ (n : ℕ) (u q : Bool) (a : ℕ) where
     other_gone gone is apart =
         others_stay (without_job gone jobs) (rising_filter (λ (j : JobState). not (j.number == gone)) 0 jobs next h.rising) (left_other gone n (ap (λ (x : ℕ). x == n) is ∙ apart) jobs)
 
-    -- the number's own job goes on
+    -- the number's own job continues
     same_on : (free_turns charges : ℕ) (after : JobState) → after.number ≡ number → number ≡ n → free_turns ≤ 1 + m → (has_reel s after ≡ true → free_turns ≤ m)
         → after.used < after.allowance → after.allowance ≡ job.allowance → (u ≡ true → charges ≤ after.used) → IsTaken free_turns m charges (with_job after jobs) next s None
     same_on free_turns charges after is same few can fair allowed spent = record {

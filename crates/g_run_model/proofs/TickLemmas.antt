@@ -1,17 +1,18 @@
 -- The moves of a tick, and of a line, each with what it leaves and what it adds to the text.
+-- serves: PutLemmas, crates above
 use Rattle.std.proofs.Common.{◌≡◌, ◌⊎◌, ◌+◌, ℕ, true, false, List, [], ◌∷◌, ◌++◌, None, Result, Ok, Err, codes, append_assoc, append-nil, refl, sym}
 use Rattle.std.specs.Fmt.{decimal}
 use Rattle.std.specs.Fn.{Shared}
 use denote.Ref.{Bor}
-use Rattle.g_budget.specs.declared.tariff.Charge.{Charge}
-use Rattle.g_budget.specs.declared.tariff.Usage.{Usage}
+use Rattle.g_rules.specs.declared.tariff.Charge.{Charge}
+use Rattle.g_rules.specs.declared.tariff.Usage.{Usage}
 use Rattle.g_job.specs.State.{JobState}
 use Rattle.g_job.specs.declared.turn.Turn.{Turn}
 use Rattle.g_job.specs.declared.turn.Turn.TheVariants as turns
 use Rattle.g_monitor.specs.Refusals.{fault_line}
 use Rattle.g_plain.specs.declared.faults.StoreFault.{StoreFault}
 use Rattle.g_plain.specs.declared.faults.StoreFault.TheVariants.{Stopped}
-use Rattle.g_sched.specs.declared.rule.Standing.{Standing}
+use Rattle.g_rules.specs.declared.rule.Standing.{Standing}
 use Rattle.g_script.specs.declared.operator.Timed.{Timed}
 use Rattle.g_store_model.specs.CallStep.{Outcome}
 use Rattle.g_store_model.specs.DumpSteps.{Completed, Going, Stepped as DumpStepped}

@@ -1,4 +1,5 @@
--- A step whose answer doesn't tell its outcome is the step in which no device failed.
+-- A step whose answer doesn't show its outcome is the step in which no device failed.
+-- serves: EventToldLemmas
 use Rattle.std.proofs.Common.{◌≡◌, ℕ, List, [], ◌∷◌, Option, Some, None, refl, sym, ◌∙◌, ap, subst}
 use Rattle.std.specs.Prelude.{◌≢◌, Bool, true, false, Result, Err, MatchOption, not, nat_lt, is_some, unwrap_or, ◌&&◌, ◌||◌}
 use Rattle.g_plain.specs.declared.calls.StoreCall.{StoreCall}
@@ -67,7 +68,7 @@ left_by : (s : State) (k : Holding) (who : List ℕ) (call : StoreCall) (until :
 left_by s k who call until new Stopped other is = absurd (other refl)
 left_by s k who call until new fault other is = is
 
--- AN ANSWER that is none of the devices' own is that of the step in which no device failed
+-- AN ANSWER that no device causes is that of the step in which no device failed
 pub plain_too : (s : State) (k : Holding) (who : List ℕ) (call : StoreCall) (o : Outcome) (answer : Reply) (new : State)
     → ((let e : Reply = Err DiscReadFault in answer ≡ e) → ⊥) → ((let e : Reply = Err TapeReadFault in answer ≡ e) → ⊥) → ((let e : Reply = Err Stopped in answer ≡ e) → ⊥)
     → CallStep s k who call o answer new → CallStep s k who call Plain answer new

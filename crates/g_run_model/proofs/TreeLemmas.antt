@@ -1,11 +1,12 @@
 -- What each move does to the tree.
+-- serves: moves_change_the_tree_whole (moves, rising), start_has_the_tree, DumpLemmas, DumpedLemmas, OneTextLemmas, crates above
 use Rattle.std.proofs.Common.{◌≡◌, ℕ, List, [], ◌∷◌, Option, Some, None, refl, sym, ◌∙◌, ap, inl, inr}
 use Rattle.std.specs.Prelude.{not, ◌⊎◌, Bool, true, false, Result, Ok, Err, option_map, MatchBool, MatchOption, if◌then◌else◌}
 use Rattle.std.specs.Fn.{Shared}
 use denote.Ref.{Bor}
-use Rattle.g_budget.specs.declared.tariff.Usage.{Usage}
-use Rattle.g_budget.specs.declared.tariff.Charge.{Charge}
-use Rattle.g_sched.specs.declared.rule.Standing.{Standing}
+use Rattle.g_rules.specs.declared.tariff.Usage.{Usage}
+use Rattle.g_rules.specs.declared.tariff.Charge.{Charge}
+use Rattle.g_rules.specs.declared.rule.Standing.{Standing}
 use Rattle.g_plain.specs.declared.calls.StoreCall.{StoreCall}
 use Rattle.g_plain.specs.declared.faults.StoreFault.{StoreFault}
 use Rattle.g_plain.specs.declared.faults.StoreFault.TheVariants.{Stopped, Running, NotStarted}
@@ -39,7 +40,7 @@ use Rattle.g_run_model.proofs.AnswerLemmas.{call_plain}
 use Rattle.g_run_model.proofs.StepLemmas.{tree_held}
 use Rattle.g_run_model.proofs.ProcessedLemmas.{process_tree}
 
--- a store that goes down keeps its tree
+-- a store that goes down has the same tree
 in_down : (h : Option Holding) → option_map (λ (k : Holding). k.tree) (option_map no_longer_kept h) ≡ option_map (λ (k : Holding). k.tree) h
 in_down None = refl
 in_down (Some k) = refl
@@ -55,7 +56,7 @@ event_tree (Some Stopped) reply s after r new (err, inl is) = inl (ap tree_in is
 event_tree (Some Stopped) reply s after r new (err, inr is) = inr (ap tree_in is ∙ tree_down after)
 event_tree (Some fault) reply s after r new (err, is) = inl (ap tree_in is)
 
--- an event whose tree behind it is that of before keeps it
+-- an event that leaves the tree unchanged preserves it
 event_keeps : {A : Type 0} (f : Option StoreFault) (reply : A) (s after : State) (r : Result A StoreFault) (new : State) → tree_in after ≡ tree_in s → Event f reply s after r new → tree_in new ≡ tree_in s
 event_keeps f reply s after r new same event = by (event_tree f reply s after r new event)
   where
@@ -86,7 +87,7 @@ restore_tree : (s : State) (f : Option StoreFault) (o : Outcome) (r : Result ℕ
 restore_tree s None o r new step = restores_tree s s.dumped o r new step
 restore_tree s (Some fault) o r new (err, is) = inl (ap tree_in is)
 
--- where the world's store stands behind what is told
+-- the world's store after what is printed
 pub told_up : {R : Type 0} (said : R → List ℕ) (r : Result R StoreFault) (s : State) (w : World) → (tells (λ x t v. up_with (said x) t v) r s w).store ≡ s
 told_up said (Ok x) s w = refl
 told_up said (Err Stopped) s w = refl
@@ -113,18 +114,18 @@ pub job_store : (o : Outcome) (refusal : Option (List ℕ)) (taken w : World) �
 job_store o None taken w e = e
 job_store o (Some text) taken w e = refl
 
--- a line leaves the tree, or puts its own there
+-- a line leaves the tree, or installs its own
 abbrev pub LineLeaves : Operator → World → World → Type 0
 LineLeaves what w new = (tree_in new.store ≡ tree_in w.store) ⊎ (tree_in new.store ≡ (if w.store.up then tree_in w.store else tree_by_line what w.store))
 
 stays : (w new v : World) → new ≡ v → v.store ≡ w.store → tree_in new.store ≡ tree_in w.store
 stays w new v is same = ap (λ (x : World). tree_in x.store) is ∙ ap tree_in same
 
--- behind a line that asked the store, and left it at s
+-- after a line that called the store, and left it at s
 goes : (w new v : World) (s : State) → new ≡ v → v.store ≡ s → tree_in new.store ≡ tree_in s
 goes w new v s is same = ap (λ (x : World). tree_in x.store) is ∙ ap tree_in same
 
--- a line of a system that is down puts its tree there
+-- a line of a system that is down installs its tree
 puts : (what : Operator) (w new : World) (t : Option Tree) → w.store.up ≡ false → (t ≡ tree_in w.store) ⊎ (t ≡ tree_by_line what w.store) → tree_in new.store ≡ t → LineLeaves what w new
 puts what w new t e (inl same) is = inl (is ∙ same)
 puts what w new t e (inr put) is = inr (is ∙ put ∙ sym (ap (λ (b : Bool). if b then tree_in w.store else tree_by_line what w.store) e))
@@ -171,7 +172,7 @@ pub typed_by : (t : ℕ) (change : JobState → JobState) (w : World) (b : Bool)
 typed_by t change w true = changed_store t change (open_at t w.jobs) w
 typed_by t change w false = refl
 
--- A LINE leaves the tree, or puts its own there
+-- A LINE leaves the tree, or installs its own
 line_leaves : (o : Outcome) (what : Operator) (w new : World) → LineGives o what w new → LineLeaves what w new
 line_leaves o line.Format w new gives = rises_at FormatStep (λ r. codes "FORMATTED") o line.Format w new (λ r s does. event_tree _ _ w.store _ r s does) w.store.up refl gives
 line_leaves o line.Start w new gives = rises_at StartStep started_text o line.Start w new (λ r s does. inl (start_keeps w.store w.store.holding o r s refl does)) w.store.up refl gives
@@ -198,7 +199,7 @@ line_leaves o (line.Login t user time) w new (plain, is) = inl (stays w new _ is
 line_leaves o (line.Typed t text) w new (plain, is) = inl (stays w new _ is (typed_by t (typed_to text) w w.store.up))
 line_leaves o (line.Logout t) w new (plain, is) = inl (stays w new _ is (typed_by t logged_out w w.store.up))
 
--- one of two trees: the first one, where the second is that too; and still one of them behind what leaves the tree
+-- one of two trees: the first one, if it equals the second; and still one of them after a move that leaves the tree
 pub either_first : (t u v : Option Tree) → (u ≡ t) ⊎ (u ≡ v) → v ≡ t → u ≡ t
 either_first t u v (inl e) same = e
 either_first t u v (inr e) same = e ∙ same
@@ -279,7 +280,7 @@ rises_up Does said o w new t up leaves false e low (r, s, (does, says_so), is) =
     let at_s : new.store ≡ s = ap (λ (x : World). x.store) is ∙ told_up said r s w in
     ap tree_in at_s ∙ leaves r s (sym (ap (λ (x : State). x.up) at_s) ∙ up) does
 
--- a line that brings the system up leaves just the tree that it should
+-- a line that brings the system up leaves exactly the right tree
 line_up : (o : Outcome) (what : Operator) (w new : World) → w.store.up ≡ false → new.store.up ≡ true → LineGives o what w new → tree_in new.store ≡ tree_by_line what w.store
 line_up o line.Format w new low up gives = rises_up FormatStep (λ r. codes "FORMATTED") o w new (Some formatted) up (λ r s s_up does. event_up _ _ w.store _ r s low s_up does) w.store.up refl low gives
 line_up o line.Restore w new low up gives =

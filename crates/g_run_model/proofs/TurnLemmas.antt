@@ -1,10 +1,12 @@
--- A turn's program that was run over a store is a list of moves of the world, and one that was asked of a plain tree.
+-- A turn's program that was run on a store is a list of moves of the world, and so is one that was answered by a plain
+-- tree.
+-- serves: CountedTurnLemmas, DumpedLemmas, StoreTurnLemmas, crates above
 use Rattle.std.proofs.Common.{◌≡◌, ◌⊎◌, ℕ, false, List, [], ◌∷◌, ◌++◌, Some, subst}
 use Rattle.std.specs.Fn.{Shared}
 use denote.Ref.{Bor}
-use Rattle.g_budget.specs.declared.tariff.Usage.{Usage}
-use Rattle.g_budget.specs.declared.tariff.Charge.{Charge}
-use Rattle.g_sched.specs.declared.rule.Standing.{Standing}
+use Rattle.g_rules.specs.declared.tariff.Usage.{Usage}
+use Rattle.g_rules.specs.declared.tariff.Charge.{Charge}
+use Rattle.g_rules.specs.declared.rule.Standing.{Standing}
 use Rattle.g_plain.specs.Programs.{Asks}
 use Rattle.g_turn.specs.State.{Work}
 use Rattle.g_store_model.specs.State.{State}
@@ -20,7 +22,7 @@ module _ {F U : Type 0} (tariffs : Shared F (Bor Usage × Unit {0}) Charge) (tar
   run_append w [] ns mid new first later = subst (λ (v : World). Run tariffs tariff rules rule v ns new) first later
   run_append w (m ∷ ms) ns mid new first later = (first.0, first.1, run_append first.0 ms ns mid new first.2 later)
 
-  -- where a tick is ready for a turn
+  -- if a tick is ready for a turn
   abbrev pub MayBegin : World → Type 0
   MayBegin w = ((w.phase ≡ Between) × (is_dumping w ≡ false)) ⊎ (w.phase ≡ Stepped)
 

@@ -1,4 +1,6 @@
--- Worlds that differ in first blocks of copies alone: a line, a step of the dump and the end of a turn leave two such worlds.
+-- Worlds that differ only in first blocks of copies: a line, a step of the dump and the end of a turn leave two such
+-- worlds.
+-- serves: OneTextLemmas
 use Rattle.std.proofs.Common.{◌≡◌, ◌+◌, ◌++◌, ℕ, Bool, true, false, not, List, [], ◌∷◌, length, map, filter, Option, Some, None, option_map, is_some, unwrap_or, Result, Ok, Err, MatchBool, nat_le, nat_lt, if◌then◌else◌, codes, refl, sym, ◌∙◌, ap}
 use Rattle.std.specs.FinMap.{entries}
 use Rattle.std.specs.Fmt.{decimal}
@@ -53,7 +55,7 @@ new_bare s accounts = ap (λ (rows : List (List ℕ × UserRow)). accounts ++ ma
 knows_bare : (s : State) (user : List ℕ) → knows_user (bare_state s) user ≡ knows_user s user
 knows_bare s user = ap (λ (rows : List (List ℕ × UserRow)). list_any (λ e. same_text e.0 user) rows) (rows_bare s)
 
--- how an event is told
+-- how an event is printed
 up_bare : {R : Type 0} (said : R → List ℕ) (r : Result R StoreFault) (s : State) (w : World)
     → bare_world (tells (λ x t v. up_with (said x) t v) r s w) ≡ tells (λ x t v. up_with (said x) t v) r (bare_state s) (bare_world w)
 up_bare said (Ok x) s w = ap (λ (a : List Opened). let v : World = record (bare_world (tells (λ x t v. up_with (said x) t v) (Ok x) s w)) { accounts = a } in v) (sym (new_bare s []))
@@ -66,7 +68,7 @@ stands_bare said (Ok x) s w = refl
 stands_bare said (Err Stopped) s w = refl
 stands_bare said (Err fault) s w = refl
 
--- events that are told alike, by words that go by the bare world
+-- events that are printed alike, by words that depend only on the bare world
 told_alike : {R : Type 0} (told : R → State → World → World) → ((r : Result R StoreFault) (x : State) (y : World) → bare_world (tells told r x y) ≡ tells told r (bare_state x) (bare_world y))
     → (w v new other : World) → AreAlike w v → (a b : Result R StoreFault) (s t : State) → AreSame a b s t → new ≡ tells told a s w → other ≡ tells told b t v → AreAlike new other
 told_alike {R} told bare w v new other alike a b s t same is is2 =
@@ -130,7 +132,7 @@ shut_alike w v new other alike false false e is is2 = refused_alike NotStarted w
 shut_alike w v new other alike true false e one two = true_false e
 shut_alike w v new other alike false true e one two = false_true e
 
--- a line that wants the system up, where what it makes of a bare world is the bare one of what it makes
+-- a line that requires that the system is up, if it commutes with making a world bare
 module _ (makes : World → World) (bare : (w : World) → bare_world (makes w) ≡ makes (bare_world w)) where
   wanting_up : World → World
   wanting_up w = if w.store.up then makes w else line_refused NotStarted w
@@ -146,7 +148,7 @@ module _ (makes : World → World) (bare : (w : World) → bare_world (makes w) 
   made_alike : (w v new other : World) → AreAlike w v → new ≡ wanting_up w → other ≡ wanting_up v → AreAlike new other
   made_alike w v new other alike is is2 = ap bare_world is ∙ wanting_bare w ∙ ap wanting_up alike ∙ sym (wanting_bare v) ∙ sym (ap bare_world is2)
 
--- a job that comes in, or is refused
+-- a job that is accepted, or refused
 line_bare : (taken : World → World) → ((w : World) → bare_world (taken w) ≡ taken (bare_world w)) → (refusal refused : Option (List ℕ)) (w : World) → refused ≡ refusal
     → bare_world (job_line refusal (taken w) w) ≡ job_line refused (taken (bare_world w)) (bare_world w)
 line_bare taken bare refusal refused w same = by refusal ∙ ap (λ (r : Option (List ℕ)). job_line r (taken (bare_world w)) (bare_world w)) (sym same)

@@ -1,4 +1,4 @@
--- Both devices, and the state that they stand for.
+-- Both devices, and the state that they represent.
 use Rattle.std.specs.Prelude.{◌≡◌, ℕ, false, List, [], map, Option, Some, None}
 use Rattle.std.specs.Option.{option_map}
 use Rattle.g_disc.specs.Disc.{DiscState}
@@ -12,17 +12,18 @@ use Rattle.g_store_meaning.specs.Meaning.{DumpedDirectory, told_reels}
 use Rattle.g_store_meaning.specs.Belonging.{Belong, DiscBelongs, RackBelongs}
 use Rattle.g_store_meaning.specs.Reading.{AllTold, DevicesStandFor, dumped_of, holding_of, row_of}
 
--- both devices
+-- Both devices.
 pub record Devices : Type 0 where
   pub disc : DiscState
   pub rack : Rack
 
--- what a disc holds belongs to the reels; or it holds nothing
+-- The disc holds these contents, which belong to the reels; or it holds no filestore.
 abbrev pub HoldsThis : Option (List (List ℕ)) → (ℕ → List ℕ) → (ℕ → List Dump) → List Reel → Option Contents → Type 0
 HoldsThis held text shelf reels (Some c) = (blocks : List (List ℕ)) × (held ≡ Some blocks) × Holds blocks c × DiscBelongs text shelf reels c
 HoldsThis held text shelf reels None = (blocks : List (List ℕ)) (c : Contents) → held ≡ Some blocks → Holds blocks c → ⊥
 
--- THE DEVICES STAND FOR A STATE, which is down: they tell what they hold, disc and rack belong together, and it is the state of that
+-- The devices represent a state, which is down: they expose their contents, disc and rack belong together, and the state is
+-- theirs.
 pub record StandFor (d : Devices) (s : State) : Type 0 where
   pub told : AllTold d.disc.held (told_reels d.rack)
   -- the bytes of every version that disc or tape names, by stamp, and the completed dumps of each reel, by serial
@@ -45,7 +46,8 @@ pub record StandFor (d : Devices) (s : State) : Type 0 where
     open_dump = None;
   }
 
--- the same in two parts, as the crates below have them: they belong together, and are read as it (`StandingIsReading` of g_laws_runs)
+-- The same in two parts, as the crates below have them: the devices belong together, and the state is what they are read as
+-- (`StandingIsReading` of `g_laws_runs`).
 pub record AreReadAs (d : Devices) (s : State) : Type 0 where
   pub told : AllTold d.disc.held (told_reels d.rack)
   pub belong : Belong d.disc.held d.rack

@@ -19,52 +19,58 @@ use Rattle.g_run_model.specs.Accounts.{Opened, with_new, knows_user, account_of,
 use Rattle.g_run_model.specs.Texts.{tape_text, dump_text, job_text, started_text, processed_text}
 use Rattle.g_run_model.specs.World.{World, says, goes_down, system_stopped, with_job}
 
--- the one line that writes reels
+-- The only line that writes reels.
 abbrev pub is_process : Operator → Bool
 is_process (line.Process serial) = true
 is_process what = false
 
--- the numbers that a line arms the disc and the tapes with: that of a STOP line
+-- The numbers with which a line arms the disc and the tapes: that of a STOP line.
 abbrev pub disc_arms : Operator → List ℕ
 disc_arms (line.StopDisc k) = k ∷ []
 disc_arms what = []
 
+-- The number with which a line arms the tapes.
 abbrev pub tape_arms : Operator → List ℕ
 tape_arms (line.StopTape k) = k ∷ []
 tape_arms what = []
 
+-- Whether the system is up.
 abbrev pub is_up : World → Bool
 is_up w = w.store.up
 
+-- A refusal with this text is printed.
 abbrev pub refusal : List ℕ → World → World
 refusal text w = says (codes "REFUSED " ++ text) w
 
+-- The refusal of a line for this fault is printed.
 abbrev pub line_refused : StoreFault → World → World
 line_refused fault w = refusal (fault_line fault) w
 
--- how an event that was asked of the store is told: granted, by what it did; stopped, by the stop's own line; refused, by its refusal
+-- What is printed for an event of the store: if it is granted, what it did; after a stop, the line of the stop; if it is
+-- refused, its refusal.
 abbrev pub tells : {R : Type 0} → (R → State → World → World) → Result R StoreFault → State → World → World
 tells done (Ok r) s w = done r s w
 tells done (Err Stopped) s w = system_stopped s w
 tells done (Err fault) s w = line_refused fault (record w { store = s })
 
--- the system comes up: each user's accounts open
+-- The system comes up, and each user's accounts open.
 abbrev pub up_with : List ℕ → State → World → World
 up_with text s w = record (says text w) { store = s; accounts = with_new s [] }
 
+-- The text is printed, and the store has this state.
 abbrev pub now_stands : List ℕ → State → World → World
 now_stands text s w = says text (record w { store = s })
 
--- JOB: its refusals in their order, the text of the first that holds
+-- The refusals of JOB in their order: the text of the first that applies.
 abbrev pub first_text : List (Bool × List ℕ) → Option (List ℕ)
 first_text [] = None
 first_text (check ∷ checks) = if check.0 then Some check.1 else first_text checks
 
--- what a user without accounts has
+-- The account of a user without accounts.
 abbrev pub no_account : List ℕ → Opened
 no_account user = record { user = user; time = 0; money = 0; ended = [] }
 
--- 64 jobs are unfinished; the user's accounts have too little left
+-- 64 jobs are unfinished, or the user's accounts have too little left.
 abbrev pub room_checks : World → ℕ → ℕ → Opened → List (Bool × List ℕ)
 room_checks w time money a =
     (nat_le 64 (length w.jobs), codes "41 JOBS FULL")
@@ -72,49 +78,58 @@ room_checks w time money a =
     ∷ (nat_lt (money_left a w.jobs) money, with_numbers (codes "42 NO MONEY ") money (money_left a w.jobs))
     ∷ []
 
+-- The refusals of JOB in their order, with their texts.
 abbrev pub job_checks : World → List ℕ → ℕ → ℕ → Opened → List (Bool × List ℕ)
 job_checks w user time money a = (not (knows_user w.store user), fault_line NoUser) ∷ room_checks w time money a
 
+-- The text of the first refusal of a JOB that applies, if any.
 abbrev pub job_refusal : World → List ℕ → ℕ → ℕ → Option (List ℕ)
 job_refusal w user time money = first_text (job_checks w user time money (unwrap_or (account_of w.accounts user) (no_account user)))
 
+-- The job is accepted: it gets the next number, and the acceptance is printed.
 abbrev pub taken_in : List ℕ → List ℕ → ℕ → ℕ → List (List ℕ) → World → World
 taken_in name user time money lines w =
     record (says (job_text w.next_job (name ++ codes " IN")) w) { jobs = w.jobs ++ job_begun w.next_job name user time money lines ∷ []; next_job = w.next_job + 1 }
 
+-- The job is accepted, or its refusal is printed.
 abbrev pub job_line : Option (List ℕ) → World → World → World
 job_line None taken w = taken
 job_line (Some text) taken w = refusal text w
 
--- TERMINALS: the unfinished job of one, and that of one that wasn't logged out
+-- The unfinished job of a terminal, and that of one that wasn't logged out.
 abbrev pub is_terminal : ℕ → Option ℕ → Bool
 is_terminal t None = false
 is_terminal t (Some x) = x == t
 
+-- Whether the job is at this terminal.
 abbrev pub sits_at : ℕ → JobState → Bool
 sits_at t j = is_terminal t j.terminal
 
+-- The unfinished job of a terminal.
 abbrev pub job_at : ℕ → List JobState → Option JobState
 job_at t jobs = find (sits_at t) jobs
 
+-- The unfinished job of a terminal, if its document is held open.
 abbrev pub open_at : ℕ → List JobState → Option JobState
 open_at t jobs = find (λ j. sits_at t j && j.desk.levels.held) jobs
 
--- LOGIN: the refusals of a job of MONEY 1,000, and behind the first of them that the terminal has an unfinished one
+-- The refusals of LOGIN: those of a job with MONEY 1,000, and after the first of them that the terminal has an unfinished
+-- job.
 abbrev pub login_checks : World → ℕ → List ℕ → ℕ → Opened → List (Bool × List ℕ)
 login_checks w t user time a =
     (not (knows_user w.store user), fault_line NoUser)
     ∷ (is_some (job_at t w.jobs), busy_text t)
     ∷ room_checks w time 1000 a
 
+-- The text of the first refusal of a LOGIN that applies, if any.
 abbrev pub login_refusal : World → ℕ → List ℕ → ℕ → Option (List ℕ)
 login_refusal w t user time = first_text (login_checks w t user time (unwrap_or (account_of w.accounts user) (no_account user)))
 
--- the job of a terminal that begins: its document is empty, and held open
+-- The initial job of a terminal: its document is empty and held open.
 abbrev pub terminal_job : ℕ → ℕ → List ℕ → ℕ → JobState
 terminal_job number t user time = seated t (held (job_begun number (terminal_name t) user time 1000 []))
 
--- it comes in, and the first line of its file is put
+-- The job is accepted, and the first line of its file is printed.
 abbrev pub logged_in : ℕ → List ℕ → ℕ → World → World
 logged_in t user time w = record (says (job_text w.next_job (terminal_name t ++ codes " IN")) w) {
   jobs = w.jobs ++ terminal_job w.next_job t user time ∷ [];
@@ -122,32 +137,35 @@ logged_in t user time w = record (says (job_text w.next_job (terminal_name t ++ 
   text = (says (job_text w.next_job (terminal_name t ++ codes " IN")) w).text ++ shown_at t (terminal_job w.next_job t user time).monitor;
 }
 
--- TYPE and LOGOUT change that job, and tell nothing; where there is none they are refused
+-- TYPE and LOGOUT change that job and print nothing. If there is none they are refused.
 abbrev pub changed_at : ℕ → (JobState → JobState) → Option JobState → World → World
 changed_at t change None w = refusal (none_text t) w
 changed_at t change (Some j) w = record w { jobs = with_job (change j) w.jobs }
 
+-- The job of the terminal that wasn't logged out is changed, or the line is refused.
 abbrev pub at_terminal : ℕ → (JobState → JobState) → World → World
 at_terminal t change w = changed_at t change (open_at t w.jobs) w
 
--- SHUT: not while a dump is open
+-- SHUT is refused while a dump is open.
 abbrev pub shut_with : Option OpenDump → World → World
 shut_with (Some dump) w = line_refused (DumpOpen dump.number) w
 shut_with None w = goes_down (codes "SHUT") (down w.store) w
 
 module _ (outcome : Outcome) where
-  -- A LINE THAT ASKS THE STORE FOR AN EVENT: while it may, the event is done, and told by what it gave; else the line is refused.
+  -- A line that calls the store for an event. If the line is permitted the event is done, and its answer is printed;
+  -- otherwise the line is refused.
   abbrev pub Asks : {R : Type 0} → Bool → StoreFault → (Result R StoreFault → State → Type 0) → (R → State → World → World) → World → World → Type 0
   Asks {R = R} may fault Does told w new =
       MatchBool may
       ((r : Result R StoreFault) × (s : State) × Does r s × (new ≡ tells told r s w))
       ((outcome ≡ Plain) × (new ≡ line_refused fault w))
 
-  -- a line that asks it for nothing, and has the outcome Plain: while it may, this comes of it; else it is refused
+  -- A line that doesn't call the store, and has the outcome Plain. If it is permitted it has this effect; otherwise it is
+  -- refused.
   abbrev pub Gives : Bool → StoreFault → World → World → World → Type 0
   Gives may fault done w new = (outcome ≡ Plain) × (new ≡ (if may then done else line_refused fault w))
 
-  -- WHAT A LINE GIVES: while it may be asked, or refused so; what is asked of the store; what comes of it.
+  -- The effect of each line: when it is permitted, and its refusal otherwise; the event of the store; and what is printed.
   abbrev pub LineGives : Operator → World → World → Type 0
   LineGives line.Format w new = Asks (not (is_up w)) Running (IsFormat w.store outcome) (λ r. up_with (codes "FORMATTED")) w new
   LineGives line.Start w new = Asks (not (is_up w)) Running (IsStart w.store outcome) (λ n. up_with (started_text n)) w new

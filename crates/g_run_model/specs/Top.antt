@@ -8,9 +8,9 @@ use Rattle.g_script.specs.Script.{IsParsed}
 use Rattle.g_script.specs.declared.operator.Operator.{Operator}
 use Rattle.std.specs.Fn.{Shared}
 use denote.Ref.{Bor}
-use Rattle.g_budget.specs.declared.tariff.Usage.{Usage}
-use Rattle.g_budget.specs.declared.tariff.Charge.{Charge}
-use Rattle.g_sched.specs.declared.rule.Standing.{Standing}
+use Rattle.g_rules.specs.declared.tariff.Usage.{Usage}
+use Rattle.g_rules.specs.declared.tariff.Charge.{Charge}
+use Rattle.g_rules.specs.declared.rule.Standing.{Standing}
 use Rattle.g_io.specs.Streams.{with_more, HasPutPart}
 use Rattle.g_store_model.specs.State.{State}
 use Rattle.g_run_model.specs.Devices.{Devices}
@@ -22,13 +22,14 @@ use Rattle.g_run_model.specs.Lines.{disc_arms, tape_arms}
 use Rattle.g_run_model.specs.Moves.{Move, Run, Counted}
 
 module _ {F U : Type 0} (tariffs : Shared F (Bor Usage × Unit {0}) Charge) (tariff : F) (rules : Shared U (Bor Standing × Unit {0}) ℕ) (rule : U) where
-  -- Moves of a run, as many failures as the devices counted, and what the devices stand for behind them: a state that is up is told as it is once it is down.
+  -- Moves of a run, with the failures that the devices counted. Afterwards the devices represent the state of the last
+  -- world; if that is up, they represent it as after a shutdown.
   pub record RunOf (lines : List Timed) (bad : Option ℕ) (s : State) (old new : Devices) (moves : List Move) (last : World) : Type 0 where
     pub run : Run tariffs tariff rules rule (start lines bad s) moves last
     pub counted : Counted moves last old new
     pub stands : StandFor new (down last.store)
 
-  -- THE RUN IS OVER, and its text was written whole
+  -- The run is over, and its text was written completely.
   pub record Ended (lines : List Timed) (bad : Option ℕ) (s : State) (old new : Devices) (before after : Option (List ℕ)) : Type 0 where
     pub moves : List Move
     pub last : World
@@ -36,46 +37,48 @@ module _ {F U : Type 0} (tariffs : Shared F (Bor Usage × Unit {0}) Charge) (tar
     pub over : last.over ≡ true
     pub text : after ≡ with_more before last.text
 
-  -- some of its first events were done, and a front part of their text was written
+  -- Some of its first events were done, and a prefix of their text was written.
   pub record CutShort (lines : List Timed) (bad : Option ℕ) (s : State) (old new : Devices) (before after : Option (List ℕ)) : Type 0 where
     pub moves : List Move
     pub last : World
     pub run_of : RunOf lines bad s old new moves last
     pub text : HasPutPart before last.text after
 
-  -- Of every state for which the devices stand at the beginning. (Where they tell and belong together there is one, which is down, and no other:
-  -- `devices_have_one_state` of g_laws_runs.)
+  -- For every state that the devices represent at the beginning. (If they expose their contents and belong together there
+  -- is exactly one, which is down: `devices_have_one_state` of `g_laws_runs`.)
   abbrev pub EndsWhole : List Timed → Option ℕ → Devices → Devices → Option (List ℕ) → Option (List ℕ) → Type 0
   EndsWhole lines bad old new before after = (s : State) → StandFor old s → Ended lines bad s old new before after
 
+  -- The same for a run that was cut short.
   abbrev pub EndsShort : List Timed → Option ℕ → Devices → Devices → Option (List ℕ) → Option (List ℕ) → Type 0
   EndsShort lines bad old new before after = (s : State) → StandFor old s → CutShort lines bad s old new before after
 
-  -- The run was cut short with the word `run`: nothing was done and nothing put; or some of its events were done, and a
-  -- front of their text was put.
+  -- The run was cut short with the word `run`: nothing was done and nothing written; or some of its events were done, and a
+  -- prefix of their text was written.
   abbrev pub IsCut : List ℕ → Devices → Devices → Option (List ℕ) → Option (List ℕ) → Type 0
   IsCut left old new before after = ((new ≡ old) × (after ≡ before))
       ⊎ ((lines : List Timed) × (bad : Option ℕ) × IsParsed (lines_of left) lines bad × EndsShort lines bad old new before after)
 
+-- The line that is printed if the words of the command line aren't known.
 abbrev pub words_line : List ℕ
 words_line = ended (codes "WORDS NOT KNOWN")
 
--- with other words, whatever the status: nothing was done, and a front of the one line was put
+-- The run was cut short with other words, for any status: nothing was done, and a prefix of the one line was written.
 abbrev pub IsCutWords : Devices → Devices → Option (List ℕ) → Option (List ℕ) → Type 0
 IsCutWords old new before after = (new ≡ old) × HasPutPart before words_line after
 
--- the numbers that some lines arm a device with, in order
+-- The numbers with which some lines arm a device, in order.
 abbrev pub numbers_of : (Operator → List ℕ) → List Timed → List ℕ
 numbers_of arms [] = []
 numbers_of arms (next ∷ lines) = arms next.what ++ numbers_of arms lines
 
--- WHEN: a device that was armed was so last at a count between these two
+-- If a device was armed, it was last armed at a count between these two.
 abbrev pub IsArmedIn : ℕ → ℕ → Arms → Arms → Type 0
 IsArmedIn from until old new = (new ≡ old) ⊎ ((from ≤ new.since) × (new.since ≤ until))
 
--- WHAT WAS ARMED, whether devices tell or not: a device with the numbers of its STOP lines, in order and up to some line, and with
--- nothing else; in a run that went through, with each of them; and while it counted from what it had counted before to what it has: a disc its
--- writes, the tapes their failed writes
+-- How the devices were armed, whether or not they expose their contents: each with the numbers of its STOP lines, in order
+-- and up to some line, and with nothing else; in a complete run with each of them. Each was armed during this run, by its
+-- own count: a disc's writes, the tapes' failed writes.
 pub record AreArmings (lines : List Timed) (through : Type 0) (old new : Devices) : Type 0 where
   pub disc : IsArmedWithin (numbers_of disc_arms lines) old.disc.arms new.disc.arms
   pub tape : IsArmedWithin (numbers_of tape_arms lines) old.rack.arms new.rack.arms
@@ -84,7 +87,8 @@ pub record AreArmings (lines : List Timed) (through : Type 0) (old new : Devices
   pub disc_since : IsArmedIn old.disc.writes new.disc.writes old.disc.arms new.disc.arms
   pub tape_since : IsArmedIn old.rack.write_faults new.rack.write_faults old.rack.arms new.rack.arms
 
--- WHAT THE FUSES ARE, whether devices tell or not: of the disc the last number that it was armed with, burnt by all writes made since; of the
--- tapes from 1 to that number, or none, and then a write failed since
+-- The fuses, whether or not the devices expose their contents. The disc's is the last number that it was armed with, minus
+-- all writes since, unless the write counter is saturated. That of the tapes is between 1 and that number, or it is gone,
+-- and then a write has failed since.
 abbrev pub AreFused : Devices → Type 0
 AreFused d = IsDisc d.disc × IsRack d.rack

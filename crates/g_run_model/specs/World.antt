@@ -9,14 +9,14 @@ use Rattle.g_script.specs.declared.operator.Timed.{Timed}
 use Rattle.g_run_model.specs.Accounts.{Opened}
 use Rattle.g_run_model.specs.Texts.{operator_line, broken_files, waiting_files, closing, shown}
 
--- where a tick stands: none has begun; its dump step is done, or there was none; its turn is over
+-- The phase of a tick: none has begun; its dump step is done, or there was none; its turn is over.
 pub data Phase : Type 0 where
   Between : Phase
   Stepped : Phase
   Turned : Phase
 
--- THE WORLD. `turn` is the number of the job whose turn it is, and what is left of the turn's program; the stops are the numbers of the STOP
--- lines that were done, in order.
+-- The world. `turn` is the number of the job whose turn it is, with the rest of the turn's program. The stops are the
+-- numbers of the STOP lines that were done, in order.
 pub record World : Type 0 where
   pub lines : List Timed
   pub bad : Option ℕ
@@ -32,7 +32,8 @@ pub record World : Type 0 where
   pub text : List ℕ
   pub over : Bool
 
--- what no turn of a job changes: the lines that are left, the count, what each device was armed with, and whether the run is over
+-- What no turn of a job changes: the remaining lines, the count, the numbers that each device was armed with, and whether
+-- the run is over.
 pub record KeepsLines (w new : World) : Type 0 where
   pub lines : new.lines ≡ w.lines
   pub bad : new.bad ≡ w.bad
@@ -41,7 +42,7 @@ pub record KeepsLines (w new : World) : Type 0 where
   pub disc_stops : new.disc_stops ≡ w.disc_stops
   pub tape_stops : new.tape_stops ≡ w.tape_stops
 
--- before anything is done
+-- The world before anything is done.
 abbrev pub start : List Timed → Option ℕ → State → World
 start lines bad s = record {
   lines = lines;
@@ -59,7 +60,7 @@ start lines bad s = record {
   over = false;
 }
 
--- the reel that a job waits for is mounted, or it waits for none
+-- The reel that a job waits for is mounted, or it waits for none.
 abbrev pub has_reel : State → JobState → Bool
 has_reel s j = may s j.wants
   where
@@ -67,24 +68,28 @@ has_reel s j = may s j.wants
     may t None = true
     may t (Some serial) = is_mounted t serial
 
--- a job can step unless it waits for a reel that isn't mounted, or, at a terminal, for a line
+-- A job can step unless it waits for a reel that isn't mounted, or, at a terminal, for a line.
 abbrev pub can_step : State → JobState → Bool
 can_step s j = has_reel s j && is_ready j
 
+-- The jobs that can step.
 abbrev pub able : World → List JobState
 able w = filter (can_step w.store) w.jobs
 
+-- Whether a dump is open.
 abbrev pub is_dumping : World → Bool
 is_dumping w = is_some w.store.open_dump
 
+-- Whether there are no jobs in the list.
 abbrev pub has_none : List JobState → Bool
 has_none [] = true
 has_none (j ∷ jobs) = false
 
+-- No dump is open, and no job can step.
 abbrev pub nothing_steps : World → Bool
 nothing_steps w = not (is_dumping w) && has_none (able w)
 
--- the next line is due
+-- The next line is due.
 abbrev pub is_due : World → Bool
 is_due w = due w.lines w.count
   where
@@ -92,23 +97,27 @@ is_due w = due w.lines w.count
     due [] count = false
     due (line ∷ lines) count = nat_le line.turn count
 
+-- The job of this number, if there is one.
 abbrev pub job_of : World → ℕ → Option JobState
 job_of w number = find (λ j. j.number == number) w.jobs
 
+-- The jobs with this one in place of the one of its number.
 abbrev pub with_job : JobState → List JobState → List JobState
 with_job j jobs = map (λ k. if k.number == j.number then j else k) jobs
 
+-- The jobs without the one of this number.
 abbrev pub without_job : ℕ → List JobState → List JobState
 without_job number jobs = filter (λ j. not (j.number == number)) jobs
 
--- what was added to a terminal's file is put at once
+-- What was added to a terminal's file is printed at once.
 abbrev pub shows : JobState → JobState → World → World
 shows old new w = record w { text = w.text ++ shown old new }
 
+-- A line for the operator is printed.
 abbrev pub says : List ℕ → World → World
 says what w = record w { text = w.text ++ operator_line w.count what }
 
--- the system is down: accounts and jobs are gone, and each job's file is put
+-- The system is down: accounts and jobs are gone, and each job's file is printed.
 abbrev pub goes_down : List ℕ → State → World → World
 goes_down what s w = record w {
   store = s;
@@ -117,9 +126,10 @@ goes_down what s w = record w {
   text = (w.text ++ operator_line w.count what) ++ broken_files w.jobs;
 }
 
+-- The system is down after a failed write, which is printed.
 abbrev pub system_stopped : State → World → World
 system_stopped s w = goes_down (codes "SYSTEM STOPPED") s w
 
--- the end of the run
+-- The end of the run.
 abbrev pub closed : World → World
 closed w = record w { jobs = []; over = true; text = (w.text ++ waiting_files w.jobs) ++ closing w.bad }

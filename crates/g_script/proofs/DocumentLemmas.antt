@@ -1,4 +1,5 @@
--- The lines of a document, read one after the other from a text.
+-- The lines of a document, read one after another from a text.
+-- serves: read_document
 use Rattle.std.proofs.Common.{Bool, eqb, false, true, ◌≡◌, ◌≢◌, ◌∷◌, ◌++◌, ◌+◌, ◌≤◌, ◌∙◌, [], List, ℕ, All, ap, subst, sym, arith, length, take, codes}
 use Rattle.std.proofs.lemmas.Bool.Decides.{Decides-eqb, not_from_Decides}
 use Rattle.std.proofs.lemmas.List.{append_assoc, length-append}
@@ -18,7 +19,7 @@ is_end line r e same = (slice_eq-Decides Decides-eqb line (codes "****") r e).0 
 pub is_no_end : (line : List ℕ) (r : Bool) → r ≡ pointwise eqb line (codes "****") → r ≡ false → line ≢ codes "****"
 is_no_end line r e other = not_from_Decides r (slice_eq-Decides Decides-eqb line (codes "****") r e) other
 
--- good lines so far, how many they are, and how many bytes they have with their bytes 10
+-- the good lines so far, their number, and their length with their bytes 10
 pub record IsUpTo (lines : List (List ℕ)) (left : List (List ℕ)) (count : ℕ) (bytes : ℕ) : Type 0 where
   pub texts : List (List ℕ)
   pub all : lines ≡ texts ++ left

@@ -1,4 +1,5 @@
 -- A first line is read as the item whose first line it is, and no other line is read.
+-- serves: ItemLemmas, ReadLemmas
 use Rattle.std.proofs.Common.{All, List, None, Option, Some, ap, arith, codes, eq-eqb, ne_eqb, refl, subst, sym, ℕ, ◌++◌, ◌<◌, ◌^◌, ◌∙◌, ◌∷◌, ◌≡◌, ◌≢◌, ◌≤◌}
 use Rattle.std.specs.Fmt.{decimal}
 use Rattle.std.specs.Option.{option_and_then, option_map}
@@ -55,11 +56,11 @@ number_behind-sound most word text n e =
     let parts = from_one-sound most n digits read in
     (parts.0, parts.1, behind-is word text digits there ∙ ap (λ (d : List ℕ). word ++ d) parts.2))
 
--- COMPLETE: what is written is read
+-- COMPLETE: a written item is read
 number_found : (operator : ℕ → Operator) (o : Option ℕ) (n : ℕ) (others : Option Operator) (rest : Option What) → o ≡ Some n → bare_or (number_or operator o others) rest ≡ Some (what.Bare (operator n))
 number_found operator o n others rest e = ap (λ (x : Option ℕ). bare_or (number_or operator x others) rest) e
 
--- a job behind its word, taken apart at its commas
+-- a job after its word, split at its commas
 abbrev job_tail : ℕ → Option ℕ → List ℕ
 job_tail time money = codes "TIME " ++ (decimal time ++ money_text money)
 
@@ -117,7 +118,7 @@ job-complete name user time money lines is =
     ap job_named (name-complete name ((58 ∷ user) ++ 44 ∷ tail) is.is_name) ∙ ap (job_of name) (user-read user tail is.is_user)
     ∙ ap (job_with name user) (allowances-complete time money is.time_within.0 is.time_within.1 is.money_within)
 
--- a terminal, and what stands behind its comma
+-- a terminal, and the text after its comma
 terminal-complete : (t : ℕ) (rest : List ℕ) → 1 ≤ t → t ≤ 8 → terminal_read (decimal t ++ 44 ∷ rest) ≡ Some (t, rest)
 terminal-complete t rest least few =
     ap (option_and_then at_terminal) (split-some 44 (decimal t) rest (number-without 44 t (omega arith) (omega (arith, few))))
@@ -140,12 +141,12 @@ login-complete t user time is =
 typed_regrouped : (t : ℕ) (text : List ℕ) → operator_text (line.Typed t text) ≡ codes "TYPE " ++ (decimal t ++ 44 ∷ text)
 typed_regrouped t text = append_assoc (codes "TYPE " ++ decimal t) (codes ",") text ∙ append_assoc (codes "TYPE ") (decimal t) (44 ∷ text)
 
--- what is read of a written operator
+-- the reading of a written operator
 abbrev pub what_for : WrittenOperator → What
 what_for (Bare o) = what.Bare o
 what_for (Job name user time money lines) = what.Job name user time money
 
--- a number behind its word, whatever else the text may be read as
+-- a number after its word, for any other reading of the text
 number_behind_word : (operator : ℕ → Operator) (word : List ℕ) (most n : ℕ) (others : List ℕ → Option Operator) → most < 2 ^ 64 → 1 ≤ n → n ≤ most
     → bare_or (number_or operator (from_one_read most (decimal n)) (others (word ++ decimal n))) (argument_read (word ++ decimal n)) ≡ Some (what.Bare (operator n))
 number_behind_word operator word most n others fits least few =
@@ -181,7 +182,7 @@ what-complete (Bare (line.Logout t)) is =
 what-complete (Job name user time money lines) is =
     ap what_read (regrouped name user time money lines) ∙ job-complete name user time money lines is
 
--- what is read of an item's first line
+-- the reading of an item's first line
 abbrev pub head_for : WrittenItem → Head
 head_for item = record { turn = item.turn; what = what_for item.what }
 
@@ -344,7 +345,7 @@ job_with-sound text name user rest is_name is_user is = by (allowances_read rest
     by (Some a) read asked e =
         subst (λ (x : What). IsSaid x text) (same_Some (what.Job name user a.0 a.1) asked e) (some_job text name user rest a is_name is_user (allowances-sound rest a read) is)
 
--- what is said of a user and what stands behind him, by whether they are read
+-- a fact about a user and the text after it, by whether they can be read
 by_user : (P : Option (List ℕ × List ℕ) → Type 0) (rest : List ℕ) → P None → ((user tail : List ℕ) → is_word user ≡ true → rest ≡ (58 ∷ user) ++ 44 ∷ tail → P (Some (user, tail))) → P (job_user_read rest)
 by_user P rest none some = by (job_user_read rest) refl
   where
@@ -432,7 +433,7 @@ what-sound text =
 abbrev pub item_with : Head → List (List ℕ) → WrittenItem
 item_with head lines = record { turn = head.turn; what = with_lines head.what lines }
 
--- but for the bytes and the length of a TYPE line
+-- except for the bytes and the length of a TYPE line
 abbrev IsSaidAt : ℕ → WrittenOperator → Type 0
 IsSaidAt turn w = (turn ≤ 1000000000) × IsWrittenOperator w
 

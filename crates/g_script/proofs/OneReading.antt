@@ -1,11 +1,12 @@
 -- The lines of a script determine what it says.
+-- serves: one_reading, crates above
 use Rattle.std.proofs.Common.{List, None, Option, Some, [], ap, arith, inl, inr, length, refl, subst, sym, ℕ, ◌++◌, ◌+◌, ◌∙◌, ◌∷◌, ◌≡◌, ◌≤◌, ◌⊎◌}
 use Rattle.std.proofs.lemmas.List.{append_assoc, length-append}
 use Rattle.g_script.proofs.ItemLemmas.{item_unique, nil_cons, none_between, nothing_behind, same_first, same_rest}
 use Rattle.g_script.specs.Script.{GoesOn, IsFirstBad, IsItem, IsUnclosed, Say, WrittenItem, behind_head, head_line, item_lines, timed_said}
 use Rattle.g_script.specs.declared.operator.Timed.{Timed}
 
--- of two fronts of some lines, one goes on behind the other
+-- of two prefixes of some lines, one is a prefix of the other
 abbrev Meet : List (List ℕ) → List (List ℕ) → List ℕ → Type 0
 Meet xs front x = ((more : List (List ℕ)) × (xs ≡ front ++ x ∷ more)) ⊎ ((more : List (List ℕ)) × (front ≡ xs ++ more))
 
@@ -19,11 +20,11 @@ meet (y ∷ xs) rest [] x behind e = inl (xs, ap (λ (w : List ℕ). w ∷ xs) (
 meet (y ∷ xs) rest (z ∷ front) x behind e =
     meet_on y z x xs front (same_first y z (xs ++ rest) (front ++ x ∷ behind) e) (meet xs rest front x behind (same_rest y z (xs ++ rest) (front ++ x ∷ behind) e))
 
--- what goes on behind a longer front goes on behind a shorter one, with its next line
+-- if an item continues after a longer prefix, it continues after a shorter one, with its next line
 goes_on_before : (front more : List (List ℕ)) (line next : List ℕ) → GoesOn (front ++ line ∷ more) next → GoesOn front line
 goes_on_before front more line next (item, is, (others, e)) = (item, is, (more ++ next ∷ others, e ∙ append_assoc front (line ∷ more) (next ∷ others)))
 
--- where an item stands there is no bad line
+-- lines that begin with an item have no bad line there
 item_or_bad : (n : ℕ) (lines rest : List (List ℕ)) (item : WrittenItem) (k : ℕ) → IsItem item → lines ≡ item_lines item ++ rest → IsFirstBad n lines k ⊎ IsUnclosed n lines k → ⊥
 item_or_bad n lines rest item k is e (inl b) =
     elim (meet (item_lines item) rest b.front b.line b.behind (sym e ∙ b.all)) [
@@ -35,7 +36,7 @@ item_or_bad n lines rest item k is e (inr b) =
     let (next, (other, is_other, (others, goes))) = b.begun in
     nothing_behind item other rest others next is is_other (goes ∙ ap (λ (ls : List (List ℕ)). ls ++ next ∷ others) e)
 
--- the first bad line isn't behind another
+-- the first bad line doesn't follow another
 not_behind : (n : ℕ) (lines : List (List ℕ)) (j k : ℕ) (a : IsFirstBad n lines j) (b : IsFirstBad n lines k) → Meet a.front b.front b.line → length a.front ≤ length b.front
 not_behind n lines j k a b (inl (more, on)) =
     let (next, goes) = a.begun in

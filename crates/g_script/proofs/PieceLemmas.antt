@@ -1,4 +1,5 @@
 -- A text and the first byte of some value in it.
+-- serves: parts_at, HeadLemmas
 use Rattle.std.proofs.Common.{All, Bor, List, MatchOption, None, Option, Some, [], ap, arith, eq-eqb, eqb-true, false, get_or, length, ne_eqb, refl, subst, suc, sym, true, ℕ, ◌++◌, ◌<◌, ◌==◌, ◌^◌, ◌∙◌, ◌∷◌, ◌≡◌, ◌≢◌}
 use Rattle.std.specs.Fmt.{decimal}
 use Rattle.std.specs.List.{AllByRecursion, list_all}
@@ -12,7 +13,7 @@ use Rattle.std.proofs.lemmas.Str.Parse.{digit_at}
 use Rattle.g_name.specs.Grammar.{is_letter, is_name_char, is_word}
 use Rattle.g_script.specs.HeadReader.{onto_before, split_at}
 
--- no such byte in a text
+-- the text has no such byte
 abbrev pub Without : ℕ → List ℕ → Type 0
 Without byte text = AllByRecursion (λ b. b ≢ byte) text
 
@@ -27,7 +28,7 @@ pub split-some : (byte : ℕ) (front rest : List ℕ) → Without byte front →
 split-some byte [] rest without = rw (eq-eqb byte byte refl) refl
 split-some byte (c ∷ cs) rest without = at_byte byte c (cs ++ byte ∷ rest) (Some (cs, rest)) without.0 (split-some byte cs rest without.1)
 
--- what the first such byte splits
+-- the parts at the first such byte
 pub split-from : (byte : ℕ) (text : List ℕ) (r : Option (Bor (List ℕ) × Bor (List ℕ)))
     → MatchOption r (All (λ b. b ≢ byte) text) (λ parts. (text ≡ parts.0.now ++ byte ∷ parts.1.now) × All (λ b. b ≢ byte) parts.0.now)
     → MatchOption r (split_at byte text ≡ None) (λ parts. split_at byte text ≡ Some (parts.0.now, parts.1.now))
@@ -70,7 +71,7 @@ word-without byte (first ∷ others) no_letter other is =
     let inner = and_parts (is_letter first) (nat_le (length others) 11) outer.0 in
     ((λ e. false≢true (sym no_letter ∙ subst (λ (d : ℕ). is_letter d ≡ true) e inner.0)), others_without byte others other outer.1)
 
--- a number has digits alone
+-- a number has only digits
 without_from : (byte : ℕ) (text : List ℕ) → ((i : ℕ) → i < length text → get_or text i 0 ≡ byte → ⊥) → Without byte text
 without_from byte [] none = tt
 without_from byte (c ∷ cs) none = ((λ e. none 0 (omega arith) e), without_from byte cs (λ i inside e. none (suc i) (omega arith) e))

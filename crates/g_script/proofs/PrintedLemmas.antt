@@ -1,4 +1,5 @@
 -- Bytes from space to tilde, one by one.
+-- serves: are_printed
 use Rattle.std.proofs.Common.{All, Bool, IsTrue, List, arith, get_or, length, subst, ⊎_elim, ℕ, ◌+◌, ◌<◌, ◌↔◌, ◌≡◌, ◌≤◌}
 use Rattle.std.proofs.lemmas.Bool.{cases_lt}
 use Rattle.std.proofs.lemmas.List.Elements.{All-from_get_or, All-get_or}

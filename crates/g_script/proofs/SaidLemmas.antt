@@ -1,4 +1,5 @@
--- What lines say is what items say.
+-- What lines say is what their items say.
+-- serves: crates above
 use Rattle.std.proofs.Common.{All, List, None, Option, [], ap, arith, length, map, refl, subst, sym, ℕ, ◌++◌, ◌+◌, ◌∙◌, ◌∷◌, ◌≡◌, ◌≤◌}
 use Rattle.std.proofs.lemmas.List.{append-nil, length-append}
 use Rattle.std.proofs.lemmas.List.Elements.{All-cons, All-nil}
@@ -6,7 +7,7 @@ use Rattle.g_script.proofs.ReadLemmas.{lines_in, parsed_whole}
 use Rattle.g_script.specs.Script.{IsItem, IsParsed, Say, WrittenItem, item_lines, timed_said}
 use Rattle.g_script.specs.declared.operator.Timed.{Timed}
 
--- what is so of what each item says is so of all that is said
+-- a property of what each item says holds for everything that is said
 pub each_said : (P : Timed → Type 0) → ((item : WrittenItem) → IsItem item → P (timed_said item)) → (n : ℕ) (lines : List (List ℕ)) (said : List Timed) (bad : Option ℕ) → Say n lines said bad → All P said
 each_said P each n lines [] bad say = All-nil P
 each_said P each n lines (next ∷ said) bad (item, is, same, (rest, all, behind)) =

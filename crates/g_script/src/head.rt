@@ -1,4 +1,4 @@
-//! The first line of an item: its turn, and what is asked for.
+//! The first line of an item: its turn and its operator line.
 ghost use Rattle.std.specs.Prelude.{◌≡◌, None, Some, IfOk, IsTrue, MatchOption};
 ghost use Rattle.g_script.specs.HeadReader as how;
 ghost use Rattle.g_verbs.specs.VerbReader as verbs;
@@ -11,19 +11,19 @@ use g_lines::number;
 use g_name::{Local, Path, Text, User, parse_path};
 use std::alloc::Global;
 
-/// The most that a serial number may be.
+/// The greatest serial number.
 const MOST_SERIAL: u64 = 999_999;
 
-/// The most that a turn, and the number of a write that is to fail, may be.
+/// The greatest turn, and the greatest number of a write that should fail.
 const MOST_COUNT: u64 = 1_000_000_000;
 
-/// The most that the number of a terminal may be.
+/// The greatest number of a terminal.
 const MOST_TERMINAL: u64 = 8;
 
-/// The most TIME, and the most MONEY, of a job.
+/// The greatest TIME, and the greatest MONEY, of a job.
 const MOST_ALLOWANCE: u64 = 1_000_000;
 
-/// What a first line asks for: a job without its document, or all else.
+/// What a first line requests: a job without its document, or anything else.
 #[derive(Drop)]
 pub(crate) enum What {
     Bare(Operator),
@@ -42,7 +42,7 @@ pub(crate) struct Head {
     pub what: What,
 }
 
-/// What a first line says, if it is one. It takes memory for the text of a TYPE alone.
+/// What a first line says, if it is one. Allocates memory only for the text of a TYPE.
 pub(crate) fn head_of(alloc: Global, line: &[u8]) -> Result<Option<Head>, NoMemory>
     ensures { IfOk result (λ head. head ≡ how.head_read line.now) }
 {
@@ -58,7 +58,7 @@ pub(crate) fn head_of(alloc: Global, line: &[u8]) -> Result<Option<Head>, NoMemo
     }
 }
 
-/// What is asked for behind the turn.
+/// The operator line after the turn.
 fn what_of(alloc: Global, text: &[u8]) -> Result<Option<What>, NoMemory>
     ensures { IfOk result (λ what. what ≡ how.what_read text.now) }
 {
@@ -83,7 +83,7 @@ fn what_of(alloc: Global, text: &[u8]) -> Result<Option<What>, NoMemory>
     Ok(job(text))
 }
 
-/// Whether a text begins as JOB does, and nothing else: its first byte tells it, and no other word is looked for.
+/// Whether a text begins as JOB does, and nothing else: its first byte shows it, so no other word is compared.
 fn begins_as_job(text: &[u8]) -> bool
     ensures { IsTrue result → how.what_read text.now ≡ how.job_read text.now }
 {
@@ -93,7 +93,7 @@ fn begins_as_job(text: &[u8]) -> bool
     }
 }
 
-/// An operator that is a word alone.
+/// An operator line that is only a word.
 fn word(text: &[u8]) -> Option<Operator>
     ensures { result ≡ how.word_read text.now }
 {
@@ -112,7 +112,7 @@ fn word(text: &[u8]) -> Option<Operator>
     None
 }
 
-/// An operator that is a word and a number.
+/// An operator line that is a word and a number.
 fn numbered(text: &[u8]) -> Option<Operator>
     ensures { result ≡ how.numbered_read text.now }
 {
@@ -154,7 +154,7 @@ fn logout(text: &[u8]) -> Option<Operator>
     }
 }
 
-/// A terminal, and what stands behind its comma.
+/// A terminal, and the text after its comma.
 fn terminal(text: &[u8]) -> Option<(u8, &[u8])>
     ensures { MatchOption result (how.terminal_read text.now ≡ None)
         (λ r. how.terminal_read text.now ≡ Some (r.0, r.1.now)) }
@@ -178,7 +178,7 @@ fn login(text: &[u8]) -> Option<Operator>
     }
 }
 
-/// What stands behind the word LOGIN.
+/// The text after the word LOGIN.
 fn login_behind(text: &[u8]) -> Option<Operator>
     ensures { result ≡ how.login_behind text.now }
 {
@@ -194,7 +194,7 @@ fn login_behind(text: &[u8]) -> Option<Operator>
     }
 }
 
-/// TYPE, with its terminal and all that stands behind the comma.
+/// TYPE, with its terminal and the text after the comma.
 fn typed(alloc: Global, text: &[u8]) -> Result<Option<Operator>, NoMemory>
     ensures { IfOk result (λ operator. operator ≡ how.typed_read text.now) }
 {
@@ -254,7 +254,7 @@ fn job(text: &[u8]) -> Option<What>
     }
 }
 
-/// What stands behind the word JOB.
+/// The text after the word JOB.
 fn job_behind(text: &[u8]) -> Option<What>
     ensures { result ≡ how.job_behind text.now }
 {
@@ -275,7 +275,7 @@ fn job_behind(text: &[u8]) -> Option<What>
     }
 }
 
-/// A job's name, and what stands behind its comma.
+/// A job's name, and the text after its comma.
 fn name_of(text: &[u8]) -> Option<(Local, &[u8])>
     ensures { MatchOption result (how.name_read text.now ≡ None)
         (λ r. how.name_read text.now ≡ Some (r.0, r.1.now)) }
@@ -289,7 +289,7 @@ fn name_of(text: &[u8]) -> Option<(Local, &[u8])>
     }
 }
 
-/// A job's user, and what stands behind its comma.
+/// A job's user, and the text after its comma.
 fn user_of(text: &[u8]) -> Option<(User, &[u8])>
     ensures { MatchOption result (how.job_user_read text.now ≡ None)
         (λ r. how.job_user_read text.now ≡ Some (r.0, r.1.now)) }
@@ -303,7 +303,7 @@ fn user_of(text: &[u8]) -> Option<(User, &[u8])>
     }
 }
 
-/// A job's TIME, and its MONEY where that is given.
+/// A job's TIME, and its MONEY if that is given.
 fn allowances(text: &[u8]) -> Option<(u64, Option<u64>)>
     ensures { result ≡ how.allowances_read text.now }
 {

@@ -1,4 +1,4 @@
-//! The script that an operator gives: its lines read into what is asked for, and the first line that is no script's.
+//! The script of an operator: its lines parsed into operator lines with their turns, and the first line that isn't valid.
 #![tactic(auto)]
 
 mod head;

@@ -6,7 +6,7 @@ ghost use Rattle.g_script.specs.HeadReader as how;
 use g_lang::behind;
 use g_lines::{number, split_at_byte};
 
-/// The number that these digits are, from 1 to the most.
+/// The number of these digits, from 1 to `most`.
 pub(crate) fn from_one(digits: &[u8], most: u64) -> Option<u64>
     ensures value { result ≡ how.from_one_read most digits.now }
     ensures most { IfSome result (λ n. n ≤ most) }
@@ -17,7 +17,7 @@ pub(crate) fn from_one(digits: &[u8], most: u64) -> Option<u64>
     }
 }
 
-/// Such a number behind a word.
+/// Such a number after a word.
 pub(crate) fn number_behind(most: u64, word: &[u8], text: &[u8]) -> Option<u64>
     ensures value { result ≡ how.number_behind most word.now text.now }
     ensures most { IfSome result (λ n. n ≤ most) }
@@ -35,7 +35,7 @@ pub(crate) fn is_same(one: &[u8], other: &[u8]) -> bool
     one == other
 }
 
-/// What stands before and behind the first byte of that value.
+/// The parts before and after the first byte of that value.
 pub(crate) fn parts_at(text: &[u8], byte: u8) -> Option<(&[u8], &[u8])>
     ensures { MatchOption result (how.split_at byte text.now ≡ None)
         (λ parts. how.split_at byte text.now ≡ Some (parts.0.now, parts.1.now)) }

@@ -1,4 +1,4 @@
-//! Reading a script.
+//! Parsing a script.
 ghost use Rattle.std.specs.Prelude.{IfOk};
 ghost use Rattle.g_lines.specs.Lines.{lines_of};
 ghost use Rattle.g_script.specs.Script.{IsParsed};
@@ -9,7 +9,7 @@ use g_base::NoMemory;
 use g_lines::Lines;
 use std::alloc::Global;
 
-/// Reads a script, whose lines end with byte 10; the last line may lack it.
+/// Parses a script, whose lines end with byte 10; the last line may be missing it.
 pub fn parse_script(alloc: Global, bytes: &[u8]) -> Result<Script, NoMemory>
     ensures { IfOk result (λ script. IsParsed (lines_of bytes.now) script.lines script.bad) }
 {

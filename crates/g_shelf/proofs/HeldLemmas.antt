@@ -1,4 +1,5 @@
--- Blocks that are held lie in the content of one dump, whose note tells it.
+-- Held blocks lie in the content of one dump, whose note says so.
+-- serves: find_copy (fits), is_held, lib, crates above
 use Rattle.std.proofs.Common.{◌≡◌, ◌⊎◌, ◌↔◌, ℕ, zero, suc, ◌+◌, ◌-◌, ◌<◌, ◌≤◌, Bool, List, [], ◌∷◌, length, refl, sym, ap, arith, inl, inr, map, subst}
 use Rattle.std.specs.Prelude.{Contains, IsTrue}
 use Rattle.std.specs.Option.{ForSome}
@@ -12,7 +13,7 @@ use Rattle.g_shelf.specs.HeldBlocks.{AreHeld, AreInOne, HeldInOne, IsContentBloc
 use Rattle.g_shelf.specs.ReaderSteps.{AnyHolds}
 use Rattle.g_shelf.proofs.RowLemmas.{apart_in_row, in_row, row_of}
 
--- the block behind a dump's content is its mark, and so content of none
+-- The block after a dump's content is its mark, and so isn't content of any dump.
 no_mark_held : (serial : ℕ) (ds : List Dump) → AreInRow serial 0 0 ds → (d : Dump) → Contains ds d → (s k : ℕ) → k ≡ content_at d + length d.content → IsContentBlock ds s k → ⊥
 no_mark_held serial ds row d there s k is held = by_place (apart_in_row serial 0 0 ds row d held.dump there held.there)
   where

@@ -1,4 +1,5 @@
 -- The last dump of the reels seen so far.
+-- serves: first_unmounted (all, first), last_dump (faults, none, some), crates above
 use Rattle.std.proofs.Common.{◌≡◌, ◌⊎◌, ℕ, zero, suc, ◌+◌, ◌-◌, ◌<◌, ◌≤◌, Bool, true, false, List, [], ◌∷◌, ◌++◌, length, get_or, take, Option, Some, None, Err, refl, sym, ◌∙◌, ap, arith, slice_get, subst, inl, inr, map, All}
 use Rattle.std.specs.Prelude.{Contains, IfNone, IfSome, MatchOption, find, nat_lt, not, option_map, if◌then◌else◌}
 use Rattle.std.specs.Option.{ForSome}
@@ -27,7 +28,7 @@ use Rattle.g_shelf.proofs.RowLemmas.{IsTop, in_row, none_last, top}
 abbrev pub LastOf : List Reel → Option (ℕ × DumpNote) → Type 0
 LastOf rs last = MatchOption last (HaveNone rs) (λ l. IsLast rs l.0 l.1)
 
--- where every dump of a list is below n
+-- The numbers of all dumps in the list are less than n.
 weaker_upto : (m n : ℕ) → m ≤ n → (r : Reel) → HasUpTo m r → HasUpTo n r
 weaker_upto m n le r has blocks told =
     let (dumps, are, each) = has blocks told in
@@ -48,7 +49,7 @@ none_below n r has blocks told =
     let (dumps, are, none) = has blocks told in
     (dumps, are, subst (All (λ (d : Dump). d.number < n)) (sym none) (All-nil (λ (d : Dump). d.number < n)))
 
--- ONE MORE REEL, whose serial is above those of the reels before it
+-- One more reel, whose serial is greater than those of the reels before it.
 module _ (rs : List Reel) (r : Reel) (dumps : List Dump) (before : All (λ q. q.serial < r.serial) rs) (are : ForSome r.blocks (λ blocks. AreCompleted r.serial blocks dumps)) where
   has_none : dumps ≡ [] → HasDumps (λ ds. ds ≡ []) r
   has_none none blocks told = (dumps, are blocks told, none)
@@ -75,7 +76,7 @@ module _ (rs : List Reel) (r : Reel) (dumps : List Dump) (before : All (λ q. q.
         first = All-push (λ (q : Reel). q.serial < serial → HasBelow last.dump.number q) rs r last.first (λ lower. let no : ⊥ = omega arith in absurd no);
       }
 
-  -- the last dump of the new reel is the last of all, where all before it are of lower numbers
+  -- If all earlier dumps have lower numbers, the last dump of the new reel is the last of all.
   comes : (d : Dump) → AreInRow r.serial 0 0 dumps → end_of dumps ≤ r.len → IsTop 0 0 dumps d → All (HasUpTo d.number) rs → All (HasBelow d.number) rs → IsLast (rs ++ r ∷ []) r.serial (note_of d)
   comes d row fits is_top upto below =
       let is = in_row r.serial 0 0 dumps row d is_top.there in
@@ -122,7 +123,7 @@ module _ (rs : List Reel) (r : Reel) (dumps : List Dump) (before : All (λ q. q.
           subst (LastOf (rs ++ r ∷ [])) (sym (cond-false (nat_lt l.1.number d.number) (Some (r.serial, note_of d)) (Some l) not_lower))
           (stays l.0 l.1 is (has_upto is.dump.number (All-weaker (λ (e : Dump). e.number ≤ d.number) (λ (e : Dump). e.number ≤ is.dump.number) (λ e low. omega arith) dumps is_top.most)))
 
-  -- whichever of the two it is
+  -- The same for either of the two.
   one_more : (last : Option (ℕ × DumpNote)) (o : Option Dump) → AreInRow r.serial 0 0 dumps → (end_of dumps ≤ r.len) → slice_get dumps (length dumps - 1) ≡ o → LastOf rs last
       → LastOf (rs ++ r ∷ []) (later last r.serial (option_map note_of o))
   one_more None None row fits is last = no_dumps None (none_last dumps is) last
@@ -136,7 +137,7 @@ pub record SeenSoFar (i : ℕ) (last : Option (ℕ × DumpNote)) (old new : Rack
   pub only : OnlyReads old new
   pub kept : new.read_faults ≡ old.read_faults
 
--- the note that stays or comes was read
+-- The note that is kept or found was read.
 still_read : (last : Option (ℕ × DumpNote)) (old mid new : Rack) → OnlyReads mid new → IfSome last (λ l. HasReadDump l.0 l.1 old mid) → IfSome last (λ l. HasReadDump l.0 l.1 old new)
 still_read None old mid new only has = tt
 still_read (Some l) old mid new only has = read_dump_then l.0 l.1 old mid new has only
@@ -195,7 +196,7 @@ one_more_reel i serial last notes items o dumps old mid new are so within named 
 pub last_of_all : (i : ℕ) (last : Option (ℕ × DumpNote)) (old new : Rack) → length old.reels ≤ i → SeenSoFar i last old new → LastOf old.reels last
 last_of_all i last old new le so = subst (λ (rs : List Reel). LastOf rs last) (take_all i old.reels le) so.last_is
 
--- FAULTS: where all reels are mounted there are no others
+-- Faults: if all reels are mounted, no others are possible.
 pub only_these : {A : Type 0} (serial : ℕ) (fault : ShelfFault) (mid new : Rack) → refuses_unmount (reel serial mid.reels) ≡ None → ReadsReel {A = A} serial (Err fault) mid new
     → (fault ≡ ReadFault) ⊎ (fault ≡ NoMemory)
 only_these serial NoTape mid new free reads = let wrong = reads.no_tape.0 refl in let no : ⊥ = cc in absurd no

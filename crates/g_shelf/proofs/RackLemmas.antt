@@ -1,4 +1,5 @@
 -- The reels of a rack by their places, and what reads leave of them.
+-- serves: last_dump (faults), LastLemmas, crates above
 use Rattle.std.proofs.Common.{◌≡◌, ℕ, zero, suc, ◌+◌, ◌<◌, Bool, true, List, [], ◌∷◌, ◌++◌, length, get_or, take, Option, Some, None, refl, sym, ◌∙◌, ap, arith, slice_get, map, All}
 use Rattle.std.specs.Prelude.{if◌then◌else◌}
 use Rattle.std.specs.List.Sorted.{IsStrictlyIncreasing}
@@ -71,7 +72,7 @@ reel_at old new i serial are only within is =
       },
     )
 
--- where all reels are mounted none is refused
+-- If all reels are mounted, none is refused.
 no_refusal : (o : Option Reel) (r : Reel) → o ≡ Some r → r.mounted ≡ true → refuses_unmount o ≡ None
 no_refusal o r is mounted = ap refuses_unmount is ∙ ap (λ (b : Bool). if b then None else Some tape.NotMounted) mounted
 

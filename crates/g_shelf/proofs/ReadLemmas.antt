@@ -1,4 +1,5 @@
--- What the readers of a reel hand on, and where the dumps that were read end.
+-- What the readers of a reel return, and where the dumps that were read end.
+-- serves: end_of (end, fits), next_dump (low, none), read_reel (reads), LastLemmas, RackLemmas, WalkLemmas, crates above
 use Rattle.std.proofs.Common.{◌≡◌, ◌↔◌, ℕ, ◌+◌, ◌-◌, ◌<◌, ◌≤◌, List, length, Option, Some, None, Result, Ok, Err, refl, sym, ◌∙◌, ap, arith, slice_get, subst, map}
 use Rattle.std.specs.Prelude.{option_map}
 use Rattle.std.specs.Option.{ForSome}
@@ -21,7 +22,7 @@ use Rattle.g_shelf.specs.FoundDumps.{AreInRow, AreRead, note_of}
 use Rattle.g_shelf.proofs.OneLemmas.{same_next}
 use Rattle.g_shelf.proofs.RowLemmas.{top}
 
--- a reel that neither refusal is due for is there
+-- A reel for which neither refusal applies exists.
 stands_there : (o : Option Reel) → (refuses_unmount o ≡ Some tape.NoTape → ⊥) → (refuses_unmount o ≡ Some tape.NotMounted → ⊥) → (r : Reel) × (o ≡ Some r)
 stands_there None no_tape not_mounted = absurd (no_tape refl)
 stands_there (Some r) no_tape not_mounted = (r, refl)
@@ -32,7 +33,7 @@ there serial x old new reads =
     (λ is. let wrong = reads.no_tape.1 is in let no : ⊥ = cc in no)
     (λ is. let wrong = reads.not_mounted.1 is in let no : ⊥ = cc in no)
 
--- REFUSALS stay as they are through reads
+-- Reads preserve refusals.
 refuses-unread : (o : Option Reel) → refuses_unmount (option_map unread o) ≡ refuses_unmount o
 refuses-unread None = refl
 refuses-unread (Some r) = refl
@@ -40,7 +41,7 @@ refuses-unread (Some r) = refl
 pub refuses_after_reads : (s : ℕ) (old new : Rack) → OnlyReads old new → refuses_unmount (reel s new.reels) ≡ refuses_unmount (reel s old.reels)
 refuses_after_reads s old new only = sym (refuses-unread (reel s new.reels)) ∙ ap refuses_unmount (reel_after_reads s old new only) ∙ refuses-unread (reel s old.reels)
 
--- reads without a fault, and then a call of a reader whose faults are those of the whole
+-- Reads without a fault, followed by a call of a reader that may fail.
 and_reads : {A B : Type 0} (serial : ℕ) (a : Result A ShelfFault) (b : Result B ShelfFault) (old mid new : Rack) → OnlyReads old mid → mid.read_faults ≡ old.read_faults
     → ((b ≡ Err NoTape) ↔ (a ≡ Err NoTape)) → ((b ≡ Err NotMounted) ↔ (a ≡ Err NotMounted)) → ((b ≡ Err ReadFault) ↔ (a ≡ Err ReadFault))
     → ReadsReel serial a mid new → ReadsReel serial b old new
@@ -76,7 +77,7 @@ starved serial x old mid new only kept reads =
     (λ is. absurd (let no : ⊥ = cc in no), λ is. absurd (let no : ⊥ = cc in no))
     (λ is. absurd (let no : ⊥ = cc in no), λ is. absurd (let no : ⊥ = cc in no)) reads
 
--- LENGTHS stay as they are through reads
+-- Reads preserve lengths.
 pub len-unread : (o p : Option Reel) (n : ℕ) → option_map unread o ≡ option_map unread p → ForSome o (λ r. n ≤ r.len) → ForSome p (λ r. n ≤ r.len)
 len-unread o None n same fits r is = absurd (let no : ⊥ = cc in no)
 len-unread None (Some p) n same fits r is = absurd (let no : ⊥ = cc in no)

@@ -1,4 +1,5 @@
--- Dumps in a row: where they lie, one more behind them, and the last of them.
+-- Consecutive dumps: where they lie, one more after them, and the last of them.
+-- serves: HeldLemmas, LastLemmas, ReadLemmas, WalkLemmas, crates above
 use Rattle.std.proofs.Common.{◌≡◌, ◌⊎◌, ℕ, zero, suc, ◌+◌, ◌-◌, ◌≤◌, List, [], ◌∷◌, ◌++◌, length, Some, None, refl, sym, ◌∙◌, ap, arith, slice_get, subst, inl, inr, All}
 use Rattle.std.specs.Prelude.{Contains}
 use Rattle.std.proofs.lemmas.List.Elements.{All-cons, All-nil}
@@ -27,7 +28,7 @@ pub row_then : (serial at from : ℕ) (ds : List Dump) (d : Dump) → AreInRow s
 row_then serial at from [] d row next = (next, tt)
 row_then serial at from (c ∷ cs) d row next = (row.0, row_then serial (ends c) (c.number + 1) cs d row.1 next)
 
--- where they lie
+-- The places of the dumps.
 pub row_end : (serial at from : ℕ) (ds : List Dump) → AreInRow serial at from ds → at ≤ end_behind at ds
 row_end serial at from [] row = omega arith
 row_end serial at from (d ∷ ds) row =

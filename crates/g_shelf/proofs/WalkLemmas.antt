@@ -1,4 +1,5 @@
--- The dumps of a reel that a walk has come by, and what is kept of them.
+-- The dumps of a reel that a walk has passed, and what it collects from them.
+-- serves: completed (found), read_reel (more), crates above
 use Rattle.std.proofs.Common.{◌≡◌, ℕ, ◌+◌, ◌≤◌, List, [], ◌∷◌, ◌++◌, length, Ok, refl, sym, ◌∙◌, ap, arith, subst, map, All}
 use Rattle.std.specs.Option.{ForSome}
 use Rattle.std.proofs.lemmas.List.{append-nil, append_assoc}
@@ -17,7 +18,7 @@ use Rattle.g_shelf.specs.Walk.{AreOf, HasMore, IsNextDump}
 use Rattle.g_shelf.proofs.ReadLemmas.{len-unread, read_dump_then, then_read_dump}
 use Rattle.g_shelf.proofs.RowLemmas.{end_then, number_then, row_then}
 
--- A NOTE that says so of a dump is its note
+-- A note that describes a dump is the dump's note.
 abbrev noting : ℕ → ℕ → ℕ → ℕ → ℕ → ℕ → DumpNote
 noting n p c u f s = record { number = n; place = p; count = c; users = u; files = f; next_stamp = s }
 
@@ -37,7 +38,7 @@ of_then is_of [] (e ∷ es) k d are is = absurd are
 of_then is_of (j ∷ js) [] k d are is = absurd are
 of_then is_of (j ∷ js) (e ∷ es) k d are is = (are.0, of_then is_of js es k d are.1 is)
 
--- where their notes are kept, these are the notes
+-- If the walk collects notes, these are the notes of the dumps.
 pub notes_of : (notes : List DumpNote) (ds : List Dump) → AreOf (λ note d. note ≡ note_of d) notes ds → notes ≡ map note_of ds
 notes_of [] [] are = refl
 notes_of [] (d ∷ ds) are = absurd are

@@ -1,4 +1,4 @@
--- WHAT A READER FINDS on a reel: dumps in a row, which are the completed ones where the reel tells what it holds.
+-- What a reader finds on a reel: consecutive dumps, which are the completed ones if the reel exposes its blocks.
 use Rattle.std.specs.Prelude.{◌≡◌, ℕ, ◌+◌, ◌≤◌, List, [], ◌∷◌, All, length}
 use Rattle.std.specs.Option.{ForSome}
 use Rattle.g_tape.specs.Rack.{Rack, reel}
@@ -8,7 +8,7 @@ use Rattle.g_incr.specs.Layout.{Dump, IsDump, count_of, ends}
 use Rattle.g_incr.specs.Reading.{HasReadDump}
 use Rattle.g_shelf.specs.CompletedDumps.{AreCompleted, end_of}
 
--- what is noted of a dump
+-- The note of a dump.
 abbrev pub note_of : Dump → DumpNote
 note_of d = record {
   number = d.number;
@@ -19,19 +19,20 @@ note_of d = record {
   next_stamp = d.next;
 }
 
--- a dump of this reel, with block `at` as its first and `from` as the least number that it may have
+-- The dump belongs to this reel, begins at block `at`, satisfies the rules, and its number is at least `from`.
 pub record Follows (serial at from : ℕ) (d : Dump) : Type 0 where
   pub on : d.serial ≡ serial
   pub place : d.place ≡ at
   pub number : from ≤ d.number
   pub rules : IsDump d
 
--- end to end and with rising numbers
+-- The dumps follow one another from block `at` on, with increasing numbers.
 abbrev pub AreInRow : ℕ → ℕ → ℕ → List Dump → Type 0
 AreInRow serial at from [] = Unit {0}
 AreInRow serial at from (d ∷ ds) = Follows serial at from d × AreInRow serial (ends d) (d.number + 1) ds
 
--- THE DUMPS THAT WERE READ on a reel, from its first block on. They end on the reel, also where it isn't told what it holds.
+-- The dumps that were read on a reel, from its first block on: they are the completed ones if the reel exposes its blocks,
+-- and end on the reel in any case.
 pub record AreRead (serial : ℕ) (dumps : List Dump) (old new : Rack) : Type 0 where
   pub row : AreInRow serial 0 0 dumps
   pub completed : ForSome (blocks_of serial old) (λ blocks. AreCompleted serial blocks dumps)

@@ -1,4 +1,4 @@
--- THE LAST DUMP of a rack: the completed one of greatest number over its reels.
+-- The last dump of a rack: the completed dump with the greatest number on any of its reels.
 use Rattle.std.specs.Prelude.{◌≡◌, ℕ, ◌<◌, ◌≤◌, not, List, [], All, Contains, find, Option, option_map}
 use Rattle.std.specs.Option.{ForSome}
 use Rattle.g_tape.specs.Reel.{Reel}
@@ -7,27 +7,28 @@ use Rattle.g_incr.specs.Layout.{Dump, IsDump, ends}
 use Rattle.g_shelf.specs.CompletedDumps.{AreCompleted}
 use Rattle.g_shelf.specs.FoundDumps.{note_of}
 
--- the serial of the first reel that isn't mounted
+-- The serial of the first reel that isn't mounted.
 abbrev pub first_unmounted : List Reel → Option ℕ
 first_unmounted reels = option_map (λ r. r.serial) (find (λ r. not r.mounted) reels)
 
--- the completed dumps of the reel, where it tells what it holds, are such
+-- The completed dumps of the reel satisfy P, if it exposes its blocks.
 abbrev pub HasDumps : (List Dump → Type 0) → Reel → Type 0
 HasDumps P r = ForSome r.blocks (λ blocks. (dumps : List Dump) × AreCompleted r.serial blocks dumps × P dumps)
 
--- all of them have a number of at most, or below, so many
+-- The numbers of all completed dumps of the reel are at most n, if it exposes its blocks.
 abbrev pub HasUpTo : ℕ → Reel → Type 0
 HasUpTo n r = HasDumps (All (λ d. d.number ≤ n)) r
 
+-- The numbers of all completed dumps of the reel are less than n, if it exposes its blocks.
 abbrev pub HasBelow : ℕ → Reel → Type 0
 HasBelow n r = HasDumps (All (λ d. d.number < n)) r
 
--- no reel that tells what it holds has a completed dump
+-- No reel that exposes its blocks has a completed dump.
 abbrev pub HaveNone : List Reel → Type 0
 HaveNone reels = All (HasDumps (λ dumps. dumps ≡ [])) reels
 
--- the dump of this note is completed on the reel of this serial; no dump has a greater number, and none on a reel before it
--- the same number
+-- The dump of this note is completed on the reel with this serial. No dump on any reel has a greater number, and none on an
+-- earlier reel has the same number.
 pub record IsLast (reels : List Reel) (serial : ℕ) (note : DumpNote) : Type 0 where
   pub dump : Dump
   pub rules : IsDump dump

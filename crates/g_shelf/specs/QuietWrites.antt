@@ -1,16 +1,17 @@
--- THE WRITES OF A TAPE that change nothing of the completed dumps, whatever they leave, and the one that adds a dump.
+-- The writes of tape that leave the completed dumps unchanged, whether or not they fail, and the write that adds a
+-- dump.
 use Rattle.std.specs.Prelude.{◌≡◌, ◌⊎◌, ℕ, ◌+◌, ◌<◌, ◌≤◌, List, [], ◌∷◌, ◌++◌, length, take, drop}
 use Rattle.g_tape.specs.Reel.{Remains, Unchanged, Shortened, Torn}
 use Rattle.g_incr.specs.Layout.{Dump, IsDump, count_of, dump_blocks}
 use Rattle.g_shelf.specs.CompletedDumps.{AreCompleted, end_of, number_behind}
 
--- the blocks of a reel behind a write of block k, a good one too: that is `Torn` with the block that was written
+-- The blocks of a reel after a write of block k. A successful write is `Torn` with the block that was written.
 abbrev pub left_in : Remains → ℕ → List (List ℕ) → List (List ℕ)
 left_in Unchanged k reel = reel
 left_in Shortened k reel = take k reel
 left_in (Torn block) k reel = take k reel ++ block ∷ []
 
--- the reel ends with the first j blocks of a dump behind the completed ones
+-- The reel ends with the first j blocks of a dump after the completed ones.
 pub record IsBegun (serial : ℕ) (reel : List (List ℕ)) (dumps : List Dump) (j : ℕ) (d : Dump) : Type 0 where
   pub rules : IsDump d
   pub on : d.serial ≡ serial
@@ -19,12 +20,12 @@ pub record IsBegun (serial : ℕ) (reel : List (List ℕ)) (dumps : List Dump) (
   pub length : 0 < j → length reel ≡ d.place + j
   pub blocks : 0 < j → drop d.place reel ≡ take j (dump_blocks d)
 
--- a write of a dump's next block before the mark
+-- Writing the next block of a dump before its mark leaves the completed dumps unchanged.
 abbrev pub QuietBlocks : Type 0
 QuietBlocks = (serial : ℕ) (reel : List (List ℕ)) (dumps : List Dump) (j : ℕ) (d : Dump) (how : Remains)
     → AreCompleted serial reel dumps → IsBegun serial reel dumps j d → j ≤ count_of d → AreCompleted serial (left_in how (d.place + j) reel) dumps
 
--- a write of the mark
+-- Writing the mark of a dump leaves the completed dumps unchanged, or adds that dump.
 abbrev pub MarkCompletes : Type 0
 MarkCompletes = (serial : ℕ) (reel : List (List ℕ)) (dumps : List Dump) (d : Dump) (how : Remains)
     → AreCompleted serial reel dumps → IsBegun serial reel dumps (count_of d + 1) d

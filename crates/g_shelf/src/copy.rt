@@ -1,4 +1,4 @@
-//! Whether a file's copy on tape is still there.
+//! Checks whether a file's copy is still on tape.
 ghost use Rattle.std.specs.Prelude.{◌≡◌, ◌↔◌, ◌+◌, ◌<◌, ◌≤◌, IfOk, IsTrue, List, map};
 ghost use Rattle.std.specs.Option.{ForSome};
 ghost use Rattle.g_tape.specs.Rack.{reel};
@@ -14,8 +14,8 @@ use g_incr::{DumpNote, ShelfFault};
 use g_tape::Tapes;
 use std::alloc::Global;
 
-/// Whether all of so many blocks, from the copy's first one on, are content of completed dumps of its reel. `NoTape`,
-/// `NotMounted`, `ReadFault`, `NoMemory`; the reel is as it was.
+/// Whether all `blocks` blocks from the copy's first one on are content of completed dumps of its reel. `NoTape`,
+/// `NotMounted`, `ReadFault`, `NoMemory`; the reel's content is unchanged.
 pub fn find_copy<T: Tapes>(
     alloc: Global,
     tapes: &mut T,
@@ -32,7 +32,7 @@ pub fn find_copy<T: Tapes>(
     Ok(is_held(notes.as_slice(), copy, blocks))
 }
 
-/// Whether all of so many blocks, from the copy's first one on, are content of these dumps, which are those of the copy's
+/// Whether all `blocks` blocks from the copy's first one on are content of these dumps, which are those of the copy's
 /// reel. It reads nothing.
 pub fn is_held(notes: &[DumpNote], copy: &TapeCopy, blocks: u32) -> bool
     ensures { (dumps : List Dump) → notes.now ≡ map note_of dumps → AreInRow copy.now.serial 0 0 dumps
@@ -53,7 +53,7 @@ fn any_holds(notes: &[DumpNote], first: u32, blocks: u32) -> bool
     false
 }
 
-/// Whether the dump's content has all these blocks. The sums are of 64 bits, since a copy may name any block.
+/// Whether the dump's content has all these blocks. The sums have 64 bits, since a copy may name any block.
 pub fn holds(note: &DumpNote, first: u32, blocks: u32) -> bool
     ensures { IsTrue result ↔ Holds note.now first blocks }
 {

@@ -26,8 +26,9 @@ pub fn first_unmounted<T: Tapes>(tapes: &T) -> Option<u32>
     None
 }
 
-/// The completed dump of greatest number over all reels, with the serial of its reel; of equal numbers the one on the first
-/// reel. None exactly where no reel has a completed dump. `ReadFault`, `NoMemory`; the reels are as they were.
+/// The completed dump with the greatest number on any reel, and the serial of its reel; among equal numbers, the one on the
+/// first reel. `None` if and only if no reel has a completed dump. `ReadFault`, `NoMemory`; the content of the reels is
+/// unchanged.
 pub fn last_dump<T: Tapes>(
     alloc: Global,
     tapes: &mut T,
@@ -44,7 +45,7 @@ pub fn last_dump<T: Tapes>(
     let mut last = None;
     for i in 0..tapes.reels() {
         let serial = tapes.serial(i);
-        // In a loop the proof reads the arms of a `match`, and not what `?` returns.
+        // A `match`, since the proof names its arms (`in-Ok`, `in-Err`).
         match completed(alloc, tapes, serial) {
             Ok(notes) => last = later(last, serial, notes.last()),
             Err(fault) => return Err(fault),
@@ -53,7 +54,7 @@ pub fn last_dump<T: Tapes>(
     Ok(last)
 }
 
-/// The dump of greater number of these two, the first where they are equal.
+/// The dump with the greater number of these two, or the first if they are equal.
 fn later(
     last: Option<(u32, DumpNote)>,
     serial: u32,

@@ -1,4 +1,4 @@
-//! The completed dumps of a reel and of a rack, the last of them, and which writes of a tape change them.
+//! The completed dumps of a reel and of a rack, the last of them, and which writes of tape change them.
 #![tactic(auto)]
 
 mod copy;
@@ -17,21 +17,21 @@ pub use notes::{completed, end_of};
 pub use rack::{Listed, Notes};
 pub use walk::{OfDump, next_dump, read_reel};
 
-/// A write of the next block of a dump that begins behind the completed ones, whatever it leaves, leaves the completed
-/// dumps as they are, where the block stands before the mark; and a write of the mark leaves them, or adds that dump.
+/// If a dump begins after the completed ones, then a write of its next block before the mark, failed or not, leaves the
+/// completed dumps unchanged; and a write of its mark leaves them unchanged, or adds that dump.
 #[tactic(auto, using(crate::proofs::QuietLemmas::quiet_blocks, crate::proofs::MarkLemmas::mark_completes))]
 pub fn writes_of_dumps()
     ensures quiet { QuietBlocks }
     ensures mark { MarkCompletes }
 {}
 
-/// A reel's blocks have one list of completed dumps.
+/// The blocks of a reel determine its completed dumps.
 #[tactic(auto, using(crate::proofs::OneLemmas::completed_are_one))]
 pub fn one_list_of_dumps()
     ensures one { CompletedAreOne }
 {}
 
-/// Blocks that are held lie in the content of one completed dump.
+/// Consecutive held blocks lie in the content of one completed dump.
 #[tactic(auto, using(crate::proofs::HeldLemmas::held_in_one))]
 pub fn held_blocks_lie_in_one_dump()
     ensures one { HeldInOne }

@@ -23,8 +23,9 @@ impl OfDump for DumpNote {
     }
 }
 
-/// The completed dumps of the reel (docs/FORMATS.md): those that stand whole from its first block on, end to end and with
-/// rising numbers. Their content isn't read. `NoTape`, `NotMounted`, `ReadFault`, `NoMemory`; the reel is as it was.
+/// The completed dumps of the reel (docs/FORMATS.md): the complete ones that follow one another from its first block on,
+/// with increasing numbers. Their content isn't read. `NoTape`, `NotMounted`, `ReadFault`, `NoMemory`; the reel's content
+/// is unchanged.
 pub fn completed<T: Tapes>(
     alloc: Global,
     tapes: &mut T,
@@ -41,8 +42,8 @@ pub fn completed<T: Tapes>(
     }
 }
 
-/// The block behind the completed dumps of the reel, which is at most the reel's length, in blocks. `NoTape`, `NotMounted`,
-/// `ReadFault`, `NoMemory`; the reel is as it was.
+/// The block after the completed dumps of the reel, at most the reel's length in blocks. `NoTape`, `NotMounted`,
+/// `ReadFault`, `NoMemory`; the reel's content is unchanged.
 pub fn end_of<T: Tapes>(alloc: Global, tapes: &mut T, serial: u32) -> Result<u32, ShelfFault>
     ensures reads { ReadsReel serial result (T.rack tapes.old) (T.rack tapes.new) }
     ensures end { IfOk result (λ end. (dumps : List Dump)

@@ -1,11 +1,11 @@
-//! The lists of a rack: of each reel its dumps.
+//! The dumps of a rack, by reel.
 ghost use Rattle.std.specs.Prelude.{◌≡◌};
 
 use g_incr::DumpNote;
 use std::marker::Model;
 
-/// The notes of a reel's dumps, in their order. Contracts see a list. It is made from a `Vec` and gives it back without
-/// taking memory.
+/// The notes of a reel's dumps, in their order. Contracts see a list. Converting from a `Vec` and back allocates
+/// nothing.
 #[derive(Drop)]
 pub struct Notes {
     notes: Vec<DumpNote>,

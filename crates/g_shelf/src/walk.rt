@@ -1,4 +1,4 @@
-//! The walk over a reel's completed dumps, whatever its caller keeps of them.
+//! The walk over a reel's completed dumps, generic in what its caller collects from them.
 ghost use Rattle.std.specs.Prelude.{◌≡◌, ◌+◌, ◌^◌, ◌<◌, ◌≤◌, IfNone, IfOk, IfSome, OnOk};
 ghost use Rattle.std.specs.Option.{ForSome};
 ghost use Rattle.g_tape.specs.Reads.{blocks_of};
@@ -12,18 +12,18 @@ use g_incr::{DumpDir, DumpNote, ShelfFault, read_dump};
 use g_tape::Tapes;
 use std::alloc::Global;
 
-/// What a reader of a reel keeps of each of its dumps.
+/// What a reader of a reel collects from each of its dumps.
 pub trait OfDump {
     ghost is_of: { Self → Dump → Type 0 };
 
-    /// What is kept of the dump of these records, which lies on the reel of this serial.
+    /// The item for the dump with these records, which is on the reel with this serial.
     fn of_dump(serial: u32, dir: DumpDir) -> Self
         ensures { (d : Dump) → d.serial ≡ serial → IsDirOf d dir → is_of result d };
 }
 
-/// Puts what is kept of the reel's completed dumps (docs/FORMATS.md) behind the others. These are the dumps that stand whole
-/// from the reel's first block on, end to end and with rising numbers. The records of one at a time are in memory, and none
-/// of its content. `NoTape`, `NotMounted`, `ReadFault`, `NoMemory`; the reel is as it was.
+/// Appends an item for each completed dump of the reel (docs/FORMATS.md). These are the complete dumps that follow one
+/// another from the reel's first block on, with increasing numbers. Only the records of one dump at a time are in memory,
+/// and no content. `NoTape`, `NotMounted`, `ReadFault`, `NoMemory`; the reel's content is unchanged.
 pub fn read_reel<T: Tapes, K: OfDump + Drop>(
     alloc: Global,
     tapes: &mut T,
@@ -36,7 +36,7 @@ pub fn read_reel<T: Tapes, K: OfDump + Drop>(
     let mut at = 0;
     let mut least = 0;
     loop {
-        // In a loop the proof reads the arms of a `match`, and not what `?` returns.
+        // A `match`, since the proof names its arms (`in-Ok`, `in-Err`).
         match next_dump(alloc, tapes, serial, at, least) {
             Ok(Some(dir)) => {
                 at = end_block(&dir.note);
@@ -52,8 +52,8 @@ pub fn read_reel<T: Tapes, K: OfDump + Drop>(
     }
 }
 
-/// The dump that stands whole at block `at` of the reel, if its number is `least` or greater (docs/FORMATS.md): the next one of
-/// a walk. Its content isn't read. `NoTape`, `NotMounted`, `ReadFault`, `NoMemory`; the reel is as it was.
+/// The complete dump at block `at` of the reel, if its number is at least `least` (docs/FORMATS.md): the next one of a walk.
+/// Its content isn't read. `NoTape`, `NotMounted`, `ReadFault`, `NoMemory`; the reel's content is unchanged.
 pub fn next_dump<T: Tapes>(
     alloc: Global,
     tapes: &mut T,
@@ -80,7 +80,7 @@ pub fn next_dump<T: Tapes>(
     }
 }
 
-/// The block behind the dump: it has two blocks more than its header counts.
+/// The block after the dump, which has two blocks more than its header counts.
 pub(crate) fn end_block(note: &DumpNote) -> u32
     requires { note.now.place + note.now.count + 2 < 2 ^ 32 }
     ensures { result ≡ note.now.place + note.now.count + 2 }

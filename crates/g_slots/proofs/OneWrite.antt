@@ -1,4 +1,5 @@
 -- What one write does to the gate, the slots and the copy area.
+-- serves: find (ok), flip (any, gate), prepare (ok, stopped, torn), read (ok), Filling, crates above
 use Rattle.std.proofs.Common.{◌≡◌, ◌≢◌, ℕ, ◌+◌, ◌%◌, ◌<◌, ◌≤◌, ◌==◌, if◌then◌else◌, List, [], length, get_or, take, drop, Option, Some, sym, ◌∙◌, ap, arith, slice_get, get_or-set_other, get_or-set_same, length-set, length-take, length-drop}
 use Rattle.std.specs.Prelude.{Result, Ok, Err, OnErr}
 use Rattle.std.proofs.Math.ListN.{set}

@@ -1,4 +1,5 @@
--- The adoption of a dump may be asked for, and what it leaves.
+-- The adoption of a dump is permitted, and what it leaves.
+-- serves: adopt, StartedLemmas
 use Rattle.std.proofs.Common.{◌≡◌, ◌≢◌, ℕ, ◌^◌, ◌<◌, Bool, true, false, List, get_or, Option, None, refl, sym, ap, subst}
 use Rattle.std.specs.Prelude.{All, Contains, IfSome, is_some}
 use Rattle.std.proofs.lemmas.Bool.{both_ways}
@@ -18,7 +19,7 @@ use Rattle.g_laws_store.proofs.WaitingLemmas.{mapped_there}
 use Rattle.g_store.specs.Starting.{adoption, copies_named, has_empty}
 use Rattle.g_store.proofs.OwnPlaceLemmas.{empty_there, named_all}
 
--- WHAT THE COMMIT MAKES of the contents
+-- WHAT THE COMMIT CHANGES in the contents
 pub adopt_then : (told pinned : Bool) (last : ℕ) (copies : List (ℕ × TapeCopy)) (c : Contents) → pinned ≡ false → changed told pinned (Adopt last copies) c ≡ closed last copies c
 unfolding changed
 adopt_then told true last copies c is = let no : ⊥ = both_ways true is refl in absurd no

@@ -1,4 +1,5 @@
 -- FORMAT, START and RESTORE are complete.
+-- serves: making_is_complete
 use Rattle.std.proofs.Common.{◌≡◌, ℕ, true, List, [], Option, Some, None, refl, sym, ◌∙◌, ap, arith, subst, inl, inr}
 use Rattle.std.specs.Prelude.{◌⊎◌, Contains, IfSome}
 use Rattle.std.proofs.lemmas.Bool.{false≢true}

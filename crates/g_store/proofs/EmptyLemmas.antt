@@ -1,4 +1,5 @@
--- Reels without a block: which is the first that has one, and that no dump stands on them.
+-- Reels without a block: which is the first that has one, and that they have no dump.
+-- serves: first_used, FormatLemmas
 use Rattle.std.proofs.Common.{◌≡◌, ℕ, zero, suc, ◌+◌, ◌<◌, ◌≤◌, Bool, true, false, List, [], ◌∷◌, ◌++◌, get_or, length, slice_get, take, Option, Some, None, refl, sym, ◌∙◌, ap, arith, subst}
 use Rattle.std.specs.Prelude.{All, find, is_some, map, nat_lt, option_map, if◌then◌else◌}
 use Rattle.std.specs.Option.{ForSome}
@@ -84,7 +85,7 @@ pub none_is_used : (rack : Rack) (i : ℕ) → length rack.reels ≤ i → AreEm
 unfolding AreEmpty
 none_is_used rack i le empty = sym (ap (option_map (λ (r : Reel). r.serial)) (none_found rack.reels (subst (All (λ (r : Reel). used r ≡ false)) (take_all i rack.reels le) empty)))
 
--- WHERE NONE HAS ONE
+-- IF NONE HAS ONE
 pub all_unused : (reels : List Reel) → first_used reels ≡ None → All (λ r. used r ≡ false) reels
 all_unused [] none = All-nil (λ (r : Reel). used r ≡ false)
 all_unused (r ∷ rs) none = pick (used r) refl none (all_unused rs)
@@ -104,7 +105,7 @@ first_row shelf (r ∷ rs) = pick (used r) (first_row shelf rs)
     pick true rest = refl
     pick false rest = rest
 
--- NO DUMP STANDS on a reel without a block
+-- a reel without a block has no dump
 abbrev pub IsBlank : Reel → Type 0
 IsBlank r = ForSome r.blocks (λ blocks. length blocks ≡ 0)
 

@@ -1,4 +1,5 @@
 -- An event that is refused, and changes nothing.
+-- serves: MigratedLemmas, OpenedLemmas, ProcessedStepLemmas, SteppedLemmas, TurnLemmas
 use Rattle.std.proofs.Common.{◌≡◌, ◌≢◌, ℕ, false, Some, Result, Err, refl, sym, ◌∙◌, ap, arith, subst}
 use Rattle.std.proofs.lemmas.Bool.{false≢true}
 use Rattle.g_plain.specs.declared.faults.StoreFault.{StoreFault}
@@ -20,7 +21,7 @@ held_by s u is = ap (λ (t : State). t.holding) is.state_is
 pub none_written : (s : StoreFacts) → WroteCommits 0 s s
 none_written s = record { blocks = 0; commits = (refl, refl); writes = record { exactly = λ less. omega arith } }
 
--- AN EVENT THAT LED from the state that it was looked at in, to this one
+-- an event that led from the state in which it was checked to this one
 pub leads_at : {A : Type 0} (by : State → Holding → Outcome → Result A StoreFault → State → Type 0) (old new : StoreFacts) (answer : Result A StoreFault) (s u : State) (k : Holding) → s.holding ≡ Some k → u ≡ s → (end : State) (out : Outcome)
     → StandsForState new end → Raised out old new → by s k out answer end → LeadsBy by u old new answer
 leads_at by old new answer s u k holds same end out left raised step = record {

@@ -1,4 +1,5 @@
--- FORMAT: the store that it makes, and what a refusal leaves.
+-- FORMAT: the store that it creates, and what a refusal leaves.
+-- serves: format (ok, refused)
 use Rattle.std.proofs.Common.{◌≡◌, ◌≢◌, ℕ, Bool, true, false, List, [], ◌∷◌, Option, Some, None, Ok, Err, is_some, refl, sym, ◌∙◌, ap, arith, subst, inl, inr}
 use Rattle.std.specs.Prelude.{◌⊎◌, All, Contains, map}
 use Rattle.std.proofs.lemmas.List.Elements.{All-nil}

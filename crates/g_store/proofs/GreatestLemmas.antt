@@ -1,4 +1,5 @@
 -- The dump of greatest number: its own records are among those that all dumps give together.
+-- serves: StartLemmas
 use Rattle.std.proofs.Common.{◌≡◌, ℕ, zero, suc, ◌+◌, List, [], ◌∷◌, get_or, sym, ◌∙◌, ap, arith, subst}
 use Rattle.std.specs.Prelude.{true, ◌==◌, All, Contains}
 use Rattle.std.proofs.lemmas.Bool.{eq-eqb}
@@ -14,7 +15,7 @@ use Rattle.g_store_meaning.proofs.BelongLemmas.{HasKept}
 use Rattle.g_laws_store.proofs.ClosingLemmas.{all_left, all_right, contains_filter}
 use Rattle.g_tree.proofs.RecordLemmas.{nobody}
 
--- what is kept doesn't go by numbers
+-- the kept users don't depend on numbers
 unnumbered : (text : ℕ → List ℕ) (dumps : List Dump) (n : ℕ) (rs : List FileRec) → All (HasKept text dumps) (numbered_from n rs) → All (HasKept text dumps) rs
 unnumbered text dumps n [] all = All-nil (HasKept text dumps)
 unnumbered text dumps n (r ∷ rs) all =
@@ -52,7 +53,7 @@ module _ (dumps : List Dump) (apart : (d e : Dump) → Contains dumps d → Cont
       All-contains P (files_of u.number t.last.files) r here
       (contains_filter (λ (s : FileRec). s.owner == u.number) t.last.files r in_files (eq-eqb r.owner u.number (sym number)))
 
--- its records keep the texts of their stamps
+-- its records have the texts of their stamps
 pub own_kept : (text : ℕ → List ℕ) (dumps : List Dump) → RackBelongs text dumps → (t : DumpedDirectory dumps) → IsDump t.last → All (HasKept text dumps) t.last.files
 own_kept text dumps belongs t rules =
     own_all dumps belongs.apart t rules (HasKept text dumps) (unnumbered text dumps 0 t.gathered (belongs.records t))

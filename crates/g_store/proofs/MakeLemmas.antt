@@ -1,4 +1,5 @@
--- A store that is made of devices: what it keeps, and what its state is.
+-- A store that is made of devices: its invariant, and its state.
+-- serves: FormatLemmas, RestoreLemmas, RestoredLemmas, StartedLemmas
 use Rattle.std.proofs.Common.{◌≡◌, ℕ, Bool, true, false, List, [], ◌∷◌, Option, Some, None, is_some, refl, sym, ◌∙◌, ap, arith, subst, inl, inr, true≢false}
 use Rattle.std.specs.Prelude.{◌⊎◌, ◌==◌, All, Contains, IfSome, filter, map, not, if◌then◌else◌}
 use Rattle.std.proofs.lemmas.Bool.{eq-eqb, false≢true, or_left, or_right}
@@ -104,7 +105,7 @@ module _ (o : OnlineFacts) (begun : IsBegun o) where
     stands_up u view is =
         stands (store_of o rack) u refl (record { view = v; is = view; opens = record { is = λ told pins pinned. tt }; state_is = is })
 
--- WHERE DEVICES STAND for the same
+-- when devices represent the same state
 pub moved : (size now : ℕ) (held then_held : Option (List (List ℕ))) (reels : List Reel) (s : state.State) → now ≡ size → then_held ≡ held → DevicesStandFor size held reels s
     → DevicesStandFor now then_held reels s
 moved size now held then_held reels s sizes helds is =
@@ -118,7 +119,7 @@ down_again size held reels s is = is.state_is ∙ by_contents is.contents ∙ sy
     by_contents None = refl
     by_contents (Some c) = refl
 
--- WHERE IT WAS STOPPED, the disc holds what it held, or the new contents
+-- IF IT WAS STOPPED, the disc holds what it held, or the new contents
 module _ (disc now : DiscState) (reels : List Reel) (c : Contents) (changes : Changes (AsBeforeOr c) disc.held now.held) (size : now.size ≡ disc.size) where
   pub record Stood : Type 0 where
     pub before : List (List ℕ)
@@ -188,7 +189,7 @@ module _ (disc now : DiscState) (reels : List Reel) (c : Contents) (changes : Ch
         subst (DiscBelongs text shelf reels) (holds_one there.after c x holds (subst (λ (b : List (List ℕ)). Holds b x) (same_Some blocks there.after (sym held ∙ there.is)) holds_x)) on_disc;
   }
 
-  -- which the step leaves, where it would have come up with these
+  -- which the step leaves, if the store would have come up with these
   pub new_down : (v : View) (was : Option Contents) (k : state.Holding) → (let h = holding_of v.text [] c in h ≡ record k { kept = names_of [] })
       → state_down v reels now.size (Some c) ≡ down (coming_up (state_down v reels disc.size was) k)
   new_down v was k held =

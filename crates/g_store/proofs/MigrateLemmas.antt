@@ -1,4 +1,5 @@
 -- Taking a file off the disc is the step's.
+-- serves: MigratedLemmas
 use Rattle.std.proofs.Common.{◌≡◌, ℕ, Bool, true, false, List, [], ◌∷◌, get_or, Option, Some, None, is_some, refl, sym, ◌∙◌, ap, subst, inl, inr, true≢false}
 use Rattle.std.specs.Prelude.{◌⊎◌, ◌||◌, All, Contains, IfSome, is_none, map, not}
 use Rattle.std.specs.Option.{option_map}
@@ -123,7 +124,7 @@ module _ (c : Contents) (path : Path) (text : ℕ → List ℕ) (kept : List Use
         λ i.
         first_fault ((user i, NoUser) ∷ (file i, NoFile) ∷ (not (place i).online, Offline) ∷ (is_none (place i).copy, NotDumped) ∷ (is_cut out, Stopped) ∷ [])
 
--- WHAT STANDS where files are taken off
+-- what holds after files are taken off
 or_false : (b : Bool) → (b || false) ≡ b
 or_false true = refl
 or_false false = refl
@@ -162,7 +163,7 @@ module _ (v : View) (reels : List Reel) (o : OnlineFacts) (dump : Option DumpFac
   abbrev moved : List UserRec → ℕ → state.Holding
   moved kept stamp = record held { places = state.with_online false stamp held.places; intent = kept_intent up.open_dump held.intent; kept = names_of kept }
 
-  -- the state behind it
+  -- the state afterwards
   abbrev pub gone : ℕ → state.State
   gone stamp = commits up (record held { places = state.with_online false stamp held.places })
 
@@ -219,7 +220,7 @@ module _ (v : View) (reels : List Reel) (o : OnlineFacts) (dump : Option DumpFac
         } in s
 
   module _ (new : OnlineFacts) (pinned : is_some o.pins ≡ is_some dump) (size : new.disc.size ≡ o.disc.size) where
-    -- where a stop came first, and where it came behind
+    -- the state after a stop at the first write, and after one at the last
     pub down_before : state_down v reels new.disc.size (Some c) ≡ down up
     down_before =
         λ i. let s : state.State = record { up = false; size = size i; holding = Some (holding_of v.text [] c); reels = map (row_of v.shelf) reels; dumped = up.dumped; open_dump = None } in s

@@ -1,4 +1,5 @@
 -- How a store answers a migration.
+-- serves: migrate
 use Rattle.std.proofs.Common.{◌≡◌, ◌≢◌, ℕ, ◌+◌, Bool, true, false, List, [], ◌∷◌, Option, Some, None, is_some, Result, Ok, Err, refl, sym, ◌∙◌, ap, arith, subst, inl, inr}
 use Rattle.std.specs.Prelude.{◌⊎◌, ◌||◌, ◌<◌, ◌↔◌, Contains, IfErr, IfSome, OnErr, is_none, not, if◌then◌else◌}
 use Rattle.std.proofs.lemmas.Bool.{false≢true}
@@ -47,7 +48,7 @@ use Rattle.g_store_calls.proofs.BehindLemmas.{files_seen, told_then}
 abbrev pub MigratesBy : Path → state.State → state.Holding → Outcome → Result Full StoreFault → state.State → Type 0
 MigratesBy path s k o a n = MigrateStep s k path.user (input_name k.tree [] path) o a n
 
--- WHAT COMES WITH A REFUSAL that changes nothing
+-- what else holds of a refusal that changes nothing
 exact_some : (refusal : Option StoreFault) (t : StoreFacts) (fault : StoreFault) → refusal ≡ Some fault → (let r : Result Full StoreFault = Err fault in IsExact refusal IsOfMigration t r t)
 exact_some refusal t fault is = record {
   refused = subst (λ (o : Option StoreFault). IfSome o (λ f. (let r : Result Full StoreFault = Err fault in r ≡ Err f) × (t ≡ t))) (sym is) (refl, refl);
@@ -97,7 +98,7 @@ module _ (path : Path) (t : StoreFacts) (unspent : t.spent ≡ false) (keeps : I
   abbrev behind : View → state.State
   behind v = target v (stamp_of (k v).tree (n v))
 
-  -- whose refusal is this, whatever the bytes are
+  -- which is refused for this reason, for any bytes
   abbrev RefusesAll : StoreFault → Type 0
   RefusesAll fault = (text : ℕ → List ℕ) (kept : List UserRec)
       → migrate_refuses (holding_of text kept c) path.user (input_name (tree_in text c) [] path) Plain ≡ Some fault
@@ -152,7 +153,7 @@ module _ (path : Path) (t : StoreFacts) (unspent : t.spent ≡ false) (keeps : I
         (λ text kept.
         refusal_is c path text kept full f is Plain ∙ (λ i. first_fault ((not (on i), Offline) ∷ (is_none (none i), NotDumped) ∷ (false, Stopped) ∷ [])))
 
-    -- and may go
+    -- and may be taken off
     module _ (on : f.online ≡ true) (copied : is_none f.rec.tape ≡ false) where
       granted : (out : Outcome) (text : ℕ → List ℕ) (kept : List UserRec)
           → migrate_refuses (holding_of text kept c) path.user (input_name (tree_in text c) [] path) out ≡ first_fault ((is_cut out, Stopped) ∷ [])

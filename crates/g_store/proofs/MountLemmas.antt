@@ -1,4 +1,5 @@
--- A reel that is mounted, or isn't any more: nothing else of what a rack means changes.
+-- A reel is mounted or unmounted: nothing else in what a rack means changes.
+-- serves: OpenedLemmas, ProcessedStepLemmas, StartLemmas, SteppedLemmas, TurnLemmas, crates above
 use Rattle.std.proofs.Common.{◌≡◌, ◌≢◌, ℕ, Bool, true, false, List, [], ◌∷◌, ◌++◌, Option, Some, None, refl, sym, ◌∙◌, ap, inl, inr}
 use Rattle.std.specs.Prelude.{◌⊎◌, ◌==◌, All, Contains, map, if◌then◌else◌, is_none, is_some}
 use Rattle.std.specs.Option.{ForSome, option_map}

@@ -1,4 +1,5 @@
--- What becomes of completed dumps where all versions go onto one reel.
+-- What happens to completed dumps when all versions are consolidated on one reel.
+-- serves: ProcessingLemmas
 use Rattle.std.proofs.Common.{◌≡◌, ℕ, zero, suc, ◌<◌, ◌==◌, Bool, true, false, List, [], ◌∷◌, ◌++◌, map, Result, Ok, Err, refl, sym, ◌∙◌, ap, arith, subst, inl, inr, get_or}
 use Rattle.std.specs.Prelude.{◌⊎◌, ◌&&◌, ◌||◌, All, Contains, if◌then◌else◌, is_some, nat_lt, not}
 use Rattle.std.specs.List.{AllZip}

@@ -1,4 +1,5 @@
--- A path with a user names a file whoever asks.
+-- A path with a user names a file for any caller.
+-- serves: file_named (err, ok)
 use Rattle.std.proofs.Common.{◌≡◌, ℕ, Bool, false, true, List, [], ◌∷◌, Option, Some, None, unwrap_or, refl, sym, ◌∙◌, ap}
 use Rattle.std.specs.Prelude.{◌||◌, is_none, not}
 use Rattle.g_name.specs.declared.path.Path.{Path}

@@ -1,4 +1,5 @@
 -- The dump that an intent names, among those that were read on its reel.
+-- serves: find_named (none, some), StartLemmas
 use Rattle.std.proofs.Common.{◌≡◌, ℕ, zero, suc, ◌+◌, Bool, true, false, List, [], ◌∷◌, Option, Some, None, refl, sym, ◌∙◌, ap, arith, subst}
 use Rattle.std.specs.Prelude.{◌==◌, ◌&&◌, Contains, IfNone, IfSome, find, is_some, map, if◌then◌else◌}
 use Rattle.std.specs.List.{list_any}
@@ -23,14 +24,14 @@ use Rattle.g_laws_store.proofs.UserLemmas.{any_there}
 use Rattle.g_laws_store.proofs.WaitingLemmas.{from_mapped, mapped_there}
 use Rattle.g_store.specs.Starting.{HasNamed, IsNamed, NamesNone, names}
 
--- each completed dump stands on the reel
+-- each completed dump lies on the reel
 stands_in : (serial : ℕ) (reel : List (List ℕ)) (at from : ℕ) (ds : List Dump) → AreNext serial reel at from ds → (d : Dump) → Contains ds d → IsNext serial reel d.place 0 d
 stands_in serial reel at from [] are d (i, within, is) = let no : ⊥ = omega (arith, within) in absurd no
 stands_in serial reel at from (e ∷ es) are d (zero, within, is) =
     subst (λ (x : Dump). IsNext serial reel x.place 0 x) is (record { on = are.0.on; place = refl; number = omega arith; stands = are.0.stands })
 stands_in serial reel at from (e ∷ es) are d (suc i, within, is) = stands_in serial reel (ends e) (e.number + 1) es are.1 d (i, omega (arith, within), is)
 
--- the notes tell which of the dumps it is
+-- the notes determine which of the dumps it is
 named_note : (i : Intent) (dumps : List Dump) → list_any (names i) (map note_of dumps) ≡ true → (d : Dump) × IsNamed i dumps d
 named_note i dumps is =
     let (n, there, test) = any_found (names i) (map note_of dumps) is in
@@ -63,7 +64,7 @@ module _ (i : Intent) (old mid : Rack) (dumps : List Dump) (found_there : AreFou
     told_still : (blocks : List (List ℕ)) → blocks_of i.serial old ≡ Some blocks → blocks_of i.serial mid ≡ Some blocks
     told_still blocks told = blocks_after_reads i.serial old mid only ∙ told
 
-    -- one is, but no dump stands there when the reel is read again
+    -- one is named, but no dump lies there when the reel is read again
     none_read : HasNone i.serial i.place mid → NamesNone i old
     none_read none blocks told es completed d is =
         let next = stands_in i.serial blocks 0 0 es completed.are d is.there in

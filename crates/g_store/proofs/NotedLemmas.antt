@@ -1,4 +1,5 @@
--- What the completion of a dump makes of the state: the places that it noted, its tree, and the users who are kept then.
+-- What the completion of a dump changes in the state: the places that it noted, its tree, and the users who are kept then.
+-- serves: ProcessedStepLemmas, ProcessedTreeLemmas, SteppedLemmas
 use Rattle.std.proofs.Common.{◌≡◌, ◌≢◌, ℕ, zero, suc, ◌+◌, ◌≤◌, Bool, true, false, List, [], ◌∷◌, get_or, take, Option, Some, unwrap_or, None, refl, sym, ◌∙◌, ap, arith, subst, inl, inr}
 use Rattle.std.specs.Prelude.{◌⊎◌, ◌==◌, All, AllPairs, Contains, filter, map, nat_le, nat_lt, not, slice_get, sum_by}
 use Rattle.std.specs.Option.{option_map}
@@ -53,7 +54,7 @@ made_again : (m : state.Users) → from_entries (entries m) ≡ m
 made_again m =
     same_map text_total text_exact (from_entries (entries m)) m (λ q. get-from_entries text_total (entries m) q ∙ sym (get-entries m q))
 
--- who is touched, by name as by number
+-- which users are touched, by name as by number
 touched_is : (users : List UserRec) (touched : List ℕ) (u : UserRec) → Contains users u → All (IsNamed u.number u.user) users → (has touched u.number ≡ true) ⊎ (has touched u.number ≡ false)
     → state.is_in (names_of (users_in touched users)) u.user ≡ has touched u.number
 touched_is users touched u there called_so (inl is) =

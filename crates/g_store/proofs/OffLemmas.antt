@@ -1,4 +1,5 @@
 -- A file is taken off the disc: its place, and what is known of the others.
+-- serves: MigrateLemmas
 use Rattle.std.proofs.Common.{◌≡◌, ℕ, Bool, true, false, cond, List, [], ◌∷◌, get_or, Option, Some, None, is_some, unwrap_or, refl, sym, ◌∙◌, ap, subst, inl, inr}
 use Rattle.std.specs.Prelude.{◌⊎◌, ◌==◌, ◌||◌, All, Contains, if◌then◌else◌}
 use Rattle.std.specs.Option.{option_map}
@@ -105,7 +106,7 @@ module _ (files : List File) (f : File) (distinct : AreDistinct files) (there : 
       ∙ ap (option_map (off_by q)) (sym (get_place files q))
       ∙ sym (looked_up q (cases_eq q f.rec.stamp)))
 
--- BYTES on the disc are told where it tells
+-- bytes on the disc are exposed if the disc exposes its contents
 abbrev pub TellsOnline : File → Type 0
 TellsOnline f = f.online ≡ true → is_some f.bytes ≡ true
 

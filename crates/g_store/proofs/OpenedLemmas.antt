@@ -1,4 +1,5 @@
 -- How a store answers the opening of a dump.
+-- serves: open_dump (event), FullLemmas, ProcessedStepLemmas, SteppedLemmas
 use Rattle.std.proofs.Common.{◌≡◌, ◌≢◌, ℕ, ◌+◌, ◌-◌, ◌^◌, ◌<◌, ◌≤◌, ◌==◌, Bool, true, false, List, [], ◌∷◌, ◌++◌, length, map, Option, Some, None, Result, Ok, Err, refl, sym, ◌∙◌, ap, arith, subst, inl, inr, true≢false}
 use Rattle.std.specs.List.Sorted.{IsStrictlyIncreasing}
 use Rattle.std.proofs.lemmas.List.Kept.{AllPairs-from_increasing}
@@ -84,12 +85,12 @@ abbrev pub number_of : Result DumpFacts StoreFault → Result ℕ StoreFault
 number_of (Ok d) = Ok d.plan.number
 number_of (Err fault) = Err fault
 
--- a spent store stands for what its devices do
+-- a spent store represents what its devices do
 pub spent_stands : (o : OnlineFacts) (rack : Rack) (u : state.State) → DevicesStandFor o.disc.size o.disc.held (told_reels rack) u → StandsForState (spent_with o rack) u
 unfolding Stands
 spent_stands o rack u is = let devices : Stands true o None u (told_reels rack) = is in back true o None u rack devices
 
--- and a spent store over them, part by part
+-- and a spent store on them, part by part
 pub spent_holding : (o : OnlineFacts) (rack : Rack) (u : state.State) (v : View) (c : Contents) (blocks : List (List ℕ)) → o.disc.held ≡ Some blocks → Holds blocks c
     → IsView o.disc.held (told_reels rack) c v → u.up ≡ false → u.open_dump ≡ None → u.size ≡ o.disc.size → u.holding ≡ Some (holding_of v.text [] c)
     → u.reels ≡ map (row_of v.shelf) (told_reels rack) → u.dumped ≡ option_map (dumped_of v.text) v.dumped → StandsForState (spent_with o rack) u
@@ -97,7 +98,7 @@ spent_holding o rack u v c blocks has holds seen up open_dump size holding reels
     spent_stands o rack u (devices_hold o.disc.size o.disc.held (told_reels rack) u v c blocks has holds seen (λ i.
     let s : state.State = record { up = up i; size = size i; holding = holding i; reels = reels i; dumped = dumped i; open_dump = open_dump i } in s))
 
--- THE BLOCK BEHIND the dumps, as the state counts it
+-- the block after the dumps, as the state counts it
 ends_same : (at : ℕ) (d : Dump) (ds : List Dump) → state.end_of_dumps (map shelved_of (d ∷ ds)) ≡ end_behind at (d ∷ ds)
 ends_same at d [] = refl
 ends_same at d (e ∷ es) = ends_same (end_behind at (d ∷ [])) e es
@@ -257,7 +258,7 @@ module _ (serial : ℕ) (o : OnlineFacts) (rack : Rack) (on : Reel) (on_is : ree
         (subst (λ (b : Bool). All (IsPinOf b new.contents.head.next_stamp new.contents.files) opened.pins) (begins.opened.told ∙ told.disc) each) in
         leads_by told was keeps text shelf shelved up opened u here content opened.pins opened.pinned has
 
--- HOW MANY BLOCKS A DUMP TAKES, in whichever order its files stand
+-- the number of blocks that a dump takes, for any order of its files
 abbrev weigh : (FileRec → ℕ) → List FileRec → ℕ
 weigh f rs = sum_by f rs
 
@@ -350,7 +351,7 @@ needs_are serial place o rising =
     weigh_filter blocks waits held ∙ weigh_held waiting_weigh o.changed rs below ∙ sym (weigh_filter waiting_weigh (λ (r : FileRec). holds o.changed r.owner) rs) ∙ sym (weigh_filter blocks waits part) in
     λ i. 2 + length o.contents.users + long i + full i
 
--- WHAT COMES WITH AN OPENING
+-- what else holds of an opening
 module _ (serial : ℕ) (o : OnlineFacts) (rack : Rack) (on : Reel) (on_is : reel serial rack.reels ≡ Some on) (mounted : on.mounted ≡ true)
     (unspent : (o.contents.head.last_dump == 2 ^ 62 - 1) ≡ false) (keeps : IsStore (up_with o rack None)) (free : refuses_now serial (up_with o rack None) ≡ None) where
   abbrev was_up : StoreFacts
@@ -391,7 +392,7 @@ module _ (serial : ℕ) (o : OnlineFacts) (rack : Rack) (on : Reel) (on_is : ree
         full = λ need room is. absurd (let no : ⊥ = cc in no);
       }
 
-  -- WHERE IT ISN'T OPENED the store stands for what it stood for
+  -- if it isn't opened the store represents what it represented
   touched_only : OnlineFacts → List ℕ → OnlineFacts
   touched_only x touched = record x { touched = touched }
 
@@ -453,7 +454,7 @@ module _ (serial : ℕ) (o : OnlineFacts) (rack : Rack) (on : Reel) (on_is : ree
       writes = record { exactly = λ less. ap (λ (x : OnlineFacts). x.disc.writes) is ∙ (let n : o.disc.writes ≡ o.disc.writes + 0 = omega arith in n) };
     }
 
-    -- the state goes nowhere by an outcome that refuses
+    -- an outcome that refuses leaves the state unchanged
     stays_by : (v : View) (out : Outcome) (fault : StoreFault) → open_refuses (state_up v (told_reels rack) o None) (held_in v o) serial out ≡ Some fault
         → ((reply : ℕ) (s next : state.State) → Event (Some fault) reply s next (Err fault) s) → OpenStep (state_up v (told_reels rack) o None) (held_in v o) serial out (Err fault) (state_up v (told_reels rack) o None)
     stays_by v out fault is event =
@@ -490,7 +491,8 @@ module _ (serial : ℕ) (o : OnlineFacts) (rack : Rack) (on : Reel) (on_is : ree
         not_opened NoMemory (λ e. let no : ⊥ = cc in no) (λ e. let no : ⊥ = cc in no) is kept refuses (λ told was u here. left_state is u here) (none_wrote is) (inr (inr (inr refl)))
         (λ need room no. absurd (let it : ⊥ = cc in it))
 
-    -- WHAT AN OPENING WOULD HAVE FOUND, over devices that tell: the plan of these records, behind the dumps of the reel
+    -- what an opening would have found, on devices that expose their contents: the plan of these records, after the dumps
+    -- of the reel
     abbrev pins_for : (at : ℕ) (rs : List FileRec) → List Pin
     pins_for at [] = []
     pins_for at (r ∷ rs) = record { stamp = r.stamp; len = r.len; copy = record { serial = serial; first = at }; blocks = None } ∷ pins_for (at + blocks_for r.len) rs
@@ -742,7 +744,7 @@ module _ (serial : ℕ) (o : OnlineFacts) (rack : Rack) (on : Reel) (on_is : ree
   by_answer right new after (Err NotMounted) said = absurd (no_back tape.NotMounted (said.refused.not_mounted.0 refl).1)
   by_answer right new after (Err fault) said = absurd said.refused.only
 
--- THE TESTS that come first
+-- the first tests
 four_false : (a b c d : Bool) (fa fb fc fd : StoreFault) → first_fault ((a, fa) ∷ (b, fb) ∷ (c, fc) ∷ (d, fd) ∷ []) ≡ None → (a ≡ false) × (b ≡ false) × (c ≡ false) × (d ≡ false)
 four_false true b c d fa fb fc fd isnt = absurd (none-some fa (sym isnt))
 four_false false true c d fa fb fc fd isnt = absurd (none-some fb (sym isnt))
@@ -765,7 +767,7 @@ no_dump : (x : Option DumpFacts) → is_some x ≡ false → x ≡ None
 no_dump None isnt = refl
 no_dump (Some d) isnt = absurd (true≢false isnt)
 
--- the store behind what the filestore answered
+-- the store after the filestore's answer
 abbrev pub store_behind : StoreFacts → OnlineFacts → Rack → Result DumpFacts StoreFault → StoreFacts
 store_behind t new after (Ok d) = record { online = new; rack = after; dump = Some d; spent = t.spent }
 store_behind t new after (Err fault) = record { online = new; rack = after; dump = t.dump; spent = is_stop_at fault }

@@ -1,4 +1,5 @@
 -- Places under the copies that a dump's own records name.
+-- serves: AdoptLemmas, StartLemmas
 use Rattle.std.proofs.Common.{◌≡◌, ◌≢◌, ℕ, Bool, true, false, cond, List, [], ◌∷◌, get_or, Option, Some, None, refl, sym, ◌∙◌, ap, arith, inl, inr}
 use Rattle.std.specs.Prelude.{◌⊎◌, ◌==◌, ◌&&◌, All, AllPairs, Contains, map, if◌then◌else◌}
 use Rattle.std.specs.List.{flat_map, list_any}
@@ -70,7 +71,7 @@ copy_chosen (c ∷ cs) q old = at (cases_eq c.0 q) (copy_chosen cs q old)
         ∙ ap (λ (b : Bool). or_else (cond b (Some c.1) (find nat_cmp q cs)) old)
         (sym (apart_is nat_cmp_total nat_cmp-IsAntisymmetric q c.0 (λ e. isnt (sym e))))
 
--- A DUMP'S RECORDS beside the files that there are: a record of a file's stamp has its length
+-- a dump's records compared with the existing files: a record with a file's stamp has its length
 pub record GoBeside (recs dumped : List FileRec) : Type 0 where
   pub apart : AllPairs (λ r s. r.stamp ≢ s.stamp) dumped
   pub empty : All (λ r. r.len ≡ 0 → r.tape ≡ None) dumped

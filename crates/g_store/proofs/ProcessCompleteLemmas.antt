@@ -1,4 +1,5 @@
--- Where no count of faults rose a process is done, or memory was wanting.
+-- If no fault counter rose PROCESS is done, unless memory ran out.
+-- serves: process_is_complete
 use Rattle.std.proofs.Common.{◌≡◌, ℕ, false, ◌≤◌, None, Err, refl, sym, arith, subst, inl, inr}
 use Rattle.std.specs.Prelude.{◌⊎◌}
 use Rattle.std.specs.Option.{ForSome}

@@ -1,4 +1,5 @@
 -- How a store answers a process, from how the parts of it answer.
+-- serves: process (dumps, processes, step), ProcessedStepLemmas, ProcessingLemmas
 use Rattle.std.proofs.Common.{◌≡◌, ℕ, ◌-◌, ◌^◌, ◌==◌, Bool, true, false, List, [], ◌∷◌, Option, Some, None, Ok, Err, refl, sym, ◌∙◌, ap, arith, subst}
 use Rattle.std.specs.Prelude.{Result, is_none, is_some}
 use Rattle.std.specs.List.{AllZip}
@@ -50,7 +51,7 @@ no_dump : (x : Option DumpFacts) → is_some x ≡ false → x ≡ None
 no_dump None is = refl
 no_dump (Some d) is = absurd (let no : ⊥ = cc in no)
 
--- where none comes no dump is open
+-- if none applies no dump is open
 pub not_open : (serial : ℕ) (s : StoreFacts) → process_refuses serial s ≡ None → s.dump ≡ None
 not_open serial s is =
     no_dump s.dump (none_open (is_none (reel serial s.rack.reels)) (first_unmounted s.rack.reels) (is_some s.dump) (s.online.contents.head.last_dump == 2 ^ 62 - 1) (open_number s.dump) is)

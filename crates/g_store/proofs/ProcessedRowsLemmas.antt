@@ -1,4 +1,5 @@
--- The rows of the state behind a process: of the reel that was written, and of those that were released.
+-- The rows of the state after PROCESS: of the reel that was written, and of those that were released.
+-- serves: MovedLemmas, ProcessedStepLemmas
 use Rattle.std.proofs.Common.{◌≡◌, ◌≢◌, ℕ, suc, ◌+◌, ◌<◌, ◌≤◌, ◌==◌, Bool, true, false, List, [], ◌∷◌, ◌++◌, map, Option, Some, None, refl, sym, ◌∙◌, ap, arith, subst, inl, inr}
 use Rattle.std.specs.Prelude.{◌⊎◌, ◌&&◌, All, AllPairs, Contains, if◌then◌else◌, nat_lt, not}
 use Rattle.std.specs.List.{AllZip}
@@ -117,7 +118,7 @@ module _ (serial : ℕ) (old new : Rack) (rising : AllPairs Below (serials old.r
   row_rising : AllPairs Below (names (rows shelf old.reels))
   row_rising = subst (AllPairs Below) (sym (row_names shelf old.reels)) rising
 
-  -- a reel's row, where it has its labels still
+  -- a reel's row, if it has its labels still
   row_is : (next : ℕ → List Dump) (r q : Reel) → IsLabelled r q → (b : Bool) → nat_lt 0 q.len ≡ b → (dumps : List state.Shelved) → map shelved_of (next r.serial) ≡ dumps
       → row_of next (unread q) ≡ record { serial = r.serial; capacity = r.capacity; mounted = r.mounted; used = b; dumps = dumps }
   unfolding row_by
@@ -146,7 +147,7 @@ module _ (serial : ℕ) (old new : Rack) (rising : AllPairs Below (serials old.r
       by_serial r q in_new label (inl this) (inr h) = absurd (h.1 (sym this))
       by_serial r q in_new label (inr same) (inr h) = ap (row_of shelf) same ∙ sym (cond-false (serial == r.serial) (with_used used_now (row_of shelf (unread r))) (row_of shelf (unread r)) h.0)
 
-  -- THE NEW DUMP stands on it
+  -- the new dump lies on it
   module _ (made : Dump) (named : made.serial ≡ serial) (x : state.Shelved) (shelved : shelved_of made ≡ x) where
     abbrev marks : state.ReelRow → state.ReelRow
     marks r = with_used true (with_shelved x r)
@@ -242,7 +243,7 @@ module _ (serial : ℕ) (old new : Rack) (rising : AllPairs Below (serials old.r
           (first_no (nat_lt r.serial until && not (r.serial == serial)) (not (has_none (marks (row_of shelf (unread r)))))
           (no_and (nat_lt r.serial until) (not (r.serial == serial)) (ap not (eq-eqb r.serial serial this)))))
 
-      -- one that is as it was
+      -- a reel that is unchanged
       kept_row : (r q : Reel) → (r.serial ≡ serial → ⊥) → unread q ≡ unread r → (until ≤ r.serial) ⊎ ((r.serial < until) × (shelf r.serial ≡ [])) → row_of next (unread q) ≡ frees (row_of shelf (unread r))
       kept_row r q other same (inl most) =
           same_row next r q same (above_next r.serial most other)

@@ -1,4 +1,5 @@
--- How a store answers a process, as states go.
+-- How a store answers PROCESS, in terms of states.
+-- serves: MovedLemmas, ProcessCompleteLemmas, ProcessingLemmas
 use Rattle.std.proofs.Common.{◌≡◌, ◌≢◌, ℕ, zero, suc, ◌+◌, ◌-◌, ◌^◌, ◌<◌, ◌≤◌, ◌==◌, Bool, true, false, List, [], ◌∷◌, ◌++◌, length, map, Option, Some, None, Result, Ok, Err, refl, sym, ◌∙◌, ap, arith, subst, inl, inr, true≢false}
 use Rattle.std.specs.Prelude.{◌⊎◌, ◌&&◌, ◌||◌, All, AllPairs, Contains, IfSome, MatchOption, filter, if◌then◌else◌, is_none, is_some, nat_le, nat_lt, not, option_map}
 use Rattle.std.specs.List.{AllZip, flat_map}
@@ -78,7 +79,7 @@ IsProcess serial s k o answer new = ProcessStep s k serial o answer new
 abbrev serials : List Reel → List ℕ
 serials reels = map (λ (r : Reel). r.serial) reels
 
--- ALL DUMPS of reels go by the serials alone
+-- all dumps of reels depend only on the serials
 all_by_name : (shelf : ℕ → List Dump) (rs : List Reel) → all_dumps shelf rs ≡ flat_map shelf (serials rs)
 all_by_name shelf [] = refl
 all_by_name shelf (r ∷ rs) = ap (λ (ds : List Dump). shelf r.serial ++ ds) (all_by_name shelf rs)
@@ -171,7 +172,7 @@ module _ (serial : ℕ) (t : StoreFacts) (unspent : t.spent ≡ false) where
       by_fault NoMemory e leads = absurd e
       by_fault other e leads = leads
 
--- THE BLOCK BEHIND a reel's dumps
+-- the block after a reel's dumps
 end_some : (d : Dump) (ds : List Dump) → 0 < state.end_of_dumps (map shelved_of (d ∷ ds))
 end_some d [] = omega arith
 end_some d (e ∷ es) = end_some e es
@@ -207,12 +208,12 @@ rose_of : (old new : StoreFacts) → (Rose old.online.disc.write_faults new.onli
 rose_of old new (inl both) = inl both.0
 rose_of old new (inr both) = inr both.0
 
--- what is dumped goes by the newest dump and by what is gathered
+-- what is dumped depends on the newest dump and on what is gathered
 dumped_one : (text : ℕ → List ℕ) (xs ys : List Dump) (t : DumpedDirectory xs) (u : DumpedDirectory ys) → t.last ≡ u.last → t.gathered ≡ u.gathered → dumped_of text t ≡ dumped_of text u
 unfolding dumped_parts
 dumped_one text xs ys t u last gathered = λ i. dumped_parts text (last i) (gathered i)
 
--- THE REELS before it, which tell what they hold
+-- the reels before PROCESS, which expose their contents
 module _ (o : OnlineFacts) (old : Rack) (reels : AreReels old.reels) (told : AllTold o.disc.held (told_reels old)) (shelf : ℕ → List Dump) (shelved_as : AreShelved shelf (told_reels old)) where
   record TellsAt (r : Reel) : Type 0 where
     blocks : List (List ℕ)
@@ -241,7 +242,7 @@ module _ (o : OnlineFacts) (old : Rack) (reels : AreReels old.reels) (told : All
       by_dumps [] blocks completed some long = absurd (some refl)
       by_dumps (d ∷ ds) blocks completed some long = let low = within blocks d completed.are.0.stands in omega (arith, low, long)
 
-  -- where each file belongs to them none is lost
+  -- if each file belongs to them none is lost
   pub none_lost : (text : ℕ → List ℕ) → All (λ (g : File). KeepsFile (text g.rec.stamp) (all_dumps shelf (told_reels old)) g) o.contents.files → (f : File) (copy : TapeCopy) → IsFirstLost o old f copy → ⊥
   none_lost text files f copy lost =
       let kept = All-contains (λ (g : File). KeepsFile (text g.rec.stamp) (all_dumps shelf (told_reels old)) g) o.contents.files f files lost.there in
@@ -259,12 +260,12 @@ module _ (o : OnlineFacts) (old : Rack) (reels : AreReels old.reels) (told : All
       lost.lost it.blocks (ap (λ (n : ℕ). blocks_of n old) (sym named) ∙ it.at) (shelf r.serial) (subst (λ (n : ℕ). AreCompleted n it.blocks (shelf r.serial)) named it.completed)
       (λ n less. record { dump = content.dump; there = on_r; on = content.reel; from = omega (arith, from); to = omega (arith, less, to, size) })
 
--- the reel is there, where nothing refuses the event without a read
+-- the reel is there, if nothing refuses the event without a read
 pub there_is : (serial : ℕ) (t : StoreFacts) → process_refuses serial t ≡ None → (r : Reel) × (reel serial t.rack.reels ≡ Some r)
 there_is serial t granted =
     has_reel (reel serial t.rack.reels) (fault_from RackNotMounted (first_unmounted t.rack.reels)) (is_some t.dump) (open_number t.dump) (t.online.contents.head.last_dump == 2 ^ 62 - 1) granted
 
--- THE STORE, up, over devices that tell and belong together, where nothing refuses it without a read
+-- the store, up, on devices that expose their contents and belong together, if no refusal that needs no read applies
 module _ (serial : ℕ) (o : OnlineFacts) (old : Rack) (reels : AreReels old.reels) (keeps : IsStore (up_with o old None)) (told : Told (up_with o old None)) (was : Belongs (up_with o old None))
     (text : ℕ → List ℕ) (shelf : ℕ → List Dump) (shelved_as : AreShelved shelf (told_reels old)) (up : IsUp text shelf (up_with o old None)) (granted : process_refuses serial (up_with o old None) ≡ None) where
   abbrev before : StoreFacts
@@ -329,7 +330,7 @@ module _ (serial : ℕ) (o : OnlineFacts) (old : Rack) (reels : AreReels old.ree
       by_dumps [] is = absurd (some is)
       by_dumps (d ∷ ds) is = let long = end_some d ds in (let same = end_at n r found (d ∷ ds) is in omega (arith, long, same))
 
-  -- REFUSALS behind the catalogue
+  -- refusals after the catalogue was read
   late_tests : (a b : Bool) (need room : ℕ) → nat_lt 0 (state.end_of s serial) ≡ a → nat_lt (state.capacity_in (state.reel_at serial s.reels)) (process_needs k) ≡ b
       → process_needs k ≡ need → state.capacity_in (state.reel_at serial s.reels) ≡ room → process_refuses_late s k serial ≡ first_fault ((a, ReelNotFree serial) ∷ (b, TapeFull need room) ∷ [])
   late_tests a b need room is_a is_b is_need is_room = λ i. first_fault ((is_a i, ReelNotFree serial) ∷ (is_b i, TapeFull (is_need i) (is_room i)) ∷ [])
@@ -370,7 +371,7 @@ module _ (serial : ℕ) (o : OnlineFacts) (old : Rack) (reels : AreReels old.ree
         state_is = λ i. state_up v (sym same i) o None;
       }))
 
-  -- A STORE behind it, over the same reels
+  -- a store afterwards, on the same reels
   module _ (o' : OnlineFacts) (new : Rack) (labels : AllZip IsLabelled old.reels new.reels) (size : o'.disc.size ≡ o.disc.size) where
     names_new : serials (told_reels new) ≡ serials rs
     names_new = unread_names new.reels ∙ zip_names old.reels new.reels labels ∙ sym (unread_names old.reels)

@@ -1,4 +1,5 @@
--- The dump of all versions, as a state has it: its number, its tree, where its versions lie, and how many blocks it takes.
+-- The dump of all versions, as a state has it: its number, its tree, where its versions lie, and the number of its blocks.
+-- serves: MovedLemmas, ProcessedStepLemmas
 use Rattle.std.proofs.Common.{◌≡◌, ℕ, zero, suc, ◌+◌, ◌-◌, ◌≤◌, ◌==◌, Bool, true, false, List, [], ◌∷◌, ◌++◌, length, map, Option, Some, None, refl, sym, ◌∙◌, ap, arith, subst, inl, inr, unwrap_or, option_map, get_or}
 use Rattle.std.specs.Prelude.{◌⊎◌, ◌&&◌, ◌||◌, All, AllPairs, Contains, filter, is_none, is_some, nat_lt, not, sum_by}
 use Rattle.std.specs.List.{flat_map, list_any}
@@ -70,7 +71,7 @@ use Rattle.g_process.proofs.PinsLemmas.{content_pins, pins_of, pins_texts}
 use Rattle.g_process.proofs.PlanLemmas.{plan_content, plan_long}
 use Rattle.g_store.proofs.NotedLemmas.{last_is}
 
--- A SUM over what is gathered by users is one over all files, where each has an owner
+-- A SUM over what is gathered by users is one over all files, if each has an owner
 abbrev IsntOf : ℕ → UserRec → Type 0
 IsntOf owner u = u.number ≡ owner → ⊥
 
@@ -190,7 +191,7 @@ process_counts serial o text kept rules long =
     let plan_files = plan_long serial o in
     omega (arith, users, files, sum, all, count, both, none, content, plan_files)
 
--- A DUMP THAT HOLDS ALL, the newest one: what is dumped is what it has, whatever other dumps there are
+-- the newest dump holds everything: the dumped tree is what it holds, for any other dumps
 abbrev all_of : Dump → List FileRec
 all_of d = gathered_by d.users d.files
 
@@ -417,7 +418,7 @@ module _ (serial : ℕ) (o : OnlineFacts) (old : Rack) (live : o.live ≡ true) 
         most_by : (need needed process last : ℕ) → need ≡ needed → needed ≡ process → last ≤ 0 + need - 1 → last ≤ process - 1
         most_by need needed process last a b most = omega (arith, a, b, most)
 
-    -- nobody is kept in it
+    -- it keeps no user
     none_in : (name : List ℕ) → state.is_in forgot.kept name ≡ false
     none_in name = ap (λ (us : List UserRec). state.is_in (names_of us) name) (none_kept c.users (every_user c) (λ u there. holds_there (every_user c) u.number (mapped_there (λ (x : UserRec). x.number) c.users u there)))
         ∙ ap is_some (get-empty text_cmp name)

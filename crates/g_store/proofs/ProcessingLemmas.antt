@@ -1,4 +1,5 @@
 -- What a store answers to a process, of states and of completed dumps.
+-- serves: process (dumps, step)
 use Rattle.std.proofs.Common.{◌≡◌, ℕ, Bool, false, [], Option, Some, None, Result, Err, refl, sym, ◌∙◌, ap, subst, inl}
 use Rattle.std.proofs.lemmas.List.{append-nil}
 use Rattle.g_tape.specs.Rack.{AreReels, Rack}

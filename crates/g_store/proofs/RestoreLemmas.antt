@@ -1,4 +1,5 @@
--- RESTORE: the store that it makes, and what a refusal leaves.
+-- RESTORE: the store that it creates, and what a refusal leaves.
+-- serves: ProcessedStepLemmas, RestoredLemmas
 use Rattle.std.proofs.Common.{◌≡◌, ℕ, ◌≤◌, Bool, true, false, List, [], ◌∷◌, ◌++◌, Option, Some, None, Result, Ok, Err, refl, sym, ◌∙◌, ap, arith, subst, get_or}
 use Rattle.std.specs.Prelude.{◌==◌, ◌&&◌, All, Contains, IfSome, MatchOption, find, length, map, not, option_map, if◌then◌else◌}
 use Rattle.std.specs.List.{list_all}
@@ -132,7 +133,7 @@ module _ (dumps : List Dump) (held : Option (List (List ℕ))) (t : DumpedDirect
       All-map (λ (f : File). HasText told (text f.rec.stamp) dumps f) (restored_file held) (files_in t)
       (λ i d inside. let r = get_or (files_in t) i d in text_of told r (keeps i d inside) (r.len == 0) refl)
 
--- THE STATE that disc and rack stand for, by what makes them belong together and by this directory
+-- the state that disc and rack represent, by what makes them belong together and by this directory
 module _ (disc : DiscState) (rack : Rack) (told : AllTold disc.held (told_reels rack)) (belong : Belong disc.held rack) (number : ℕ) (made : Contents)
     (at : RestoredAt (all_dumps belong.shelf (told_reels rack)) disc.held number made) where
   abbrev reels : List Reel

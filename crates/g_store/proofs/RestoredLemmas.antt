@@ -1,4 +1,5 @@
 -- RESTORE, as the filestore answered.
+-- serves: restore (ok, refused), StartedLemmas
 use Rattle.std.proofs.Common.{◌≡◌, ◌≢◌, ℕ, ◌≤◌, true, false, List, [], ◌∷◌, Option, Some, None, Result, Ok, Err, is_some, refl, sym, ◌∙◌, ap, subst, inl, inr}
 use Rattle.std.specs.Prelude.{◌⊎◌, ◌↔◌, All, Contains, IfSome, MatchOption, not}
 use Rattle.std.specs.Option.{ForSome}
@@ -47,7 +48,7 @@ module _ (disc : DiscState) (rack after : Rack) (only : OnlyReads rack after) wh
   on_reels : (P : List Reel → Type 0) → P reels → P now_reels
   on_reels P is = subst P (sym only.reels) is
 
-  -- what belongs goes on belonging behind reads
+  -- what belongs together still does after reads
   read_up : (s : StoreFacts) → s.rack ≡ rack → Belongs s → Belongs (record s { rack = after })
   read_up s at was = record {
     devices = subst (λ (k : Rack). Belong s.online.disc.held k → Belong s.online.disc.held after) (sym at) (λ is. on_reels (BelongWith s.online.disc.held) is) was.devices;
@@ -146,7 +147,7 @@ module _ (disc : DiscState) (rack after : Rack) (only : OnlyReads rack after) wh
               (λ i. first_fault (rising.fault_from RackNotMounted ((first_is s devices ∙ first) i) ∷ (false, TapeReadFault) ∷ (rows i, NoDump) ∷ []));
         }
 
-    -- where there is a tree
+    -- if there is a tree
     module _ (number : ℕ) (made : Contents) (is : IsRestored reels disc.held number made) (mounted : first_unmounted rack.reels ≡ None) (told : AllTold disc.held reels) (belong : Belong disc.held rack) where
       at : RestoredAt (all_dumps belong.shelf reels) disc.held number made
       at = restored_at reels disc.held number made belong.shelf told.each belong.shelved is

@@ -1,4 +1,5 @@
--- Which completed dumps the reels have behind a step of the open dump.
+-- Which completed dumps the reels have after a step of the open dump.
+-- serves: StepLemmas
 use Rattle.std.proofs.Common.{◌≡◌, ℕ, zero, suc, ◌+◌, ◌<◌, List, [], ◌∷◌, ◌++◌, map, Some, Result, Ok, Err, refl, sym, ◌∙◌, ap, arith, subst, inl, inr}
 use Rattle.std.specs.Prelude.{◌⊎◌, ◌==◌, Contains, if◌then◌else◌}
 use Rattle.std.proofs.lemmas.Bool.{cases_order}
@@ -56,7 +57,7 @@ module _ (a b : ℕ → List Dump) (old new : List Reel) (same : serials new ≡
   more_shelf d are =
       moved (with_dump d a) (with_dump d b) (λ r there. ap (λ (ds : List Dump). let es : List Dump = if r.serial == d.serial then ds ++ d ∷ [] else ds in es) (agree r there)) are
 
--- BEHIND A STEP
+-- after a step
 module _ (d : DumpFacts) (o : OnlineFacts) (old : Rack) (reels : AreReels old.reels) (told : Told (up_with o old (Some d))) (text : ℕ → List ℕ) (base : ℕ → List Dump)
     (on_base : AreShelved base (told_reels old)) (up : IsUp text base (up_with o old (Some d))) (is : IsOpen d o old) (content : List (List ℕ)) (has : content_in is.pins ≡ Some content)
     (shelf : ℕ → List Dump) (shelved : AreShelved shelf (told_reels old)) where

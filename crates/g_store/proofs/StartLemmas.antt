@@ -1,4 +1,5 @@
--- START: what it makes of the state that disc and rack stand for.
+-- START: what it makes of the state that disc and rack represent.
+-- serves: StartedLemmas
 use Rattle.std.proofs.Common.{◌≡◌, ℕ, ◌+◌, ◌≤◌, Bool, true, false, List, [], ◌∷◌, length, Option, Some, None, is_some, refl, sym, ◌∙◌, ap, arith, subst, inl, inr, true≢false}
 use Rattle.std.specs.Prelude.{◌⊎◌, All, Contains, IfSome, find, map, if◌then◌else◌}
 use Rattle.std.specs.Option.{ForSome, option_map}
@@ -62,7 +63,7 @@ pub refuses_with : (s : state.State) (k : state.Holding) (first : Option ℕ) (a
     → first_fault (fault_from MountFirst (unmounted_reel s k.intent) ∷ (a, TapeReadFault) ∷ (b, Stopped) ∷ []) ≡ first_fault (fault_from MountFirst first ∷ (a, TapeReadFault) ∷ (b, Stopped) ∷ [])
 refuses_with s k first a b is = ap (λ (r : Option ℕ). first_fault (fault_from MountFirst r ∷ (a, TapeReadFault) ∷ (b, Stopped) ∷ [])) is
 
--- DISC AND RACK that tell and belong together, where the disc holds these contents
+-- disc and rack that expose their contents and belong together, if the disc holds these contents
 module _ (disc : DiscState) (rack : Rack) (told : AllTold disc.held (told_reels rack)) (belong : Belong disc.held rack) (c : Contents) (holds : ForSome disc.held (λ blocks. Holds blocks c)) where
   abbrev pub reels : List Reel
   reels = told_reels rack
@@ -76,7 +77,7 @@ module _ (disc : DiscState) (rack : Rack) (told : AllTold disc.held (told_reels 
   pub disc_belongs : DiscBelongs belong.text belong.shelf reels c
   disc_belongs = let (blocks, was) = told_is disc.held told.disc in belong.disc blocks c was (holds blocks was)
 
-  -- whatever disc holds contents that belong stands for their state
+  -- any disc that holds contents that belong to the rack represents their state
   pub stands_with : (now : DiscState) (x : Contents) (blocks : List (List ℕ)) → now.held ≡ Some blocks → Holds blocks x → DiscBelongs belong.text belong.shelf reels x
       → DevicesStandFor now.size now.held reels (state_down v reels now.size (Some x))
   stands_with now x blocks was has belongs = record {
@@ -238,7 +239,7 @@ module _ (disc : DiscState) (rack : Rack) (told : AllTold disc.held (told_reels 
         abbrev pub after : Contents
         after = closed i.number copies c
 
-        -- its records keep the texts of their stamps
+        -- its records have the texts of their stamps
         kept : All (HasKept belong.text dumps) files
         kept =
             subst (All (HasKept belong.text dumps)) (sym files_are)

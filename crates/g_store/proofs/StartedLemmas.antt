@@ -1,4 +1,5 @@
--- START: the store that it makes, and what a refusal leaves.
+-- START: the store that it creates, and what a refusal leaves.
+-- serves: start (ok, refused)
 use Rattle.std.proofs.Common.{◌≡◌, ◌≢◌, ℕ, ◌+◌, Bool, true, false, List, [], ◌∷◌, Option, Some, None, Ok, Err, is_some, refl, sym, ◌∙◌, ap, arith, subst, inl, inr}
 use Rattle.std.specs.Prelude.{◌⊎◌, ◌<◌, IfSome, map, if◌then◌else◌}
 use Rattle.std.specs.Option.{ForSome, option_map}
@@ -45,7 +46,7 @@ use Rattle.g_store.proofs.MakeLemmas.{belongs_made, down_again, moved, stands_up
 use Rattle.g_store.proofs.RestoredLemmas.{same_refusal}
 use Rattle.g_store.proofs.StartLemmas as start
 
--- THE COUNTS, over the reads of a load and what came behind them
+-- the counts, after the reads of a load and what followed them
 counted : (read stop late : Type 0) (a b c : DiscState) → (read → ⊥) → (stop → late) → (late → stop) → ReadsByCause ⊥ a b → Causes ⊥ late b c → Causes read stop a c
 counted read stop late a b c never to back one two = record {
   size = two.size ∙ one.size;
@@ -57,7 +58,7 @@ counted read stop late a b c never to back one two = record {
   writes_rose = λ is. subst (λ (n : ℕ). Rose n c.write_faults) one.write_faults (two.writes_rose (to is));
 }
 
--- WHERE NOTHING WAS WRITTEN
+-- IF NOTHING WAS WRITTEN
 module _ (disc now : DiscState) (rack after : Rack) (only : OnlyReads rack after) (size : now.size ≡ disc.size) (held : now.held ≡ disc.held) (writes : now.writes ≡ disc.writes) where
   stays : (s : state.State) → DevicesStandFor disc.size disc.held (told_reels rack) s → DevicesStandFor now.size now.held (told_reels after) s
   stays s devices =
@@ -171,7 +172,7 @@ module _ (disc : DiscState) (rack : Rack) (o : OnlineFacts) (loaded : HasLoaded 
   abbrev holds : ForSome disc.held (λ blocks. Holds blocks o.contents)
   holds = loaded.holds
 
-  -- THE STORE THAT COMES UP
+  -- the store that comes up
   module _ (new : OnlineFacts) (begun : IsBegun new) (tied : IsTied new) (size : new.disc.size ≡ disc.size) (told : AllTold disc.held (told_reels rack)) (belong : Belong disc.held rack)
       (on_disc : DiscBelongs belong.text belong.shelf (told_reels rack) new.contents) where
     abbrev there : state.State
@@ -512,7 +513,7 @@ module _ (disc : DiscState) (rack : Rack) (o : OnlineFacts) (loaded : HasLoaded 
         (sym (start.refuses_with at kk None true false (none_down o.contents.head.intent refl up)))
         (refl, refl)
 
--- AS THE DUMP OF THE INTENT WAS TAKEN OVER
+-- AFTER THE DUMP OF THE INTENT WAS ADOPTED
 module _ (disc : DiscState) (rack : Rack) (o : OnlineFacts) (loaded : HasLoaded disc o) (new : OnlineFacts) (after : Rack) where
   pub begun_is : (answer : Option ℕ) → TakesOver o rack (Ok answer) new after → Begun disc rack answer (store_of new after)
   begun_is None taken =

@@ -1,4 +1,5 @@
--- How a store answers a step of its open dump, whichever answer the dumper gave.
+-- How a store answers a step of its open dump, for any answer of the dumper.
+-- serves: dump_step (dumps, event)
 use Rattle.std.proofs.Common.{◌≡◌, ℕ, ◌+◌, Bool, true, false, List, Option, Some, None, Result, Ok, Err, refl, sym, ◌∙◌, ap, arith, subst, inl, inr}
 use Rattle.std.specs.Prelude.{◌↔◌, All, IfSome, is_some}
 use Rattle.std.proofs.lemmas.Bool.{false≢true}
@@ -20,7 +21,7 @@ use Rattle.g_store.specs.Events.{IsStepOfDump, LeadsBy, StepsBy, StepsDump, Wrot
 use Rattle.g_store.proofs.ShelvesLemmas.{adds}
 use Rattle.g_store.proofs.SteppedLemmas.{abandons, completes, goes, stops, stops_closing}
 
--- THE CONTENT of its pins, where the disc tells
+-- the content of its pins, if the disc exposes it
 the_content : (d : DumpFacts) (o : OnlineFacts) (old : Rack) → IsStore (up_with o old (Some d)) → Told (up_with o old (Some d)) → (is : IsOpen d o old)
     → (content : List (List ℕ)) × (content_in is.pins ≡ Some content)
 the_content d o old keeps told is =
@@ -99,7 +100,7 @@ module _ (d : DumpFacts) (o : OnlineFacts) (old : Rack) (reels : AreReels old.re
     spent = by_spent d' o' new answer step;
   }
 
--- the store behind a step
+-- the store after a step
 abbrev pub spends : Result Stepped StoreFault → Bool
 spends (Ok step) = false
 spends (Err fault) = is_stop_at fault

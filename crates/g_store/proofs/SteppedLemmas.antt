@@ -1,4 +1,5 @@
--- How a store answers a step of its open dump: the state behind each answer.
+-- How a store answers a step of its open dump: the state after each answer.
+-- serves: ProcessedStepLemmas, StepLemmas
 use Rattle.std.proofs.Common.{◌≡◌, ℕ, zero, suc, ◌+◌, ◌<◌, ◌≤◌, ◌==◌, Bool, true, false, List, [], ◌∷◌, ◌++◌, map, Option, Some, None, Result, Ok, Err, refl, sym, ◌∙◌, ap, arith, subst, inl, inr}
 use Rattle.std.specs.Prelude.{◌⊎◌, AllPairs, Contains, is_some, nat_lt, option_map}
 use Rattle.std.specs.Ordering.{nat_cmp}
@@ -73,7 +74,7 @@ dumps_written serial f named shelf (q ∷ qs) = by_serial (cases_Bool (serial ==
         ap (λ (rs : List Reel). all_dumps shelf (map unread rs)) (cond-false (serial == q.serial) (f q ∷ qs) (q ∷ with_reel serial f qs) other)
         ∙ ap (λ (ds : List Dump). shelf q.serial ++ ds) rest
 
--- THE SAME TREE, whatever copies are noted
+-- the same tree, for any copies that are noted
 tree_with : List UserRec → ℕ → List (Full × FileRow) → Tree
 tree_with users next rows = record { users = from_entries (map (λ u. (u.user, user_row_of users u)) users); files = from_entries rows; next = next }
 
@@ -213,7 +214,7 @@ module _ (d : DumpFacts) (o : OnlineFacts) (old : Rack) (reels : AreReels old.re
       ≡ record k { places = with_noted od k.places; last = od.number; intent = None; kept = kept_now od k.tree }
   held_closed = λ i. let h : state.Holding = record { tree = tree_is i; places = places_are i; last = d.plan.number; intent = None; kept = kept_is i } in h
 
-  -- nobody is kept while no store is up
+  -- no user is kept while no store is up
   pub held_cut : holding_of text [] (closed d.plan.number o) ≡ record k { places = with_noted od k.places; last = od.number; intent = None; kept = names_of [] }
   held_cut = λ i. let h : state.Holding = record { tree = tree_is i; places = places_are i; last = d.plan.number; intent = None; kept = names_of [] } in h
 
@@ -265,7 +266,7 @@ module _ (d : DumpFacts) (o : OnlineFacts) (old : Rack) (reels : AreReels old.re
           (λ f it. record { len = it.len; bytes = it.bytes; tape = λ _. it.tape told }) c.files view_is.files;
     }
 
-    -- GOING ON
+    -- the dump continues
     going_state : nat_lt 0 (left_by how at is.on).len ≡ true
         → state_up v (told_reels new) o (Some (record { plan = d.plan; done = d.done + 1 })) ≡ uses true od (record s { open_dump = Some (record od { done = od.done + 1 }) })
     going_state used =
@@ -335,7 +336,7 @@ module _ (d : DumpFacts) (o : OnlineFacts) (old : Rack) (reels : AreReels old.re
             state_is = sym (completed_state o' size done.contents done.changed);
           })
 
-      -- stopped behind the mark: the disc holds what it held, or that with the dump closed
+      -- stopped after the mark: the disc holds what it held, or that with the dump closed
       marked_devices : (o' : OnlineFacts) → o'.disc.size ≡ o.disc.size → (blocks : List (List ℕ)) → o'.disc.held ≡ Some blocks → Holds blocks c
           → StandsForState (spent_with o' new) (uses true od (down (marked od s)))
       marked_devices o' size blocks held holds =
@@ -361,7 +362,7 @@ module _ (d : DumpFacts) (o : OnlineFacts) (old : Rack) (reels : AreReels old.re
     used_behind : 0 < at → nat_lt 0 (left_by how at is.on).len ≡ true
     used_behind more = lt-ltb 0 (left_by how at is.on).len (left_long how at is.on more (on_long d.done d o old is refl more))
 
-    -- behind its first block a reel has blocks, whatever the write left
+    -- after its first block a reel has blocks, for any outcome of the write
     rows_stay : 0 < at → state.with_reel d.plan.serial (with_used true) (map (row_of shelf) rs) ≡ map (row_of shelf) rs
     rows_stay more =
         used_same d.plan.serial true (map (row_of shelf) rs)
@@ -458,7 +459,7 @@ module _ (d : DumpFacts) (o : OnlineFacts) (old : Rack) (reels : AreReels old.re
             same_shelf (shelved_then d old new failed.how new.write_faults failed.rack shelf (quiet_shelf d o old reels told.each is text shelf shelved_as up content has failed.how less))
         by_place (inr (inr beyond)) = let within = is.within in absurd (let no : ⊥ = omega (arith, within, beyond) in no)
 
-  -- or the commit behind the mark
+  -- or the commit after the mark
   pub stops_closing : (new : Rack) (o' : OnlineFacts) → d.done + 1 ≡ needs d.plan → WroteBlock d o.pins old new → o'.disc.size ≡ o.disc.size → is_some o'.disc.held ≡ is_some o.disc.held
       → Rose o.disc.write_faults o'.disc.write_faults → StoppedClosing d.plan.number o o' → (u : state.State) → StandsForState before u
       → LeadsBy IsStepOfDump u before (spent_with o' new) (Err Stopped)

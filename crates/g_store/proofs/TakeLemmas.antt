@@ -1,4 +1,5 @@
--- The dump of the intent is taken over, or isn't.
+-- The dump of the intent is adopted, or isn't.
+-- serves: find_named (only), take_named
 use Rattle.std.proofs.Common.{◌≡◌, ℕ, true, List, Option, Some, None, Ok, Err, refl, ◌∙◌, ap, inl, inr}
 use Rattle.std.specs.Prelude.{◌⊎◌, Bool, if◌then◌else◌}
 use Rattle.g_disc.proofs.CallLemmas.{Causes-for}
@@ -40,7 +41,7 @@ up_by : (o : Option Reel) → is_mounted o ≡ true → refuses_unmount o ≡ No
 up_by None up = let no : ⊥ = cc in absurd no
 up_by (Some r) up = ap (λ (b : Bool). if b then None else Some tape.NotMounted) up
 
--- also where it was read before
+-- also if it was read before
 pub fault_then : {A : Type 0} (serial : ℕ) (fault : ShelfFault) (old mid new : Rack) → is_mounted (reel serial old.reels) ≡ true → OnlyReads old mid → ReadsReel {A = A} serial (Err fault) mid new
     → (store_fault fault ≡ TapeReadFault) ⊎ (store_fault fault ≡ NoMemory)
 fault_then serial fault old mid new mounted only reads =

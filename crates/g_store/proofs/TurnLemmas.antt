@@ -1,4 +1,5 @@
--- Mounting and unmounting are the step's, and a store keeps what it keeps.
+-- Mounting and unmounting are the step's, and a store preserves its invariant.
+-- serves: mount, unmount, crates above
 use Rattle.std.proofs.Common.{◌≡◌, ℕ, Bool, true, false, List, [], ◌∷◌, Option, Some, None, Result, Ok, Err, refl, sym, ◌∙◌, ap, arith, subst, inl, inr, true≢false}
 use Rattle.std.specs.Prelude.{◌⊎◌, ◌&&◌, IfSome, is_none, not, if◌then◌else◌}
 use Rattle.std.specs.Option.{option_map}
@@ -74,7 +75,7 @@ module _ (s : ℕ) (is : Bool) (old : StoreFacts) where
   abbrev pub after : StoreFacts
   after = record old { rack = changed s (with_mounted is) old.rack }
 
-  -- the state behind it
+  -- the state afterwards
   abbrev behind : View → state.State
   behind v = record (state_up v reels old.online old.dump) { reels = state.with_reel s (dumps.with_mounted is) (state_up v reels old.online old.dump).reels }
 

@@ -1,4 +1,5 @@
--- The rows of the state behind a write of the next block of the open dump.
+-- The rows of the state after a write of the next block of the open dump.
+-- serves: SteppedLemmas
 use Rattle.std.proofs.Common.{◌≡◌, ℕ, ◌<◌, ◌==◌, Bool, true, false, List, [], ◌∷◌, ◌++◌, map, Some, refl, sym, ◌∙◌, ap, arith, inl, inr, true≢false}
 use Rattle.std.specs.Prelude.{◌⊎◌, All, AllPairs, nat_lt}
 use Rattle.std.proofs.lemmas.Bool.{cases_Bool, cond-false, cond-true, eq-eqb, eqb-true, ne_eqb}
@@ -26,7 +27,7 @@ Below m n = m < n
 abbrev rows : (ℕ → List Dump) → List Reel → List state.ReelRow
 rows shelf reels = map (row_of shelf) (map unread reels)
 
--- A ROW goes by its reel and by the dumps that stand there
+-- a row depends on its reel and on the dumps there
 row_by : Reel → List Dump → state.ReelRow
 row_by r dumps = record { serial = r.serial; capacity = r.capacity; mounted = r.mounted; used = nat_lt 0 r.len; dumps = map shelved_of dumps }
 
@@ -40,7 +41,7 @@ left_row Unchanged k next r = refl
 left_row Shortened k next r = refl
 left_row (Torn block) k next r = refl
 
--- what is so behind one reel is so of the reel that was written
+-- what holds for one reel holds for the reel that was written
 abbrev IsRow : ℕ → (Reel → Reel) → (state.ReelRow → state.ReelRow) → (ℕ → List Dump) → (ℕ → List Dump) → List Reel → Type 0
 IsRow serial f g shelf next reels = (r : Reel) → reel serial reels ≡ Some r → row_of next (unread (f r)) ≡ g (row_of shelf (unread r))
 
@@ -127,7 +128,7 @@ module _ (serial : ℕ) (reels : List Reel) (right : AreReels reels) (on : Reel)
       let same : on ≡ r = same_Some on r (sym on_is ∙ at) in
       left_row how k shelf r ∙ ap (used_by (row_of shelf (unread r))) (ap (λ (q : Reel). nat_lt 0 (left_by how k q).len) (sym same) ∙ used))
 
-  -- the dump is, and stands behind the others
+  -- the dump is there, after the others
   module _ (made : Dump) (named : made.serial ≡ serial) (x : state.Shelved) (shelved : shelved_of made ≡ x) where
     row_with : Reel → Bool → List state.Shelved → state.ReelRow
     row_with r c dumps = record { serial = r.serial; capacity = r.capacity; mounted = r.mounted; used = c; dumps = dumps }

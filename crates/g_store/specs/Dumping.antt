@@ -1,4 +1,4 @@
--- WHAT BECOMES OF FILESTORE AND TAPE where a dump is opened and where it takes a step: `Begins` and `Stepping` of g_dumper.
+-- What happens to filestore and tape when a dump is opened and when it takes a step: `Begins` and `Stepping` of `g_dumper`.
 use Rattle.std.specs.Prelude.{◌≡◌, ◌⊎◌, ℕ, ◌+◌, ◌<◌, Bool, true, false, List, Option, Some, None, Result, Ok, Err, OnOk}
 use Rattle.g_base.specs.Counts.{Rose}
 use Rattle.g_tape.specs.Rack.{Rack}
@@ -15,31 +15,33 @@ use Rattle.g_store_meaning.specs.StoreInvariant.{DumpFacts, StoreFacts, content_
 use Rattle.g_dumper.specs.Beginning.{Begins, IsTooLong, StoppedOpening}
 use Rattle.g_dumper.specs.Steps.{Stepping}
 
+-- The new store has an open dump, which `Begins` describes.
 pub record OpensAs (serial : ℕ) (old new : StoreFacts) : Type 0 where
   pub dump : DumpFacts
   pub dump_is : new.dump ≡ Some dump
   pub begins : Begins serial old.online old.rack dump new.online new.rack
 
+-- If the opening is granted, the dump is opened so.
 abbrev pub OpensDump : ℕ → StoreFacts → Result ℕ StoreFault → StoreFacts → Type 0
 OpensDump serial old answer new = OnOk answer (OpensAs serial old new)
 
--- why a dump wasn't opened behind the look at its reel, of every disc and rack: it would go past the end of the reel, behind the completed
--- dumps there; or its commit was stopped, where it would have fitted
+-- Why a dump wasn't opened after its reel was read, for every disc and rack: it would exceed the reel, after the completed
+-- dumps there; or its commit was stopped, and it would have fitted.
 pub record RefusesDump (serial : ℕ) (old : StoreFacts) (answer : Result ℕ StoreFault) (new : StoreFacts) : Type 0 where
   pub full : (need room : ℕ) → answer ≡ Err (TapeFull need room) → IsTooLong serial need room old.online old.rack
   pub stopped : answer ≡ Err Stopped → StoppedOpening serial old.online new.online old.rack
 
--- whether a refusal is a stop
+-- Whether a refusal is `Stopped`.
 abbrev pub is_stop_at : StoreFault → Bool
 is_stop_at Stopped = true
 is_stop_at fault = false
 
--- a dump that goes on stays open; one that is completed, given up or stopped doesn't
+-- A dump that continues stays open; one that is completed, given up or stopped doesn't.
 abbrev pub LeavesOpen : Result Stepped StoreFault → DumpFacts → Option DumpFacts → Type 0
 LeavesOpen (Ok Going) after dump = dump ≡ Some after
 LeavesOpen answer after dump = dump ≡ None
 
--- the open dump takes a step
+-- The open dump takes a step.
 pub record StepsAs (old : StoreFacts) (answer : Result Stepped StoreFault) (new : StoreFacts) : Type 0 where
   pub dump : DumpFacts
   pub dump_is : old.dump ≡ Some dump
@@ -47,27 +49,27 @@ pub record StepsAs (old : StoreFacts) (answer : Result Stepped StoreFault) (new 
   pub stepping : Stepping dump old.online old.rack answer after new.online new.rack
   pub left : LeavesOpen answer after new.dump
 
--- no count of faults that a step may raise rose
+-- No fault counter that a step may raise rose.
 pub record NoneRose (old new : StoreFacts) : Type 0 where
   pub disc_reads : Rose old.online.disc.read_faults new.online.disc.read_faults → ⊥
   pub disc_writes : Rose old.online.disc.write_faults new.online.disc.write_faults → ⊥
   pub tape_writes : Rose old.rack.write_faults new.rack.write_faults → ⊥
 
--- WHERE NONE ROSE a step goes on, and the one that writes the last block completes the dump: whoever takes as many steps as it has
--- blocks has completed it. Memory isn't wanted.
+-- If none rose, a step continues, and the one that writes the last block completes the dump. Therefore a caller that takes
+-- as many steps as the dump has blocks has completed it. No step runs out of memory.
 pub record Progresses (old : StoreFacts) (answer : Result Stepped StoreFault) (new : StoreFacts) : Type 0 where
   pub going : (d : DumpFacts) → old.dump ≡ Some d → NoneRose old new → d.done + 1 < needs d.plan → answer ≡ Ok Going
   pub last : (d : DumpFacts) → old.dump ≡ Some d → NoneRose old new → d.done + 1 ≡ needs d.plan → answer ≡ Ok (Completed d.plan.number)
 
--- which dumps are on the reels behind a step: the same, or one more; behind a stop one or the other
+-- Which dumps are on the reels after a step: the same ones, or one more; after a stop either.
 abbrev pub Adds : Result Stepped StoreFault → Type 0 → Type 0 → Type 0
 Adds (Ok Going) same more = same
 Adds (Ok (Completed number)) same more = more
 Adds (Err Stopped) same more = same ⊎ more
 Adds (Err fault) same more = same
 
--- each reel has the completed dumps that it had, and no others; or, behind those of its own reel, the open dump as it was opened: that of
--- its plan and of the versions that were pinned then
+-- Each reel has exactly the completed dumps that it had; or its own reel also has, after them, the open dump as it was
+-- opened: that of its plan and of the versions pinned then.
 pub record DumpsStay (shelf : ℕ → List Dump) (old : StoreFacts) (answer : Result Stepped StoreFault) (new : Rack) : Type 0 where
   pub dump : DumpFacts
   pub dump_is : old.dump ≡ Some dump
@@ -77,6 +79,6 @@ pub record DumpsStay (shelf : ℕ → List Dump) (old : StoreFacts) (answer : Re
   pub content_is : content_in pins ≡ Some content
   pub adds : Adds answer (AreShelved shelf (told_reels new)) (AreShelved (with_dump (dump_of dump.plan content) shelf) (told_reels new))
 
--- NO COMPLETED DUMP IS LOST OR CHANGED, whatever becomes of the step, and none comes but the open one, whole
+-- No completed dump is lost or changed, for any outcome of the step, and only the open dump is added, complete.
 abbrev pub KeepsDumps : StoreFacts → Result Stepped StoreFault → StoreFacts → Type 0
 KeepsDumps old answer new = Told old → Belongs old → (shelf : ℕ → List Dump) → AreShelved shelf (told_reels old.rack) → DumpsStay shelf old answer new.rack

@@ -1,4 +1,4 @@
--- A STORE OUT OF DEVICES, by FORMAT, START or RESTORE.
+-- How FORMAT, START or RESTORE make a store from devices.
 use Rattle.std.specs.Prelude.{◌≡◌, ◌≢◌, ◌⊎◌, ℕ, ◌↔◌, true, false, List, [], All, Option, Some, None, IfSome, Result, Ok, Err}
 use Rattle.std.specs.Option.{ForSome}
 use Rattle.std.specs.FinMap.{empty}
@@ -29,7 +29,7 @@ use Rattle.g_store_meaning.specs.Answers.{Belongs, IsStore, Told}
 use Rattle.g_store.specs.Refusing.{first_used}
 use Rattle.g_store.specs.Starting.{Takes}
 
--- The store is made. Where the devices tell, and with what is given of them, its state is that of the step.
+-- The store is made. If the devices expose their contents and the premise `given` holds, its state is that of the step.
 pub record Makes {A : Type 0} (given : Type 0) (by : State → Outcome → Result A StoreFault → State → Type 0) (count : A → ℕ) (disc : DiscState) (rack : Rack) (reply : A) (new : StoreFacts) : Type 0 where
   pub running : new.spent ≡ false
   pub no_dump : new.dump ≡ None
@@ -45,13 +45,14 @@ pub record Makes {A : Type 0} (given : Type 0) (by : State → Outcome → Resul
       → (u : State) × StandsForState new u × by s Plain (Ok reply) u
   pub belongs : AllTold disc.held (told_reels rack) → given → Belongs new
 
--- a count of these devices rose
+-- The fault counter that the outcome concerns rose. Without a failure nothing is required.
 abbrev pub Risen : Outcome → DiscState → Rack → DiscState → Rack → Type 0
 Risen Plain disc rack disc' rack' = Unit {0}
 Risen DiscRead disc rack disc' rack' = Rose disc.read_faults disc'.read_faults
 Risen TapeRead disc rack disc' rack' = Rose rack.read_faults rack'.read_faults
 Risen Cut disc rack disc' rack' = Rose disc.write_faults disc'.write_faults
 
+-- The devices then represent a state, which the step makes of the previous one, with an outcome whose counter rose.
 pub record LeadsDown {A : Type 0} (by : State → Outcome → Result A StoreFault → State → Type 0) (before : State) (disc : DiscState) (rack : Rack) (fault : StoreFault) (disc' : DiscState) (rack' : Rack) : Type 0 where
   pub after : State
   pub left : DevicesStandFor disc'.size disc'.held (told_reels rack') after
@@ -59,11 +60,12 @@ pub record LeadsDown {A : Type 0} (by : State → Outcome → Result A StoreFaul
   pub raised : Risen outcome disc rack disc' rack'
   pub step : by before outcome (Err fault) after
 
+-- Out of memory, the devices represent the previous state; any other refusal is the step's.
 abbrev pub StepsDown : {A : Type 0} → (State → Outcome → Result A StoreFault → State → Type 0) → State → DiscState → Rack → StoreFault → DiscState → Rack → Type 0
 StepsDown by before disc rack NoMemory disc' rack' = DevicesStandFor disc'.size disc'.held (told_reels rack') before
 StepsDown by before disc rack fault disc' rack' = LeadsDown by before disc rack fault disc' rack'
 
--- It isn't, and the devices are handed back.
+-- The store isn't made, and the devices are returned.
 pub record Refuses {A : Type 0} (given : Type 0) (by : State → Outcome → Result A StoreFault → State → Type 0) (disc : DiscState) (rack : Rack) (fault : StoreFault) (disc' : DiscState) (rack' : Rack) : Type 0 where
   pub causes : Causes (fault ≡ DiscReadFault) (fault ≡ Stopped) disc disc'
   pub tapes : OnlyReads rack rack'
@@ -75,14 +77,15 @@ pub record Refuses {A : Type 0} (given : Type 0) (by : State → Outcome → Res
   pub step : AllTold disc.held (told_reels rack) → given → (s : State) → DevicesStandFor disc.size disc.held (told_reels rack) s → StepsDown by s disc rack fault disc' rack'
   pub belongs : AllTold disc.held (told_reels rack) → Belong disc.held rack → Belong disc'.held rack'
 
--- what a new filestore holds: two users and no file, no dump and no intent
+-- What a new filestore holds: two users and no file, no dump and no intent.
 abbrev pub new_holding : Holding
 new_holding = record { tree = formatted; places = empty; last = 0; intent = None; kept = empty }
 
+-- The contents are those of a new filestore, for any texts.
 abbrev pub IsNew : Contents → Type 0
 IsNew c = (text : ℕ → List ℕ) → holding_of text [] c ≡ new_holding
 
--- the refusals of FORMAT, and no others
+-- The refusals of FORMAT, and no others.
 abbrev pub IsOfFormat : StoreFault → Type 0
 IsOfFormat (RackNotEmpty serial) = Unit {0}
 IsOfFormat DiscReadFault = Unit {0}
@@ -90,27 +93,27 @@ IsOfFormat Stopped = Unit {0}
 IsOfFormat NoMemory = Unit {0}
 IsOfFormat fault = ⊥
 
--- FORMAT asks nothing of the devices but that every reel is empty, and says which is the first that isn't, of every rack. What is held
--- then is the new filestore, whatever was there before: also a disc and a rack that stood for no state, as a disc that names files on
--- reels that were emptied.
+-- FORMAT only requires that every reel is empty; it reports the first one that isn't, for every rack. Afterwards the disc
+-- holds the new filestore, for any previous contents. This includes a disc and a rack that represented no state, such as a
+-- disc that names files on reels that were emptied.
 pub record Formats (disc : DiscState) (rack : Rack) (new : StoreFacts) : Type 0 where
   pub makes : Makes (Unit {0}) FormatStep (λ reply. 1) disc rack tt new
   pub empty : first_used rack.reels ≡ None
   pub holds : IsNew new.online.contents
 
--- stopped, the disc stands for what it stood for, or for the new filestore
+-- After a stop the disc represents what it represented before, or the new filestore.
 pub record RefusesFormat (disc : DiscState) (rack : Rack) (fault : StoreFault) (disc' : DiscState) (rack' : Rack) : Type 0 where
   pub refuses : Refuses (Unit {0}) FormatStep disc rack fault disc' rack'
   pub full : (serial : ℕ) → (fault ≡ RackNotEmpty serial) ↔ (first_used rack.reels ≡ Some serial)
   pub stopped : fault ≡ Stopped → (c : Contents) × IsNew c × Changes (AsBeforeOr c) disc.held disc'.held
   pub only : IsOfFormat fault
 
--- START asks that disc and rack belong together; the reel of an intent is mounted, of every rack
+-- START requires that disc and rack belong together. The reel of an intent is mounted, for every rack.
 abbrev pub commits_of_start : Option ℕ → ℕ
 commits_of_start None = 0
 commits_of_start (Some number) = 1
 
--- the refusals of START, and no others
+-- The refusals of START, and no others.
 abbrev pub IsOfStart : StoreFault → Type 0
 IsOfStart NoFilestore = Unit {0}
 IsOfStart DiscReadFault = Unit {0}
@@ -120,32 +123,35 @@ IsOfStart Stopped = Unit {0}
 IsOfStart NoMemory = Unit {0}
 IsOfStart fault = ⊥
 
+-- START made the store. The reel of its intent is mounted.
 pub record Begun (disc : DiscState) (rack : Rack) (adopted : Option ℕ) (new : StoreFacts) : Type 0 where
   pub makes : Makes (Belong disc.held rack) StartStep commits_of_start disc rack adopted new
   pub intent : IfSome new.online.contents.head.intent (λ i. is_mounted (reel i.serial rack.reels) ≡ true)
-  -- what the disc holds, with the dump of its intent taken over or as it is, whether or not disc and rack belong together
+  -- what the disc holds, unchanged or with the dump of its intent adopted, whether or not disc and rack belong together
   pub loaded : (o : OnlineFacts) × HasLoaded disc o × Takes o rack (Ok adopted) new.online
 
+-- Why START made no store. `MountFirst` names the reel of the intent, which isn't mounted.
 pub record RefusesStart (disc : DiscState) (rack : Rack) (fault : StoreFault) (disc' : DiscState) (rack' : Rack) : Type 0 where
   pub refuses : Refuses (Belong disc.held rack) StartStep disc rack fault disc' rack'
   pub first : (serial : ℕ) → fault ≡ MountFirst serial → is_mounted (reel serial rack.reels) ≡ false
-  -- of the disc alone, where it tells, whether or not disc and rack belong together
+  -- for an exposed disc, whether or not disc and rack belong together
   pub none : fault ≡ NoFilestore → ForSome disc.held (λ blocks. (c : Contents) → Holds blocks c → ⊥)
   pub named : (serial : ℕ) → fault ≡ MountFirst serial
       → ForSome disc.held (λ blocks. (c : Contents) × Holds blocks c × (i : Intent) × (c.head.intent ≡ Some i) × (i.serial ≡ serial))
   pub stopped : fault ≡ Stopped → (o : OnlineFacts) × (left : OnlineFacts) × HasLoaded disc o × (left.disc ≡ disc') × Takes o rack (Err Stopped) left
   pub only : IsOfStart fault
 
--- RESTORE too, and that every reel is mounted; it says which is the first that isn't, of every rack. Whether disc and rack belong
--- together or not, what is held then is what the completed dumps of the rack give, with every place held, and what is lost is named.
+-- RESTORE also requires that disc and rack belong together, and that every reel is mounted; it reports the first one that
+-- isn't, for every rack. Whether or not disc and rack belong together, the disc then holds what the completed dumps of the
+-- rack give, all of whose copies exist; and what is lost is named.
 pub record Restored (disc : DiscState) (rack : Rack) (number : ℕ) (new : StoreFacts) : Type 0 where
   pub makes : Makes (Belong disc.held rack) RestoreStep (λ n. 1) disc rack number new
   pub mounted : first_unmounted rack.reels ≡ None
   pub lost : LostIsNamed (told_reels rack) (Ok number)
   pub holds : IsRestored (told_reels rack) disc.held number new.online.contents
 
--- a directory or a copy is lost only where disc and rack don't belong together; the disc is asked for only where the dumps give
--- something
+-- A directory or a copy is lost only if disc and rack don't belong together. The disc is used only if the dumps give
+-- something.
 pub record RefusesRestore (disc : DiscState) (rack : Rack) (fault : StoreFault) (disc' : DiscState) (rack' : Rack) : Type 0 where
   pub refuses : Refuses (Belong disc.held rack) RestoreStep disc rack fault disc' rack'
   pub unmounted : (serial : ℕ) → (fault ≡ RackNotMounted serial) ↔ (first_unmounted rack.reels ≡ Some serial)

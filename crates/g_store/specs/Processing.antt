@@ -1,5 +1,5 @@
--- HOW A STORE ANSWERS A PROCESS in states, and what becomes of completed dumps then. What is so whatever the devices tell is `Processes` of
--- g_process.
+-- How a store answers PROCESS in terms of states, and what happens to completed dumps. What holds for all devices is
+-- `Processes` of `g_process`.
 use Rattle.std.specs.Prelude.{ℕ, Result}
 use Rattle.g_plain.specs.declared.faults.StoreFault.{StoreFault}
 use Rattle.g_store_model.specs.State.{State}
@@ -10,11 +10,12 @@ use Rattle.g_store_meaning.specs.StoreInvariant.{StoreFacts}
 use Rattle.g_laws_store.specs.Moving.{DumpsMove}
 use Rattle.g_store.specs.Events.{StepsBy}
 
--- from the state that it stands for it goes by the step of a process, where its devices tell and belong together
+-- PROCESS takes the step of a process from the state that the store represents, if its devices expose their contents and
+-- belong together.
 abbrev pub StepsProcess : ℕ → StoreFacts → Result ℕ StoreFault → StoreFacts → Type 0
 StepsProcess serial old answer new = Told old → Belongs old → (s : State) → StandsForState old s → StepsBy (λ s k o a n. ProcessStep s k serial o a n) s old answer new
 
--- each reel keeps its completed dumps, with or without the new one behind them; or they are gone, and the new one, which stands, has what
--- each of them had
+-- Each reel keeps its completed dumps, possibly followed by the new one; or they are gone, and the new dump exists and
+-- holds everything that each of them did.
 abbrev pub MovesDumps : StoreFacts → StoreFacts → Type 0
 MovesDumps old new = Told old → Belongs old → DumpsMove old.rack new.rack

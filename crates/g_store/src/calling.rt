@@ -40,7 +40,7 @@ impl<D: Disc, T: Tapes> Filestore for Store<D, T> {
     }
 }
 
-/// That the plan of the open dump keeps the rules of a plan.
+/// The solver learns here that the plan of the open dump satisfies the rules of a plan.
 fn plan_kept(dump: &Option<Dump>)
     ensures { KeepsPlan dump.now }
 {
@@ -52,7 +52,7 @@ fn plan_kept(dump: &Option<Dump>)
     }
 }
 
-/// Whether it is a stop.
+/// Whether the answer is `Stopped`.
 fn is_stopped(answer: &Result<StoreReply, StoreFault>) -> bool
     ensures { result ≡ stops_call answer.now }
 {

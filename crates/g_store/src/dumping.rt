@@ -14,10 +14,10 @@ use g_tape::Tapes;
 use std::alloc::Global;
 
 impl<D: Disc, T: Tapes> Store<D, T> {
-    /// Opens a dump on the reel, behind its completed dumps, and answers its number (docs/DEFINITIONS.md). `NoTape`,
-    /// `NotMounted`. `DumpOpen`: there is one. `CountersSpent`: the greatest number is given. `TapeReadFault`: the reel
-    /// couldn't be read. `TapeFull`: the dump needs more blocks than the reel has room for. Behind these, and behind
-    /// `NoMemory`, nothing has changed. `Stopped`: a write of the disc failed.
+    /// Opens a dump on the reel, after its completed dumps, and returns its number (docs/DEFINITIONS.md). `NoTape`,
+    /// `NotMounted`. `DumpOpen`: a dump is open already. `CountersSpent`: the last dump has the greatest possible number.
+    /// `TapeReadFault`: the reel couldn't be read. `TapeFull`: the dump needs more blocks than the reel has room for. After
+    /// these and `NoMemory` nothing has changed. `Stopped`: a write of the disc failed.
     pub fn open_dump(&mut self, alloc: Global, serial: u32) -> Result<u64, StoreFault>
         requires running { self.old.spent ≡ false }
         ensures event { Opens serial self.old result self.new }
@@ -69,7 +69,7 @@ impl<D: Disc, T: Tapes> Store<D, T> {
         }
     }
 
-    /// What refuses an opening before the reel is read.
+    /// The refusal of an opening that occurs before the reel is read, if any.
     fn opening_refused(&self, serial: u32) -> Option<StoreFault>
         requires running { self.now.spent ≡ false }
         ensures { result ≡ open_refuses serial self.now }
@@ -90,7 +90,7 @@ impl<D: Disc, T: Tapes> Store<D, T> {
     }
 }
 
-/// Whether it is a stop.
+/// Whether the fault is `Stopped`.
 pub(crate) fn is_stop(fault: &StoreFault) -> bool
     ensures { result ≡ is_stop_at fault.now }
 {

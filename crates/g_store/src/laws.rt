@@ -1,15 +1,15 @@
-//! What follows of the clauses of a store's making, and of a process. Laws alone.
+//! Theorems about the clauses of a store's making, and of PROCESS. No code is involved.
 ghost use Rattle.g_store.specs.Completeness.{MakingIsComplete, ProcessIsComplete};
 
-/// Where no count of faults rose, FORMAT over empty reels, START over a disc that holds something, without an intent or with
-/// its reel mounted, and RESTORE with all reels mounted and a completed dump, where disc and rack belong together, are done,
-/// or memory was wanting.
+/// If no fault counter rose, FORMAT on empty reels, START from a disc that holds a filestore, without an intent or with its
+/// reel mounted, and RESTORE with all reels mounted and a completed dump, if disc and rack belong together, are done,
+/// unless memory ran out.
 pub fn making_is_complete()
     ensures { MakingIsComplete }
 {}
 
-/// Where no count of faults rose, and disc and rack tell and belong together, a process onto a free reel with room, of a store
-/// that is up, is done, or memory was wanting.
+/// If no fault counter rose, and disc and rack expose their contents and belong together, then PROCESS onto a free reel
+/// with room, of a store that is up, is done, unless memory ran out.
 pub fn process_is_complete()
     ensures { ProcessIsComplete }
 {}

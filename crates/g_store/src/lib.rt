@@ -1,5 +1,5 @@
-//! The whole store: a disc and a rack of reels, the files on both, and the dump that is open. Each of its events is a step of the
-//! state that it stands for.
+//! The whole store: a disc and a rack of reels, the files on both, and the open dump. Each of its events is a step of the
+//! state that it represents.
 #![tactic(auto)]
 
 mod calling;

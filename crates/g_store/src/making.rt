@@ -15,7 +15,7 @@ use g_tape::Tapes;
 use g_tree::Tree;
 use std::alloc::Global;
 
-/// Why no store was made, and both devices as they are then. What is known of the reels is kept.
+/// Why no store was made, and both devices in their current state, with what is known of the reels.
 #[derive(Drop)]
 pub struct Refused<D: Disc, T: Tapes> {
     pub fault: StoreFault,
@@ -23,12 +23,12 @@ pub struct Refused<D: Disc, T: Tapes> {
     pub tapes: KnownReels<T>,
 }
 
-/// Makes a new filestore on the disc, whatever it held, by one commit: `:MASTER` and `:MACROS`, and no file
-/// (docs/DEFINITIONS.md). Every reel has to be empty. A refusal hands both devices back:
+/// Creates a new filestore on the disc by one commit, for any previous contents: `:MASTER` and `:MACROS`, and no file
+/// (docs/DEFINITIONS.md). Every reel must be empty. A refusal returns both devices:
 ///
-/// - `RackNotEmpty`: the first reel that has a block. With this, and with `NoMemory`, the disc is as it was.
-/// - `DiscReadFault`: the gate couldn't be read; the disc is as it was. `Stopped`: a write failed, and the disc stands for what
-///   it stood for, or for the new filestore.
+/// - `RackNotEmpty`: the first reel that has a block. After this and `NoMemory` the disc is unchanged.
+/// - `DiscReadFault`: the gate couldn't be read; the disc is unchanged. `Stopped`: a write failed, and the disc represents
+///   what it represented before, or the new filestore.
 pub fn format<D: Disc, T: Tapes>(
     alloc: Global,
     disc: D,
@@ -80,16 +80,17 @@ pub fn format<D: Disc, T: Tapes>(
     }
 }
 
-/// General restore: makes the filestore that the completed dumps of the rack give, on this disc, by one commit, and answers the
-/// number of the last dump (docs/DEFINITIONS.md). The disc may have held anything, and its filestore is gone. All reels have to
-/// be mounted; they are made durable and read, and none changes as it is read. A refusal hands both devices back:
+/// General restore: creates the filestore that the completed dumps of the rack give, on this disc, by one commit, and
+/// returns the number of the last dump (docs/DEFINITIONS.md). The disc may have held anything, and its filestore is gone.
+/// All reels must be mounted; they are made durable and read, and reading changes none of them. A refusal returns both
+/// devices:
 ///
-/// - `RackNotMounted`: the first reel that isn't mounted. `TapeReadFault`: a reel couldn't be made durable, or a read of one
-///   failed. `NoDump`: no reel has a completed dump. `LostDirectory`: the first user whose directory is lost, or breaks the rules of a directory with those
-///   before it. `LostCopy`: the first file whose place no completed dump holds. With these, and with `NoMemory`, the disc is as
-///   it was.
-/// - `DiscReadFault`: the gate couldn't be read; the disc is as it was. `Stopped`: a write failed, and the disc stands for what
-///   it stood for, or for the dumped tree.
+/// - `RackNotMounted`: the first reel that isn't mounted. `TapeReadFault`: a reel couldn't be made durable, or a read
+///   failed. `NoDump`: no reel has a completed dump. `LostDirectory`: the first user whose directory is lost, or violates
+///   the rules of a directory together with the preceding ones. `LostCopy`: the first file whose place no completed dump
+///   holds. After these and `NoMemory` the disc is unchanged.
+/// - `DiscReadFault`: the gate couldn't be read; the disc is unchanged. `Stopped`: a write failed, and the disc represents
+///   what it represented before, or the dumped tree.
 pub fn restore<D: Disc, T: Tapes>(
     alloc: Global,
     disc: D,

@@ -14,10 +14,10 @@ use g_tree::Tree;
 use std::alloc::Global;
 
 impl<D: Disc, T: Tapes> Store<D, T> {
-    /// Takes the file that the operator's path names off the disc, by one commit (docs/DEFINITIONS.md): its bytes are then on
-    /// tape alone. `NoUser`: the path names no user, or one who isn't there. `NoFile`. `Offline`: the file isn't on the disc.
-    /// `NotDumped`: no tape has a copy of it, as of an empty file none ever has. Behind these, and behind `NoMemory`, all is
-    /// as it was. `Stopped`: a write of the disc failed.
+    /// Takes the file that the operator's path names off the disc, by one commit (docs/DEFINITIONS.md); then its bytes are
+    /// only on tape. `NoUser`: the path names no user, or one who doesn't exist. `NoFile`. `Offline`: the file isn't on the
+    /// disc. `NotDumped`: no tape has a copy of it, which is always so for an empty file. After these and `NoMemory`
+    /// everything is unchanged. `Stopped`: a write of the disc failed.
     pub fn migrate(&mut self, alloc: Global, path: &Path) -> Result<Full, StoreFault>
         requires running { self.old.spent ≡ false }
         ensures { Migrates path.now self.old result self.new }
@@ -54,14 +54,14 @@ fn file_named(tree: &Tree, path: &Path) -> Result<(u16, Full), StoreFault>
     Ok((number, full))
 }
 
-/// Whether it is a stop.
+/// Whether the answer is `Stopped`.
 fn is_stop(answer: &Result<(), StoreFault>) -> bool
     ensures { result ≡ stops answer.now }
 {
     matches!(answer, Err(StoreFault::Stopped))
 }
 
-/// The answer under the file's name.
+/// The answer, with the file's name.
 fn under_name(answer: Result<(), StoreFault>, full: Full) -> Result<Full, StoreFault>
     ensures { result ≡ named_answer full answer }
 {

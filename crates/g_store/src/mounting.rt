@@ -44,7 +44,7 @@ impl<D: Disc, T: Tapes> Store<D, T> {
     }
 }
 
-/// What a store answers to a mount or an unmount, where its rack has answered so: `NoTape`, `NotMounted`.
+/// The store's answer to a mount or an unmount, from the answer of its rack: `NoTape`, `NotMounted`.
 pub fn rack_answer(answer: Result<(), TapeFault>) -> Result<(), StoreFault>
     ensures { result ≡ rack_answer answer }
 {

@@ -1,4 +1,4 @@
-//! All versions onto one reel.
+//! All versions are consolidated on one reel.
 ghost use Rattle.std.specs.Prelude.{◌≡◌, false};
 ghost use Rattle.g_process.specs.Processing.{Processes, process_refuses};
 ghost use Rattle.g_store.specs.Processing.{MovesDumps, StepsProcess};
@@ -14,13 +14,14 @@ use g_tape::Tapes;
 use std::alloc::Global;
 
 impl<D: Disc, T: Tapes> Store<D, T> {
-    /// Writes every user's directory and the bytes of every version to this reel as one dump, from block 0 on, notes the new
-    /// copies on the disc, and releases every other reel that had a completed dump (docs/DEFINITIONS.md). Answers the dump's
-    /// number. `NoTape`. `RackNotMounted`: this reel isn't mounted, the first such. `DumpOpen`: there is one. `CountersSpent`:
-    /// the greatest number is given. `TapeReadFault`: the dumps of the reels couldn't be read. `ReelNotFree`: the reel has a
-    /// completed dump. `NoCopy`: of the first file by owner and number that isn't on the disc and whose copy isn't there.
-    /// `TapeFull`. Behind these, and behind `NoMemory`, nothing has changed. `DiscReadFault`, `TapeReadFault`: a version
-    /// couldn't be read, and the new intent is on the disc. `Stopped`: a write of the disc or of a tape failed.
+    /// Writes every user's directory and the bytes of every version to this reel as one dump, from block 0 on, notes the
+    /// new copies on the disc, and releases every other reel that had a completed dump (docs/DEFINITIONS.md). Returns the
+    /// dump's number. `NoTape`. `RackNotMounted`: the first reel that isn't mounted. `DumpOpen`: a dump is open.
+    /// `CountersSpent`: the last dump has the greatest possible number. `TapeReadFault`: the dumps of the reels couldn't be
+    /// read. `ReelNotFree`: the reel has a completed dump. `NoCopy`: the first file by owner and number that isn't on the
+    /// disc and whose copy doesn't exist. `TapeFull`. After these and `NoMemory` nothing has changed. `DiscReadFault`,
+    /// `TapeReadFault`: a version couldn't be read, and the new intent is on the disc. `Stopped`: a write of the disc or of
+    /// a tape failed.
     pub fn process(&mut self, alloc: Global, serial: u32) -> Result<u64, StoreFault>
         requires running { self.old.spent ≡ false }
         ensures processes { Processes serial self.old result self.new }
@@ -40,7 +41,7 @@ impl<D: Disc, T: Tapes> Store<D, T> {
         }
     }
 
-    /// What refuses it before a reel is read.
+    /// The refusal of PROCESS that occurs before a reel is read, if any.
     fn process_refused(&self, serial: u32) -> Option<StoreFault>
         requires running { self.now.spent ≡ false }
         ensures { result ≡ process_refuses serial self.now }

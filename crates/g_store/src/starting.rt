@@ -22,15 +22,15 @@ use g_table::FileTable;
 use g_tape::{Tapes, secure_all};
 use std::alloc::Global;
 
-/// Starts the store that the disc holds. Where the disc has an intent, the system went down while a dump was open: if that dump
-/// stands whole among the completed ones of its reel, its copies and its number are taken over by one commit, and the answer is
-/// the number; else nothing is written, and the next commit drops the intent (docs/DEFINITIONS.md). The reel of the intent has to
-/// be mounted. All reels are made durable before one of them is read. A refusal hands both devices back:
+/// Starts the store that the disc holds. If the disc has an intent, the system went down while a dump was open. If that
+/// dump is one of the completed dumps of its reel, its copies and its number are adopted by one commit, and the number is
+/// returned. Otherwise nothing is written, and the next commit drops the intent (docs/DEFINITIONS.md). The reel of the
+/// intent must be mounted. All reels are made durable before one of them is read. A refusal returns both devices:
 ///
-/// - `NoFilestore`: the disc holds none. `DiscReadFault`: a block of it couldn't be read. `MountFirst`: the serial of the intent's
-///   reel, which isn't mounted. `TapeReadFault`: a reel couldn't be made durable, or a read of the intent's reel
-///   failed. With these, and with `NoMemory`, the disc is as it was.
-/// - `Stopped`: a write failed, and the disc stands for what it stood for, or for that with the dump taken over.
+/// - `NoFilestore`: the disc holds none. `DiscReadFault`: a block of it couldn't be read. `MountFirst`: the serial of the
+///   intent's reel, which isn't mounted. `TapeReadFault`: a reel couldn't be made durable, or a read of the intent's reel
+///   failed. After these and `NoMemory` the disc is unchanged.
+/// - `Stopped`: a write failed, and the disc represents what it represented before, or that with the dump adopted.
 pub fn start<D: Disc, T: Tapes>(
     alloc: Global,
     disc: D,
@@ -69,8 +69,8 @@ pub fn start<D: Disc, T: Tapes>(
     }
 }
 
-/// Makes the rack durable, so that no dump is believed that a power loss could still take; then takes over the dump that the disc's
-/// intent names, if it is a completed one, and answers its number.
+/// Makes the rack durable, so that no dump is adopted that a power loss could still destroy. Then adopts the dump that the
+/// disc's intent names, if it is a completed one, and returns its number.
 fn take_over<D: Disc, T: Tapes>(
     alloc: Global,
     online: &mut Online<D>,
@@ -97,7 +97,7 @@ fn take_over<D: Disc, T: Tapes>(
     }
 }
 
-/// Takes the dump of the disc's intent over, from a reel that is mounted and durable.
+/// Adopts the dump of the disc's intent, from a reel that is mounted and durable.
 fn take_named<D: Disc, T: Tapes>(
     alloc: Global,
     online: &mut Online<D>,
@@ -180,7 +180,7 @@ fn adopt<D: Disc>(
     }
 }
 
-/// The copies on tape that these records of a dump name, but for those of the stamps that empty files have.
+/// The copies on tape that a dump's records name, except those whose stamp an empty file has.
 fn copies_named(alloc: Global, files: &FileTable, dumped: &[FileRec]) -> Result<CopyList, NoMemory>
     ensures { IfOk result (λ copies. copies ≡ copies_named files.now dumped.now) }
 {
@@ -194,7 +194,7 @@ fn copies_named(alloc: Global, files: &FileTable, dumped: &[FileRec]) -> Result<
     Ok(CopyList::from(copies))
 }
 
-/// Puts the copy that this record names behind the others.
+/// Appends the copy that this record names.
 fn put_copy(
     files: &FileTable,
     file: &FileRec,

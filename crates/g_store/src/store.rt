@@ -1,4 +1,4 @@
-//! The store, and what is told of it without asking a device.
+//! The store, and the facts about it that need no device.
 ghost use Rattle.std.specs.Prelude.{◌≡◌, ◌≤◌, ℕ, List, false, true, Some, None, is_some, option_map, unwrap_or};
 ghost use Rattle.std.specs.FinMap as finmap;
 ghost use Rattle.g_base.specs.Fuse.{armed_with};
@@ -20,10 +20,11 @@ use g_online::Online;
 use g_tape::Tapes;
 use std::marker::Model;
 
-/// A disc whose filestore is known in memory, the rack of reels with its dumps, and the dump that is open, if one is. Contracts
-/// see what is in memory and what the devices are (`StoreFacts`, docs/DEFINITIONS.md).
+/// A disc with its filestore in memory, the rack of reels with its dumps, and the open dump, if any. Contracts see what is
+/// in memory and the state of the devices (`StoreFacts`, docs/DEFINITIONS.md).
 ///
-/// After an answer `Stopped` the store is spent: both devices can be taken out of it and be armed, and no other call be made.
+/// After an answer `Stopped` the store is spent: its devices can be armed and taken out of it, and it accepts no other
+/// call.
 #[derive(Drop)]
 pub struct Store<D: Disc, T: Tapes> {
     pub(crate) online: Online<D>,
@@ -44,14 +45,14 @@ impl<D: Disc, T: Tapes> Model for Store<D, T> {
 }
 
 impl<D: Disc, T: Tapes> Store<D, T> {
-    /// Whether a stop has come.
+    /// Whether a call was stopped.
     pub fn spent(&self) -> bool
         ensures { result ≡ self.now.spent }
     {
         self.spent
     }
 
-    /// The number of the open dump, None where none is open.
+    /// The number of the open dump, or None if none is open.
     pub fn dump_number(&self) -> Option<u64>
         ensures { result ≡ option_map (λ d. d.plan.number) self.now.dump }
     {
@@ -61,7 +62,7 @@ impl<D: Disc, T: Tapes> Store<D, T> {
         }
     }
 
-    /// How many blocks of tape the open dump takes, 0 where none is open.
+    /// The number of tape blocks that the open dump takes, 0 if none is open.
     pub fn dump_blocks(&self) -> u32
         ensures { result ≡ unwrap_or (option_map (λ d. needs d.plan) self.now.dump) 0 }
     {
@@ -71,7 +72,7 @@ impl<D: Disc, T: Tapes> Store<D, T> {
         }
     }
 
-    /// Whether the reel is there and mounted.
+    /// Whether the reel exists and is mounted.
     pub fn mounted(&self, serial: u32) -> bool
         ensures { result ≡ is_mounted (reel serial self.now.rack.reels) }
     {
@@ -86,7 +87,7 @@ impl<D: Disc, T: Tapes> Store<D, T> {
         self.online.tree().users()
     }
 
-    /// The units of TIME of a user's budget, None where there is no such user.
+    /// The units of TIME in a user's budget, or None if there is no such user.
     pub fn user_time(&self, user: &User) -> Option<u64>
         requires running { self.now.spent ≡ false }
         ensures { result ≡ option_map (λ u. u.time)
@@ -98,7 +99,7 @@ impl<D: Disc, T: Tapes> Store<D, T> {
         }
     }
 
-    /// The units of MONEY of a user's budget, None where there is no such user.
+    /// The units of MONEY in a user's budget, or None if there is no such user.
     pub fn user_money(&self, user: &User) -> Option<u64>
         requires running { self.now.spent ≡ false }
         ensures { result ≡ option_map (λ u. u.money)
@@ -110,7 +111,7 @@ impl<D: Disc, T: Tapes> Store<D, T> {
         }
     }
 
-    /// Sets the fuse of the disc, so that its `k`-th next write fails. Nothing else changes.
+    /// Arms the disc, so that its `k`-th next write fails. Nothing else changes.
     pub fn arm_disc(&mut self, k: u32)
         requires { 1 ≤ k }
         ensures armed { self.new ≡ record self.old {
@@ -124,7 +125,7 @@ impl<D: Disc, T: Tapes> Store<D, T> {
         self.online.arm(k);
     }
 
-    /// Sets the fuse of the tapes, so that their `k`-th next write that isn't refused fails. Nothing else changes.
+    /// Arms the tapes, so that their `k`-th next write that isn't refused fails. Nothing else changes.
     pub fn arm_tape(&mut self, k: u32)
         requires { 1 ≤ k }
         ensures armed { self.new ≡ record self.old {
@@ -135,11 +136,11 @@ impl<D: Disc, T: Tapes> Store<D, T> {
         self.tapes.arm(k);
     }
 
-    /// Both devices as they then are, also out of a spent store. What is known of the reels is kept.
+    /// Both devices in their current state, also from a spent store, with what is known of the reels.
     pub fn into_devices(self) -> (D, KnownReels<T>)
         ensures disc { D.state result.0 ≡ self.online.disc }
         ensures tapes { T.rack result.1 ≡ self.rack }
-        // Where the disc tells what it holds, they stand for what the store stood for, down.
+        // If the disc exposes its contents, they represent the state of the store after going down.
         ensures down { is_some self.online.disc.held ≡ true → self.spent ≡ false → (s : State)
             → StandsForState self s
             → DevicesStandFor self.online.disc.size self.online.disc.held (told_reels self.rack) (down s) }

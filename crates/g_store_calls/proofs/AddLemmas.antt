@@ -1,4 +1,5 @@
 -- A new user.
+-- serves: made_user, new_user (answers), BroughtLemmas, BudgetLemmas, EraseLemmas, MakeLemmas, SetLemmas, VersionLemmas
 use Rattle.std.proofs.Common.{◌≡◌, ◌≢◌, ℕ, ◌<◌, ◌≤◌, ◌+◌, Bool, true, false, List, [], ◌∷◌, ◌++◌, length, Option, Some, None, is_some, refl, sym, ◌∙◌, ap, arith, inl, inr, slice_get, subst, All}
 use Rattle.std.specs.Prelude.{◌⊎◌, ◌||◌, Contains, IfSome, not}
 use Rattle.std.specs.FinMap.{len}
@@ -49,7 +50,7 @@ slice_last : {X : Type 0} (xs : List X) (x : X) → slice_get (xs ++ x ∷ []) (
 slice_last [] x = refl
 slice_last (y ∷ xs) x = slice_last xs x
 
--- WITH ONE MORE USER, whose name is new, the records keep their rules
+-- WITH ONE MORE USER, whose name is new, the records satisfy their rules
 module _ (users : List UserRec) (files : List FileRec) (u : UserRec) (is : IsRecords users files) (fits : IsUser Two u) (number : u.number ≡ length users) (few : length users < 63)
     (below : u.superior < length users) (apart : All (λ w. w.user ≢ u.user) users) where
   abbrev more : List UserRec
@@ -104,7 +105,7 @@ module _ (users : List UserRec) (files : List FileRec) (u : UserRec) (is : IsRec
         };
       }
 
--- A USER WHO MAY BE MADE: there is room, and nobody has the name
+-- a user who may be created: there is room, and no user has the name
 module _ (users : List UserRec) (files : List FileRec) (next : ℕ) (who user : List ℕ) (space time money : ℕ) (is : IsRecords users files)
     (granted : RefusesAs users files next who (NewUser user space time money) None) where
   abbrev tree : Tree

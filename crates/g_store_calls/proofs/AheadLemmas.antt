@@ -1,5 +1,6 @@
--- Of the state that a store stands for: a view in which no dump is ahead of the disc. Where the devices tell it is the view there is;
--- where they don't, one without a dumped tree has the same names and lengths.
+-- For the state that a store represents, a view in which no dump is newer than the disc. If the devices expose their
+-- contents it is the only view; otherwise one without a dumped tree has the same names and lengths.
+-- serves: AppendedLemmas, AskedLemmas, PutLemmas, VersionLemmas
 use Rattle.std.proofs.Common.{◌≡◌, ◌≢◌, ℕ, ◌≤◌, true, false, List, [], ◌∷◌, ◌++◌, Option, Some, None, is_some, refl, sym, ◌∙◌, ap, inl, inr, subst, All}
 use Rattle.std.specs.Prelude.{◌⊎◌, ◌==◌, AllPairs, Contains, IfSome, if◌then◌else◌}
 use Rattle.std.specs.Option.{ForSome}
@@ -40,13 +41,13 @@ pub record Ahead (s : StoreFacts) (u : State) : Type 0 where
 pub ahead_stands : (s : StoreFacts) (u : State) → s.spent ≡ false → Ahead s u → StandsForState s u
 ahead_stands s u unspent a = stands s u unspent (record { view = a.view; is = a.is; opens = a.opens; state_is = a.state_is })
 
--- the state that a call meets: the one there is, where the devices tell
+-- the state that a call meets: the only one, if the devices expose their contents
 pub record Before (s : StoreFacts) (u : State) : Type 0 where
   pub before : State
   pub ahead : Ahead s before
   pub told : Told s → before ≡ u
 
--- WHETHER THE DEVICES TELL
+-- whether the devices expose their contents
 reels_told : (reels : List Reel) → ReelsTold reels ⊎ (ReelsTold reels → ⊥)
 reels_told [] = inl (record { each = All-nil (λ (r : Reel). is_some r.blocks ≡ true) })
 reels_told (r ∷ rs) = by_first (cases_Bool (is_some r.blocks)) (reels_told rs)
@@ -64,7 +65,7 @@ told_or_not held reels = by_disc (cases_Bool (is_some held)) (reels_told reels)
     by_disc (inr isnt) rest = inr (λ told. both_ways (is_some held) isnt told.disc)
     by_disc (inl is) (inr not) = inr (λ told. not told.each)
 
--- WHERE THEY DON'T: the same without a dumped tree
+-- IF THEY DON'T: the same without a dumped tree
 module _ (s : StoreFacts) (u : State) (sn : Seen s u) (not : Told s → ⊥) where
   abbrev bare : View
   bare = record sn.view { dumped = None; opened = None }
@@ -82,7 +83,7 @@ module _ (s : StoreFacts) (u : State) (sn : Seen s u) (not : Told s → ⊥) whe
     opened = tt;
   }
 
--- WHERE THEY DO
+-- IF THEY DO
 pub agree_with : (d : Dump) (a b : ℕ → List Dump) (reels : List Reel) → Agree a b reels → Agree (with_dump d a) (with_dump d b) reels
 unfolding Agree
 agree_with d a b reels agree r there = ap (λ (ds : List Dump). let es : List Dump = if r.serial == d.serial then ds ++ d ∷ [] else ds in es) (agree r there)

@@ -1,4 +1,5 @@
--- Append, whatever was answered: what the plain step grants, and that the call is answered as the whole store answers it.
+-- Append, for any answer: what the plain step grants, and that the call is answered as the whole store answers it.
+-- serves: append (answers, kind)
 use Rattle.std.proofs.Common.{◌≡◌, ◌≢◌, ℕ, ◌+◌, ◌<◌, ◌≤◌, ◌^◌, Bool, true, false, List, ◌∷◌, ◌++◌, length, Option, Some, None, Result, Ok, Err, is_some, refl, sym, ◌∙◌, ap, arith, inl, inr, subst}
 use Rattle.std.specs.Prelude.{◌⊎◌, Contains, not}
 use Rattle.std.specs.Option.{ForSome}
@@ -63,7 +64,7 @@ module _ (users : List UserRec) (files : List FileRec) (next : ℕ) (who : List 
       let most = most_of 65536 (length (file_row t (input_name t who path)).bytes + length bytes) off.1.1.1.1.0 in
       omega (arith, long, most)
 
--- the file of the path, as the call wants it
+-- the file of the path, as the call needs it
 pub append_wants : (o : OnlineFacts) (who : List ℕ) (path : Path) (bytes : List ℕ) (number : ℕ) (full : Full)
     → RefusesAs o.contents.users (recs_in o.contents) o.contents.head.next_stamp who (Append path bytes) None → (at : IsFileAt o.contents.users (recs_in o.contents) who path number full)
     → (f : File) → Contains o.contents.files f → f.rec ≡ at.rec → Wants o who (Append path bytes) f
@@ -73,7 +74,7 @@ append_wants o who path bytes number full granted at f there rec = record {
   reads = λ texts next. ap (λ (n : Full). let x : Option Full = Some n in x) (sym (ap (full_of o.contents.users) rec ∙ at.name_is ∙ at.named texts next));
 }
 
--- WHATEVER WAS ANSWERED
+-- for any answer
 at_hand : (f : File) (text : List ℕ) (before after : Rack) → IsOldText f text before after → IsAtHand f before
 at_hand f text before after read = by_place read.1
   where
@@ -141,7 +142,7 @@ append_answers o new before after who path bytes number full live tied granted a
         (append_early s.online.contents.users (recs_in s.online.contents) s.online.contents.head.next_stamp who path bytes rules free)
         (subst (λ (r : FileRec). r.len + length bytes ≤ 65536) (sym rec) short) result (each f there numbered))
 
--- ITS KIND: the bytes are few enough, and who waits, waits for a reel that isn't mounted
+-- ITS KIND: the bytes are few enough, and a call that waits, waits for a reel that isn't mounted
 module _ (path : Path) (bytes : List ℕ) (full : Full) (before : Rack) (few : length bytes ≤ 65536) where
   settled : (fault : StoreFault) → ((serial : ℕ) → fault ≢ WaitTape serial) → IsKind (Append path bytes) before (Err fault)
   settled fault other = record {
@@ -177,7 +178,7 @@ append_kind o new before after who path bytes number full live tied granted at r
     let short = append_short o.contents.users (recs_in o.contents) o.contents.head.next_stamp who path bytes rules granted number full at in
     kind_by path bytes full before (omega (arith, short)) (full_of o.contents.users f.rec) f o new after result (each f there (ap (λ (r : FileRec). r.number) rec ∙ at.number_is))
 
--- WHAT IS ASKED of the file, by its number
+-- what is required of the file, by its number
 pub append_used : (o : OnlineFacts) (who : List ℕ) (path : Path) (number : ℕ) (full : Full) → IsFileAt o.contents.users (recs_in o.contents) who path number full
     → (f : File) × Contains o.contents.files f × (f.rec.number ≡ number)
 append_used o who path number full at =

@@ -1,4 +1,5 @@
 -- What the functions of Append show in turn, by the record of the file that they have.
+-- serves: append_from_tape, append_here
 use Rattle.std.proofs.Common.{◌≡◌, ℕ, ◌+◌, ◌<◌, Bool, true, false, List, ◌++◌, length, Some, None, Result, Ok, Err, is_some, refl, sym, ◌∙◌, ap, inl, inr, subst, true≢false}
 use Rattle.std.specs.Prelude.{◌⊎◌, Contains}
 use Rattle.std.specs.Option.{ForSome}
@@ -33,7 +34,7 @@ use Rattle.g_store_calls.specs.Asking.{HasAsked, HasPlanned}
 use Rattle.g_store_calls.proofs.FaultLemmas.{IsReadFault, Unread, full_no_read, none_no_read, stop_no_read}
 use Rattle.g_store_calls.proofs.AppendPartLemmas.{asked_none, copy_text, disc_asked, nothing_asked, tapes_read, then_put, undisclosed, unplanned, unread}
 
--- so many blocks, as they were reckoned
+-- this many blocks, as they were computed
 pub need_is : (need : ℕ) (file rec : FileRec) (slice bytes : List ℕ) → need ≡ blocks_for (file.len + length slice) → slice ≡ bytes → rec ≡ file → need ≡ blocks_for (rec.len + length bytes)
 need_is need file rec slice bytes is same recs = is ∙ (λ i. blocks_for ((sym recs i).len + length (same i)))
 
@@ -77,7 +78,7 @@ module _ (o : OnlineFacts) (live : o.live ≡ true) (tied : IsTied o) (file : Fi
           })
           (same_online f there same ∙ here) (filled is f there (ap (λ (r : FileRec). r.number) same)) (plan_of plan planned f same)
 
-      -- any fault of the read, as a store tells it
+      -- any fault of the read, as a store reports it
       pub here_unread : (new : OnlineFacts) (plan : Unjam) (e : OnlineFault) → (let r : Result Unjam StoreFault = Ok plan in HasPlanned need o r) → IsReadFault e → ReadsByCause (Unread e) o.disc new.disc
           → new ≡ record o { disc = new.disc } → IsTied new → (Unread e → (f : File) → Contains o.contents.files f → f.rec.number ≡ file.number → 0 < f.rec.len)
           → (f : File) → Contains o.contents.files f → f.rec ≡ file → (rack : Rack) → HasAppended (full_of o.contents.users f.rec) f bytes o new rack rack (Err (store_fault_of e))
@@ -101,7 +102,7 @@ module _ (o : OnlineFacts) (live : o.live ≡ true) (tied : IsTied o) (file : Fi
           then_put f bytes o mid new rack rack asked old (long, inl (same_online f there same ∙ here, λ x it. sym (told x it))) plan is fits result
           (subst (λ (r : FileRec). HasApplied (PutFile (version_of r mid.contents.head.next_stamp (r.len + length bytes)) (old ++ bytes) plan.take) mid new result) (sym same) applied)
 
-    -- ON TAPE ALONE
+    -- a file that is only on tape
     module _ (away : b ≡ false) (users : List UserRec) (recs : List FileRec) (users_are : users ≡ o.contents.users) (recs_are : recs ≡ recs_in o.contents) (copy : TapeCopy)
         (copy_is : file.tape ≡ Some copy) (before after : Rack) where
       on_tape : (f : File) → Contains o.contents.files f → f.rec ≡ file → IsOnTape f.rec.number o f copy
@@ -138,7 +139,7 @@ module _ (o : OnlineFacts) (live : o.live ≡ true) (tied : IsTied o) (file : Fi
             (copy_text f bytes o copy before after live tied (on_tape f there same) old (copy_on (Ok old) read f same).ok) plan is fits result
             (subst (λ (r : FileRec). HasApplied (PutFile (version_of r o.contents.head.next_stamp (r.len + length bytes)) (old ++ bytes) plan.take) o new result) (sym same) applied)
 
--- A FILE ON TAPE ALONE has a copy, and isn't empty
+-- a file that is only on tape has a copy, and isn't empty
 module _ (o : OnlineFacts) (live : o.live ≡ true) (tied : IsTied o) (file : FileRec) (known : (f : File) × Contains o.contents.files f × (f.rec ≡ file) × (f.online ≡ false)) where
   pub not_bare : file.tape ≡ None → ⊥
   not_bare none =

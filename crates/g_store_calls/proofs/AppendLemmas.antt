@@ -1,4 +1,5 @@
--- How bytes that are put behind those of a file are answered where nothing is written.
+-- How an append is answered if nothing is written.
+-- serves: AppendCallLemmas, AppendedLemmas
 use Rattle.std.proofs.Common.{◌≡◌, ◌≢◌, ℕ, ◌+◌, ◌<◌, ◌≤◌, Bool, true, false, List, length, Option, Some, None, Result, Err, refl, sym, ◌∙◌, ap, arith, inl, inr, subst}
 use Rattle.std.specs.Prelude.{◌&&◌, nat_lt, not}
 use Rattle.std.proofs.lemmas.Bool.{le-ltb, lt-ltb}

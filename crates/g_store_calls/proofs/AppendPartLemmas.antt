@@ -1,4 +1,5 @@
--- How bytes are put behind those of a file, from the answers of what is asked for it in turn: the tape, a plan, the disc, the change.
+-- How an append is answered, from the answers of the tape, the plan, the disc and the change, in this order.
+-- serves: append_to, put_behind, AppendCodeLemmas
 use Rattle.std.proofs.Common.{◌≡◌, ◌≢◌, ℕ, ◌+◌, ◌<◌, ◌≤◌, ◌^◌, Bool, true, false, List, ◌++◌, length, length-append, Result, Ok, Err, refl, sym, ◌∙◌, ap, inl, inr, subst}
 use Rattle.std.specs.Prelude.{◌⊎◌, Contains}
 use Rattle.std.proofs.lemmas.Bool.{cases_Bool}
@@ -31,7 +32,7 @@ use Rattle.g_store_calls.proofs.MakeLemmas.{put_allowed}
 use Rattle.g_store_calls.proofs.NextLemmas.{next_version}
 use Rattle.g_store_calls.proofs.QuietLemmas.{asked_for}
 
--- NOTHING was asked, and TAPES alone were read
+-- no device was used, or only the tapes were read
 pub tapes_asked : {A : Type 0} (o : OnlineFacts) (before after : Rack) (result : Result A StoreFault) → IsTied o → ReadsTapes before after result → HasAsked ⊥ (result ≡ Err TapeReadFault) o o before after
 tapes_asked o before after result tied reads = record {
   disc = ReadsByCause-none o.disc (λ no. no);
@@ -52,11 +53,11 @@ nothing_asked o rack tied = record {
   rose = λ no. absurd no;
 }
 
--- the disc alone was read
+-- only the disc was read
 pub disc_asked : (cause : Type 0) (o new : OnlineFacts) (rack : Rack) → ReadsByCause cause o.disc new.disc → new ≡ record o { disc = new.disc } → IsTied new → HasAsked cause ⊥ o new rack rack
 disc_asked cause o new rack reads same tied = record { disc = reads; same = same; tied = tied; only = nothing_read rack; kept = λ no. refl; rose = λ no. absurd no }
 
--- no read has failed where it answered otherwise
+-- no read has failed if the answer isn't a read fault
 pub asked_none : {P Q : Type 0} (old new : OnlineFacts) (before after : Rack) → (P → ⊥) → (Q → ⊥) → HasAsked P Q old new before after → HasAsked ⊥ ⊥ old new before after
 asked_none old new before after no_disc no_tape asked = asked_for no_disc (λ no. absurd no) no_tape (λ no. absurd no) asked
 
@@ -74,7 +75,7 @@ module _ (f : File) (bytes : List ℕ) (o : OnlineFacts) where
       → HasAppended (full_of o.contents.users f.rec) f bytes o new rack rack (Err DiscReadFault)
   undisclosed new rack plan asked online filled (is, fits) = (asked, online, filled, (plan.room, fits, (plan.take, is)))
 
-  -- THE CHANGE, whatever was answered
+  -- the change, for any answer
   module _ (mid new : OnlineFacts) (before after : Rack) (asked : HasAsked ⊥ ⊥ o mid before after) (text : List ℕ) (read : IsOldText f text before after) (plan : Unjam)
       (planned : IsUnjamPlan (blocks_for (f.rec.len + length bytes)) o plan.take plan.room) (fits : blocks_for (f.rec.len + length bytes) ≤ plan.room) where
     pub then_put : (result : Result (Unit {0}) StoreFault)

@@ -1,4 +1,5 @@
--- How bytes that were put behind those of a file are answered: the new version is the step's, whether it was made or a write failed.
+-- How an append is answered once it writes: the new version is the step's, whether it was written or a write failed.
+-- serves: AppendCallLemmas
 use Rattle.std.proofs.Common.{◌≡◌, ℕ, ◌+◌, ◌<◌, ◌≤◌, Bool, true, false, List, ◌++◌, get_or, length, length-append, Option, Some, None, Ok, Err, is_some, refl, sym, ◌∙◌, ap, inl, inr, subst, true≢false, All}
 use Rattle.std.specs.Prelude.{◌⊎◌, Contains, IfSome, not, Result}
 use Rattle.std.specs.Option.{ForSome}
@@ -56,7 +57,7 @@ use Rattle.g_store_calls.proofs.VersionLemmas.{IsMet, belongs_done, belongs_stop
 use Rattle.g_store_calls.proofs.WantLemmas.{Wants, len_in, place_in, row_in}
 use Rattle.g_plain.specs.declared.faults.StoreFault.{StoreFault}
 
--- A CHANGE of what was only read before
+-- a change after reads
 module _ (change : Change) (s : StoreFacts) (mid new : OnlineFacts) (after : Rack) (unspent : s.spent ≡ false) (store : IsStore s) (asked : HasAsked ⊥ ⊥ s.online mid s.rack after) where
   mid_is : mid ≡ read_online s mid after ⊥ ⊥ unspent store asked
   mid_is = online_is s mid after ⊥ ⊥ unspent store asked
@@ -82,7 +83,7 @@ module _ (change : Change) (s : StoreFacts) (mid new : OnlineFacts) (after : Rac
     writes_rose = λ is. subst (λ (n : ℕ). Rose n new.disc.write_faults) asked.disc.write_faults (causes.writes_rose is);
   }
 
--- BEHIND READS of the rack
+-- after reads of the rack
 module _ (s : StoreFacts) (new : OnlineFacts) (after : Rack) (only : OnlyReads s.rack after) where
   store_then : new.live ≡ true → IsStore (record s { online = new; spent = false }) → IsStore (record s { online = new; rack = after; spent = false })
   store_then live was =
@@ -101,7 +102,7 @@ module _ (s : StoreFacts) (new : OnlineFacts) (after : Rack) (only : OnlyReads s
   told_then : is_some new.disc.held ≡ is_some s.online.disc.held → Told s → AllTold new.disc.held (told_reels after)
   told_then tells told = record { disc = tells ∙ told.disc; each = subst ReelsTold (sym only.reels) told.each }
 
--- the bytes of a file that is on the disc are told where it tells
+-- the bytes of a file that is on the disc are exposed if the disc exposes its contents
 abbrev TellsOnline : File → Type 0
 TellsOnline g = g.online ≡ true → is_some g.bytes ≡ true
 
@@ -150,7 +151,7 @@ module _ (s : StoreFacts) (new : OnlineFacts) (after : Rack) (unspent : s.spent 
   roomy : HasRoom (blocks_for (length whole)) o take room
   roomy = subst (λ (n : ℕ). HasRoom (blocks_for n) o take room) (sym long) (record { plan = plan; enough = fits })
 
-  -- the text that was read is the view's, where all is told
+  -- the text that was read is the view's, if everything is exposed
   text_told : Told s → (v : View) → IsView o.disc.held reels o.contents v → v.text f.rec.stamp ≡ text
   text_told told v right = by_place read.1
     where

@@ -1,5 +1,7 @@
--- What is known of a store where a call comes that takes or brings bytes, whether or not its devices tell what they hold. Where they do, disc
--- and rack belong together, and the state is that of the store's own view; where they don't, any bytes of a version's length will do.
+-- What is known of a store when a call that adds or brings bytes arrives, whether or not its devices expose their contents.
+-- If they do, disc and rack belong together, and the state is that of the store's own view. Otherwise any bytes of a
+-- version's length will do.
+-- serves: AppendLemmas, AppendedLemmas, BroughtLemmas, HereLemmas, TapeLemmas
 use Rattle.std.proofs.Common.{◌≡◌, ◌≢◌, ℕ, Bool, true, false, List, [], ◌∷◌, get_or, length, Option, Some, None, refl, sym, ◌∙◌, ap, inl, inr, subst}
 use Rattle.std.specs.Prelude.{◌⊎◌, ◌==◌, ◌≤◌, All, AllPairs, Contains, IfSome, is_some, if◌then◌else◌}
 use Rattle.std.specs.Option.{ForSome}
@@ -38,7 +40,7 @@ use Rattle.g_store_calls.specs.Answering.{KeepsPlan}
 use Rattle.g_store_calls.proofs.SeenLemmas.{Seen, seen}
 use Rattle.g_store_calls.proofs.AheadLemmas.{agree_with}
 
--- WHETHER ALL IS TOLD
+-- whether everything is exposed
 abbrev Tells : Reel → Type 0
 Tells r = is_some r.blocks ≡ true
 
@@ -59,7 +61,7 @@ told_or held reels = by_disc (cases_Bool (is_some held)) (each_or reels)
     by_disc (inl is) (inr some) = inr (λ told. some told.each.each)
     by_disc (inr isnt) rest = inr (λ told. false≢true (sym isnt ∙ told.disc))
 
--- WHAT IS KNOWN whatever is told
+-- what is known in both cases
 pub record IsPrepared (o : OnlineFacts) (dump : Option DumpFacts) : Type 0 where
   pub records : IsRecords o.contents.users (recs_in o.contents)
   pub dated : StampsBelow o.contents.head.next_stamp (recs_in o.contents)
@@ -97,7 +99,7 @@ pub planned : (v : View) (o : OnlineFacts) (dump : Option DumpFacts) (reels : Li
 planned v o dump reels is right =
     record { records = is.records; long = long_texts (AllTold o.disc.held reels) v.text v.dumps o.contents.files right.files; pins = is.pins }
 
--- A VIEW with which the laws of calls may be used; where all is told its state is the one that was met
+-- a view to which the laws of calls apply; if everything is exposed its state is the one that was met
 pub record Asked (o : OnlineFacts) (reels : List Reel) (dump : Option DumpFacts) (u : State) : Type 0 where
   pub view : View
   pub is : IsView o.disc.held reels o.contents view
@@ -117,7 +119,7 @@ asked_by o dump reels v is right dumped opened = record {
   opened = opened;
 }
 
--- ALL IS TOLD
+-- everything is exposed
 dumped_below : (dumps : List Dump) (next : ℕ) → ((d : Dump) → Contains dumps d → d.next ≤ next) → (x : Option (DumpedDirectory dumps)) → IfSome x (λ t. t.last.next ≤ next)
 dumped_below dumps next below None = tt
 dumped_below dumps next below (Some t) = below t.last t.greatest.there
@@ -189,7 +191,7 @@ module _ (s : StoreFacts) (unspent : s.spent ≡ false) (store : IsStore s) (pla
       told = λ all. refl;
     }
 
-  -- NOT ALL IS TOLD: other texts will do
+  -- not everything is exposed: other texts will do
   module _ (v : View) (right : IsView o.disc.held reels o.contents v) (untold : Told s → ⊥) (text : ℕ → List ℕ)
       (are : All (λ (f : File). HasText (AllTold o.disc.held reels) (text f.rec.stamp) v.dumps f) o.contents.files) where
     abbrev loose : View
@@ -210,7 +212,7 @@ module _ (s : StoreFacts) (unspent : s.spent ≡ false) (store : IsStore s) (pla
       told = λ told. absurd (untold told);
     }
 
-  -- with these bytes as the text of a file, which it has anyway where all is told
+  -- with these bytes as the text of a file, which it has anyway if everything is exposed
   module _ (f : File) (bytes : List ℕ) (there : Contains o.contents.files f) (long : length bytes ≡ f.rec.len) (held : ForSome f.bytes (λ b. b ≡ bytes)) where
     pub record Met (u : State) : Type 0 where
       pub asks : AskedHere u
@@ -250,7 +252,7 @@ module _ (s : StoreFacts) (unspent : s.spent ≡ false) (store : IsStore s) (pla
           text_is = cond-true (f.rec.stamp == f.rec.stamp) bytes (sn.view.text f.rec.stamp) (eq-eqb f.rec.stamp f.rec.stamp refl);
         }
 
--- BYTES on the disc are told where it tells, and nowhere else
+-- bytes on the disc are exposed if and only if the disc exposes its contents
 abbrev pub TellsOnline : File → Type 0
 TellsOnline f = f.online ≡ true → is_some f.bytes ≡ true
 
@@ -303,7 +305,7 @@ no_bytes s unspent store f there =
     All-contains HasNone s.online.contents.files f
     (subst (λ (x : Contents). All HasNone x.files) (sym (store.tied.contents (store.live unspent))) (none_offline s.online.disc.held s.online.layout.directory)) there
 
--- and the one that is has them, where all is told
+-- and the existing one has them, if everything is exposed
 pub has_bytes : (s : StoreFacts) → s.spent ≡ false → IsStore s → Told s → (f : File) → Contains s.online.contents.files f → f.online ≡ true → (b : List ℕ) × (f.bytes ≡ Some b)
 has_bytes s unspent store told f there on =
     let tells : All TellsOnline s.online.contents.files =

@@ -1,4 +1,5 @@
--- The step of a call that reads a file: of one that isn't on the disc, at each of its exits, and where the disc's read failed.
+-- The step of a call that reads a file: of one that isn't on the disc, at each of its exits, and if the disc's read failed.
+-- serves: BroughtLemmas, HereLemmas, TapeLemmas
 use Rattle.std.proofs.Common.{◌≡◌, ℕ, ◌<◌, ◌≤◌, Bool, true, false, List, [], ◌∷◌, Option, None, Result, Ok, Err, refl, sym, ap, subst}
 use Rattle.std.specs.Prelude.{◌&&◌, MatchOption, is_some, nat_lt, not, unwrap_or}
 use Rattle.std.proofs.lemmas.Bool.{le-ltb, lt-ltb, or_right}

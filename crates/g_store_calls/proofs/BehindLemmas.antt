@@ -1,4 +1,6 @@
--- A view of a disc stays right where files are taken off, and where a new version is put in, whose text is the one of its stamp from then on.
+-- A view of a disc stays right where files are taken off, and where a new version is inserted, whose text is the one of its
+-- stamp from then on.
+-- serves: VersionLemmas, crates above
 use Rattle.std.proofs.Common.{◌≡◌, ℕ, ◌<◌, ◌≤◌, Bool, true, false, List, ◌∷◌, get_or, length, Option, Some, None, is_some, refl, sym, ◌∙◌, arith, inl, inr, subst, true≢false, All}
 use Rattle.std.specs.Prelude.{◌⊎◌, ◌==◌, Contains, IfSome, filter, nat_lt, if◌then◌else◌}
 use Rattle.std.specs.Option.{ForSome}
@@ -24,7 +26,7 @@ use Rattle.g_laws_store.proofs.FileLemmas.{offline_rec}
 pub told_then : (held now : Option (List (List ℕ))) (reels : List Reel) → is_some now ≡ is_some held → AllTold now reels → AllTold held reels
 told_then held now reels same told = record { disc = sym same ∙ told.disc; each = told.each }
 
--- THE SAME VIEW of another disc that tells as much
+-- the same view of another disc that exposes its contents if and only if the first does
 pub rack_seen : (held now : Option (List (List ℕ))) (reels : List Reel) (v : View) → is_some now ≡ is_some held → IsRackView held reels v → IsRackView now reels v
 rack_seen held now reels v same right = record {
   shelved = right.shelved;
@@ -40,7 +42,7 @@ files_seen held now reels v c same right = record {
       let is = right.files i d within in record { len = is.len; bytes = is.bytes; tape = λ told. is.tape (told_then held now reels same told) };
 }
 
--- FILES THAT ARE TAKEN OFF have their texts on tape, where the devices tell and belong together
+-- files that are taken off have their texts on tape, if the devices expose their contents and belong together
 unfoldable pub off : Bool → File → File
 off b g = if b then record g { online = false; bytes = None } else g
 
@@ -142,7 +144,7 @@ module _ (s : StoreFacts) (unspent : s.spent ≡ false) (keeps : IsStore s) (bel
     files = subst (λ (fs : List File). All (λ (g : File). HasText (AllTold now reels) (v.text g.rec.stamp) v.dumps g) fs) (sym are) (off_all numbers);
   }
 
-  -- and a new version is put in
+  -- and a new version is inserted
   module _ (bytes : List ℕ) (f : File) (stamp : f.rec.stamp ≡ next) (len : length bytes ≡ f.rec.len) (told_is : (f.bytes ≡ Some bytes) ⊎ (f.bytes ≡ None)) (online : f.online ≡ true)
       (dated : All (λ g. g.rec.stamp < next) files) (dumped : IfSome v.dumped (λ t. t.last.next ≤ next)) where
     abbrev texts : ℕ → List ℕ

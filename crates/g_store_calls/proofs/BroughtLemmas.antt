@@ -1,4 +1,6 @@
--- A file comes back to the disc from its copy on tape, with others taken off the disc for it: the answer of the store, done and stopped.
+-- A file is brought back to the disc from its copy on tape, and others are taken off the disc for it: the answer of the
+-- store, done and stopped.
+-- serves: FetchLemmas
 use Rattle.std.proofs.Common.{◌≡◌, ℕ, ◌<◌, ◌≤◌, ◌+◌, Bool, true, false, List, [], get_or, length, Option, Some, None, Ok, Err, refl, sym, ◌∙◌, ap, arith, inl, inr, subst, true≢false}
 use Rattle.std.specs.Prelude.{◌⊎◌, ◌==◌, All, IfSome, is_some, map, nat_lt, not, if◌then◌else◌, Result}
 use Rattle.std.specs.Option.{ForSome, option_map}
@@ -55,7 +57,7 @@ use Rattle.g_store_calls.proofs.TapeLemmas.{are_here, brings_here, len_here, mou
 use Rattle.g_store_calls.proofs.WantLemmas.{Wants, granted_in, place_in, reads_is}
 use Rattle.g_plain.specs.declared.faults.StoreFault.{StoreFault}
 
--- THE CONTENTS that come of it
+-- the resulting contents
 abbrev off_disc : List ℕ → Contents → Contents
 off_disc take c = record c { files = taken_off take c.files }
 
@@ -87,7 +89,7 @@ down_with v false e = refl
 
 module _ (v : View) (reels : List Reel) (o : OnlineFacts) (dump : Option DumpFacts) (who : List ℕ) (call : StoreCall) (known : IsAsked v o dump) (need_is : ℕ) (take : List ℕ) (room : ℕ)
     (plan : IsUnjamPlan need_is o take room) where
-  -- where a stop came between the two commits
+  -- if a stop came between the two commits
   pub down_off : state_down v reels o.disc.size (Some (committed (is_some o.pins) (off_disc take o.contents))) ≡ down (after_unjam (state_up v reels o dump) (held_in v o) who call plan.until)
   down_off =
       let up : State = state_up v reels o dump in
@@ -112,7 +114,7 @@ module _ (v : View) (reels : List Reel) (o : OnlineFacts) (dump : Option DumpFac
         open_dump = None;
       } in s
 
--- THE DISC TELLS behind it where it told before
+-- afterwards the disc exposes its contents if it did before
 retold : (held now : Option (List (List ℕ))) (reels : List Reel) → is_some now ≡ is_some held → AllTold now reels → AllTold held reels
 retold held now reels same told = record { disc = sym same ∙ told.disc; each = told.each }
 
@@ -252,7 +254,7 @@ module _ (s : StoreFacts) (new : OnlineFacts) (after : Rack) (who : List ℕ) (c
       let a = m.asks in
       record { before = up a.view; stands = stands_at a.view a.is a.opens; told = a.told; steps = steps m }
 
-  -- VIEWS behind it
+  -- views afterwards
   distinct : AreDistinct o.contents.files
   distinct = files_apart o.contents.files records.among_files.stamps
 

@@ -1,4 +1,5 @@
 -- A user's other budget.
+-- serves: budget (answers), budgeted_user
 use Rattle.std.proofs.Common.{◌≡◌, ℕ, ◌<◌, ◌≤◌, Bool, true, List, [], get_or, length, Option, Some, None, is_some, refl, sym, ◌∙◌, ap, arith, inl, inr, slice_get, subst, All}
 use Rattle.std.specs.Prelude.{◌⊎◌, Contains, IfSome, codes, slice_set}
 use Rattle.std.specs.FinMap.{get, get-from_entries}
@@ -44,7 +45,7 @@ use Rattle.g_store_calls.proofs.RecordLemmas.{IsRecorded}
 use Rattle.g_store_calls.proofs.TellLemmas.{granted_off, not_not, user_any}
 use Rattle.g_online.proofs.OffRuleLemmas.{committed_rules}
 
--- ANOTHER RECORD of a user, of the same number, name and superior: the records keep their rules
+-- ANOTHER RECORD of a user, of the same number, name and superior: the records satisfy their rules
 module _ (users : List UserRec) (n : ℕ) (u old : UserRec) (at : slice_get users n ≡ Some old) where
   abbrev after : List UserRec
   after = slice_set users n u
@@ -121,7 +122,7 @@ module _ (users : List UserRec) (n : ℕ) (u old : UserRec) (at : slice_get user
       among_files = subst (λ (m : ℕ). AreFiles m files) (sym long) is.among_files;
     }
 
-  -- and who is there was there
+  -- and each existing user existed before
   pub were_there : u.number ≡ old.number → (numbers : List ℕ) (c : Contents) → c.users ≡ users → WereThere numbers after c
   were_there number numbers c are w there none =
       let (k, less, is) = there in (
@@ -179,7 +180,7 @@ budget_made users files user kind amount old u is limit found made =
           number (ap (λ (w : UserRec). w.user) made ∙ same_user old kind amount) (ap (λ (w : UserRec). w.superior) made ∙ same_superior old kind amount));
     }
 
--- who is there, where the call isn't refused
+-- who is there, if the call isn't refused
 pub budget_user : (users : List UserRec) (files : List FileRec) (next : ℕ) (who user : List ℕ) (kind : BudgetKind) (amount : ℕ) → RefusesAs users files next who (Budget user kind amount) None
     → ForTree users files (λ t. has_user t user ≡ true)
 budget_user users files next who user kind amount granted bytes then_ =

@@ -1,4 +1,5 @@
--- A call of a job: from what is answered over disc and rack to what the store answers.
+-- A call of a job: from what is answered for disc and rack to what the store answers.
+-- serves: crates above
 use Rattle.std.proofs.Common.{◌≡◌, ℕ, Bool, true, false, List, [], ◌∷◌, map, Option, Some, Result, Err, refl, sym, ◌∙◌, ap, subst}
 use Rattle.std.specs.Prelude.{◌==◌, ◌↔◌, if◌then◌else◌, not}
 use Rattle.std.proofs.lemmas.Bool.{false≢true}
@@ -28,7 +29,7 @@ flag_of answer false is = isnt (stops_call answer) refl
     isnt true stops = absurd (false≢true (is.1 (stop_is answer stops)))
     isnt false stops = stops
 
--- THE SAME REELS are mounted behind a call
+-- the same reels are mounted after a call
 by_serial : (b : Bool) (r : Reel) (x y : Option Reel) → is_mounted x ≡ is_mounted y → is_mounted (if b then Some (unread r) else x) ≡ is_mounted (if b then Some r else y)
 by_serial true r x y same = refl
 by_serial false r x y same = same

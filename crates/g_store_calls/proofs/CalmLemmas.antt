@@ -1,4 +1,5 @@
--- An answer that changes nothing, whatever store the filestore is in.
+-- An answer that changes nothing, for any store that the filestore belongs to.
+-- serves: answer (answers, kind), list (answers), BackLemmas, FetchLemmas, HereLemmas, PutLemmas, RecordLemmas, TellLemmas, VersionLemmas, WantLemmas
 use Rattle.std.proofs.Common.{◌≡◌, ℕ, Bool, true, false, List, [], ◌∷◌, length, Option, Some, None, Result, Ok, Err, refl, sym, ◌∙◌, ap, arith, inl, subst, All}
 use Rattle.std.specs.Prelude.{◌&&◌, not, if◌then◌else◌, OnOk, is_some, unwrap_or}
 use Rattle.std.proofs.lemmas.Bool.{false≢true}
@@ -31,7 +32,7 @@ use Rattle.g_store_calls.specs.Replies.{RefusesAs}
 use Rattle.g_store_calls.proofs.SeenLemmas.{seen}
 use Rattle.g_store_calls.proofs.StepLemmas.{here_early, no_late, none_lacks, step_early, step_made}
 
--- THE FAULTS OF THE PLAIN STEP are none of devices and of memory
+-- THE FAULTS OF THE PLAIN STEP concern neither devices nor memory
 abbrev pub IsPlain : StoreFault → Type 0
 IsPlain NoMemory = ⊥
 IsPlain Stopped = ⊥

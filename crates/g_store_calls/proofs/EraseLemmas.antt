@@ -1,4 +1,5 @@
 -- A file less.
+-- serves: erase (answers), GrantedLemmas
 use Rattle.std.proofs.Common.{◌≡◌, ℕ, zero, suc, ◌<◌, Bool, true, List, [], ◌∷◌, get_or, Option, Some, None, is_some, refl, sym, ◌∙◌, ap, arith, inl, inr, subst, All}
 use Rattle.std.specs.Prelude.{◌⊎◌, ◌==◌, Contains, IfSome, not}
 use Rattle.std.specs.FinMap.{get, get-from_entries}

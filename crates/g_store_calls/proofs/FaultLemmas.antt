@@ -1,4 +1,5 @@
--- Faults of a read of the disc, as a store tells them.
+-- Faults of a read of the disc, as a store reports them.
+-- serves: disc_bytes, AppendCodeLemmas
 use Rattle.std.proofs.Common.{◌≡◌, ℕ, ◌<◌, List, Result, Err, inl, inr, refl}
 use Rattle.std.specs.Prelude.{◌⊎◌}
 use Rattle.g_disc.specs.Disc.{ReadsByCause}

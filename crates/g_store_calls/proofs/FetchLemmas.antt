@@ -1,4 +1,5 @@
--- The answers of Fetch and Retrieve, whatever store disc and rack are in.
+-- The answers of Fetch and Retrieve, for any store that disc and rack belong to.
+-- serves: brought_bytes (back), fetch (answers, kind), retrieve (answers, kind)
 use Rattle.std.proofs.Common.{◌≡◌, ℕ, ◌<◌, ◌≤◌, Bool, true, false, List, [], length, Option, Some, None, Result, Ok, Err, refl, sym, ◌∙◌, ap, arith, inl, inr, subst}
 use Rattle.std.specs.Prelude.{◌⊎◌, Contains}
 use Rattle.std.proofs.lemmas.Bool.{true_from_ne_false}
@@ -52,7 +53,7 @@ use Rattle.g_store_calls.proofs.HereLemmas.{done_here, failed_here, replies_byte
 use Rattle.g_store_calls.proofs.TapeLemmas.{full_then, lost_then, starved_then, unread_then, waits_then}
 use Rattle.g_store_calls.proofs.WantLemmas.{Wants}
 
--- THE CALL reads this file, and its reply tells of its bytes
+-- the call reads this file, and its reply depends on the file's bytes
 pub record IsReader (o : OnlineFacts) (who : List ℕ) (call : StoreCall) (reply : List ℕ → StoreReply) (f : File) : Type 0 where
   pub wants : Wants o who call f
   pub brings_it : brings call ≡ true
@@ -127,7 +128,7 @@ replied_at : (s : StoreFacts) (who : List ℕ) (call : StoreCall) (reply : List 
 replied_at s who call reply f reader v right =
     reader.replied (λ (r : FileRec). v.text r.stamp) (texts_fit (AllTold s.online.disc.held (told_reels s.rack)) v s.online.contents right.files)
 
--- BROUGHT BACK, over one store
+-- BROUGHT BACK, in one store
 module _ (s : StoreFacts) (new : OnlineFacts) (after : Rack) (who : List ℕ) (call : StoreCall) (reply : List ℕ → StoreReply) (f : File) (c : TapeCopy) (unspent : s.spent ≡ false) (store : IsStore s)
     (plan : KeepsPlan s.dump) (reader : IsReader s.online who call reply f) (away : IsOnTape f.rec.number s.online f c) (keeps : KeepsDevices s.online new s.rack after) where
   abbrev Comes : Result (List ℕ) StoreFault → Type 0
@@ -220,7 +221,7 @@ module _ (s : StoreFacts) (new : OnlineFacts) (after : Rack) (who : List ℕ) (c
       (subst (λ (x : Rack). Answers s who call (Err NoMemory) (with_devices s.online x s)) (sym is.rack) (starved_then s s.rack who call unspent store (nothing_read s.rack) refl)))
   starved_or_back result (inr come) = comes_back result come
 
--- READ FROM THE DISC, over one store
+-- READ FROM THE DISC, in one store
 read_faults_alone : (o new : OnlineFacts) {P : Type 0} → new ≡ record o { disc = new.disc } → ReadsByCause P o.disc new.disc → new ≡ with_faults o new.disc.read_faults
 read_faults_alone o new same reads =
     same
@@ -270,7 +271,7 @@ module _ (s : StoreFacts) (new : OnlineFacts) (who : List ℕ) (call : StoreCall
       (replies_bytes s who call f unspent store reader.wants online reader.quiet reader.none plan text long bytes reply (λ v right. replied_at s who call reply f reader v right)))
   reads_disc (Err fault) read = read_by_fault fault read read.only
 
--- WHATEVER STORE they are in
+-- for any store that they belong to
 record Back (o new : OnlineFacts) (before after : Rack) (who : List ℕ) (call : StoreCall) (reply : List ℕ → StoreReply) (f : File) (c : TapeCopy) (result : Result (List ℕ) StoreFault) : Type 0 where
   reader : IsReader o who call reply f
   away : IsOnTape f.rec.number o f c
@@ -292,7 +293,7 @@ module _ (o new : OnlineFacts) (before after : Rack) (who : List ℕ) (call : St
       (reads_disc s new who call reply f unspent store plan (subst (λ (x : OnlineFacts). IsReader x who call reply f) (sym at) reader) online wants_them result
       (subst (λ (x : OnlineFacts). HasReadDisc f x new result) (sym at) read))
 
--- a file that is on the disc, and no device is asked
+-- a file that is on the disc, and no device is used
 pub there_over : (o : OnlineFacts) (rack : Rack) (who : List ℕ) (call : StoreCall) (reply : StoreReply) (f : File) → IsReader o who call (λ text. reply) f → f.online ≡ true
     → AnswersOver who call o rack (Ok reply) o rack
 there_over o rack who call reply f reader online s at on unspent store plan =

@@ -1,4 +1,5 @@
 -- What a call is granted, of the records of the filestore, and how it is answered by a change of them.
+-- serves: answer, append (answers, kind), budget (answers, kind), closed_file, erase (answers, kind), fetch (answers, kind), and 11 more
 use Rattle.std.proofs.Common.{◌≡◌, ℕ, true, List, Option, Some, None, Result, Ok, Err, IfErr, IfOk, refl, sym, ap, subst, ◌∙◌}
 use Rattle.std.specs.List.{Contains}
 use Rattle.std.specs.Result.{result_err}
@@ -78,7 +79,7 @@ pub named_of : (users : List UserRec) (files : List FileRec) (who : List ℕ) (p
 named_of users files who path number full old at is =
     subst (λ (r : FileRec). IsFileNamed users files who path r full) (sym (is at.rec at.there at.number_is)) (record { there = at.there; name_is = at.name_is; named = at.named })
 
--- THE NAME that a Put gives for output
+-- THE NAME that a Put denotes for output
 module _ (o : OnlineFacts) (live : o.live ≡ true) (tied : IsTied o) (who : List ℕ) (path : Path) (bytes : List ℕ) (number : Option ℕ) (full : Full)
     (granted : Grants o who (Put path bytes) (Output number full)) where
   pub output_called : ForTree o.contents.users (recs_in o.contents) (λ t. full ≡ output_name t who path)

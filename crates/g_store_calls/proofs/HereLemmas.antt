@@ -1,4 +1,5 @@
--- A call that wants a file which is on the disc: its bytes are read there, or no device is asked.
+-- A call that needs a file which is on the disc: its bytes are read there, or no device is used.
+-- serves: FetchLemmas
 use Rattle.std.proofs.Common.{◌≡◌, ℕ, ◌<◌, Bool, true, false, List, length, None, Ok, Err, refl, sym, ◌∙◌, ap, arith, inl, subst}
 use Rattle.std.specs.Prelude.{◌||◌, not, if◌then◌else◌}
 use Rattle.std.specs.Option.{ForSome}
@@ -94,7 +95,7 @@ module _ (s : StoreFacts) (who : List ℕ) (call : StoreCall) (f : File) (unspen
     did = did v;
   }
 
-  -- a view of which the reply tells
+  -- a view whose state gives the reply
   pub record Replies (reply : StoreReply) (u : State) : Type 0 where
     pub view : View
     pub is : IsSeen view
@@ -116,7 +117,7 @@ module _ (s : StoreFacts) (who : List ℕ) (call : StoreCall) (f : File) (unspen
         steps = leads_here r.view r.is reply r.replied (stays s s.rack who call unspent store (nothing_read s.rack) (up r.view) stands_now);
       })
 
-  -- with whatever the store's own view says
+  -- for anything that the store's own view says
   pub replies_plainly : (reply : StoreReply) → ((v : View) → IsSeen v → reply ≡ reply_to (held v).tree who call) → (u : State) → StandsForState s u → Replies reply u
   replies_plainly reply replied u here =
       let sn = seen s u unspent here in record { view = sn.view; is = sn.is; opens = sn.opens; told = λ t. sym sn.state_is; replied = replied sn.view sn.is }

@@ -1,4 +1,5 @@
--- Answers are of their call's kind; and an answer over the disc alone is one over disc and rack.
+-- Answers are of their call's kind; and an answer that concerns only the disc is one that concerns disc and rack.
+-- serves: answer (answers, kind), list (kind), of_file (answers, kind), trap_check (kind), GrantedLemmas, RecordLemmas, SetLemmas, TellLemmas, TrapLemmas
 use Rattle.std.proofs.Common.{◌≡◌, ℕ, true, List, Some, Result, Ok, Err, refl, sym, inl, inr, subst}
 use Rattle.std.specs.Prelude.{◌⊎◌, not}
 use Rattle.std.proofs.lemmas.Bool.{false≢true}
@@ -47,7 +48,7 @@ pub settled_applied : (change : Change) (old new : OnlineFacts) (call : StoreCal
 settled_applied change old new call reply kind (Ok u) applied = record { reply = kind; no_wait = λ serial same. let no : ⊥ = cc in no }
 settled_applied change old new call reply kind (Err fault) applied = no_wait_of call fault applied.only
 
--- TOLD
+-- calls that only report
 pub settled_starved : (call : StoreCall) → IsSettled call (Err NoMemory)
 settled_starved call = no_wait_of call NoMemory (inr refl)
 
@@ -63,7 +64,7 @@ settled_told users files next who call reply tells replied = record {
   no_wait = λ serial same. let no : ⊥ = cc in no;
 }
 
--- WHERE NO TAPE IS ASKED FOR, whatever the rack
+-- if no tape is needed, for any rack
 pub kind_of : (call : StoreCall) (rack : Rack) (answer : Result StoreReply StoreFault) → IsSettled call answer → IsKind call rack answer
 kind_of call rack answer is = record { reply = is.reply; waits = λ serial same. absurd (is.no_wait serial same); may = λ serial same. absurd (is.no_wait serial same) }
 

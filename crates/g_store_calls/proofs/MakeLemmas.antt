@@ -1,4 +1,5 @@
 -- The making of a new version: that the filestore allows it, and how it is answered.
+-- serves: make_version, AppendPartLemmas, RoomyLemmas
 use Rattle.std.proofs.Common.{◌≡◌, ℕ, ◌<◌, ◌≤◌, ◌+◌, Bool, true, false, List, ◌∷◌, get_or, length, None, Err, is_some, refl, sym, ◌∙◌, ap, arith, inl, inr, subst, All}
 use Rattle.std.specs.Prelude.{◌⊎◌, ◌==◌, ◌&&◌, Contains, filter, nat_lt}
 use Rattle.std.proofs.lemmas.Bool.{cases_Bool, cond-false, cond-true, eqb-true, false≢true, ltb-true}
@@ -29,7 +30,7 @@ use Rattle.g_store_calls.specs.Versions.{HasMade, HasRoom, IsNext}
 use Rattle.g_store_calls.proofs.AddLemmas.{or_false}
 use Rattle.g_online.proofs.OffRuleLemmas.{committed_rules}
 
--- WHAT MAY GO OFF the disc
+-- WHAT MAY BE TAKEN OFF the disc
 four : (a b c d : Bool) → (a && (b && c && d)) ≡ true → (b ≡ true) × (c ≡ true) × (d ≡ true)
 four true true true true is = (refl, refl, refl)
 four true true true false is = absurd (false≢true is)
@@ -71,7 +72,7 @@ module _ (o : OnlineFacts) (take : List ℕ) (rules : KeepsRules o.contents) (ar
   all_lie : All Lies (taken_off take files)
   all_lie = All-map Lies (offline_in take) files (λ k d within. lies_off (get_or files k d) (Contains-get_or files k d within) (rules.lie k d within))
 
--- THE NEW VERSION may be put in
+-- THE NEW VERSION may be inserted
 module _ (o : OnlineFacts) (bytes : List ℕ) (r : FileRec) (take : List ℕ) (live : o.live ≡ true) (tied : IsTied o) (next : IsNext o bytes r) (are : AreUnjammable o.contents.files take) where
   abbrev file_by : Bool → File
   file_by told = record { rec = r; online = true; bytes = told_bytes told bytes }

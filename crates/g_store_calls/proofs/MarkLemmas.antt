@@ -1,4 +1,5 @@
--- Users who are marked stay so.
+-- Marked users stay marked.
+-- serves: AddLemmas, BudgetLemmas, EraseLemmas, SetLemmas, VersionLemmas
 use Rattle.std.proofs.Common.{◌≡◌, ℕ, true, List, [], ◌∷◌, Option, Some, None, sym, ◌∙◌, ap, inl, inr, subst}
 use Rattle.std.specs.Prelude.{◌⊎◌, IfSome}
 use Rattle.std.proofs.lemmas.Bool.{cases_eq}
@@ -22,7 +23,7 @@ pub grows_all : (ns numbers : List ℕ) → Grows numbers (marked ns numbers)
 grows_all [] numbers m is = is
 grows_all (n ∷ ns) numbers m is = grows_with n (marked ns numbers) m (grows_all ns numbers m is)
 
--- who is marked: changed, and touched where a dump is open
+-- a marked user is changed, and touched if a dump is open
 open_grows : (ns : List ℕ) (touched now : List ℕ) (dump : Option DumpFacts) → IfSome dump (λ d. now ≡ marked ns touched) → IfSome dump (λ d. Grows touched now)
 open_grows ns touched now None is = tt
 open_grows ns touched now (Some d) is = λ m has. ap (λ (l : List ℕ). holds l m) is ∙ grows_all ns touched m has

@@ -1,4 +1,5 @@
--- The record of a new version: in the place of the file of its number, or of a new file, the records keep their rules.
+-- The record of a new version: in the place of the file of its number, or of a new file, the records satisfy their rules.
+-- serves: first_of (version), next_of (version), version_of (next), AppendCallLemmas, AppendPartLemmas
 use Rattle.std.proofs.Common.{◌≡◌, ◌≢◌, ℕ, zero, suc, ◌<◌, ◌≤◌, ◌^◌, Bool, true, List, [], ◌∷◌, get_or, length, Option, Some, None, is_some, refl, sym, ◌∙◌, ap, arith, inl, inr, subst, All}
 use Rattle.std.specs.Prelude.{◌⊎◌, AllPairs, Contains, IfSome, filter, nat_lt}
 use Rattle.std.specs.FinMap.{get, get-from_entries, len, nat_cmp-IsAntisymmetric}
@@ -30,8 +31,7 @@ use Rattle.g_laws_store.proofs.RecordLemmas.{apart_in, from_filter, pairs_append
 use Rattle.g_migrate.proofs.MigrationLemmas.{rules_here}
 use Rattle.g_store_calls.specs.Versions.{IsNext}
 
--- PAIRS of a list behind another
--- what passes a filter
+-- pairs of a list and its suffix that pass a filter
 passed : {A : Type 0} (p : A → Bool) (xs : List A) (x : A) → Contains (filter p xs) x → p x ≡ true
 passed p xs x there = All-contains (λ y. p y ≡ true) (filter p xs) x (filter_passes p xs) there
 
@@ -54,7 +54,7 @@ few_of files is = by_length (cases_lt 1024 (length files))
         let most = is.below 1024 d more in
         let no : ⊥ = omega (arith, least, most) in absurd no
 
--- A RECORD AMONG RECORDS: what it has to keep to itself, and with those of other numbers
+-- A RECORD AMONG RECORDS: which rules it has to satisfy on its own, and which together with those of other numbers
 pub record Fits (users : List UserRec) (files : List FileRec) (r : FileRec) : Type 0 where
   pub file : IsFile r
   pub number : r.number < 1024
@@ -256,7 +256,7 @@ next_made o live tied early len short files number file copied stamp same it cop
     subst (λ (r : FileRec). IsVersionOf o full r) (λ i. next_rec (sym copy i) (sym at i) len)
     (next_version o (rules_here o live tied) early len short file there full called)
 
--- what is asked of the record where it is put in
+-- what is required of the record that is inserted
 pub is_next : (o : OnlineFacts) (bytes : List ℕ) (full : Full) (r : FileRec) (len : ℕ) → IsVersionOf o full r → o.contents.head.next_stamp < 2 ^ 62 → r.len ≡ len → len ≡ length bytes → IsNext o bytes r
 is_next o bytes full r len version early is long = record { stamp = version.stamp; early = early; tape = version.tape; len = is ∙ long; rules = version.rules }
 

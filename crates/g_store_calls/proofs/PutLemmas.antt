@@ -1,4 +1,5 @@
 -- Put: what the path names for output, that the record is one of a new version, and that the call is answered as the whole store answers it.
+-- serves: first_of, put (answers, kind), version_of (next, version)
 use Rattle.std.proofs.Common.{◌≡◌, ℕ, ◌<◌, ◌≤◌, ◌+◌, ◌^◌, Bool, true, false, List, ◌∷◌, length, Option, Some, None, Result, Ok, Err, is_some, unwrap_or, refl, sym, ◌∙◌, ap, arith, subst}
 use Rattle.std.specs.Prelude.{◌==◌, ◌&&◌, IfSome, is_none, nat_le, not}
 use Rattle.std.specs.FinMap.{len}
@@ -103,7 +104,7 @@ module _ (users : List UserRec) (files : List FileRec) (next : ℕ) (who : List 
             let not_last : not (newest t who path == 4095) ≡ true = both_on (is_none path.generation) (newest t who path == 4095) off.1.1.0 (ap is_none given) in
             subst (λ (m : ℕ). (1 ≤ m) × (m ≤ 4095)) (sym it) (next_one (newest t who path) most not_last)
 
--- WHAT IS KNOWN of a call that is granted, whoever makes it by whatever path
+-- what is known of a call that is granted, for any caller and any path
 pub record IsGrantedPut (o : OnlineFacts) (number : Option ℕ) (full : Full) (bytes : List ℕ) : Type 0 where
   pub there : (n : ℕ) → number ≡ Some n → name_of_file o.contents.users (recs_in o.contents) n ≡ Some full
   pub free : number ≡ None → number_of o.contents.users (recs_in o.contents) full ≡ None
@@ -230,7 +231,7 @@ module _ (s : StoreFacts) (new : OnlineFacts) (who : List ℕ) (path : Path) (by
   made_answers (Err NoMemory) m = same_answers m.tied m.told NoMemory m.makes (calmly s who (Put path bytes) (Err NoMemory) unspent store tt (λ u here. here))
   made_answers (Err fault) m = absurd m.makes
 
--- WHATEVER THE FILESTORE ANSWERED
+-- for any answer of the filestore
 pub put_answers : (o new : OnlineFacts) (who : List ℕ) (path : Path) (bytes : List ℕ) (full : Full) (r : FileRec) → IsPut o who path bytes full r
     → (result : Result (Unit {0}) StoreFault) → HasMade r bytes o new result → (rack : Rack) → AnswersOver who (Put path bytes) o rack (answer_with (Made full) result) new rack
 put_answers o new who path bytes full r is result made rack s at on unspent store keeps =

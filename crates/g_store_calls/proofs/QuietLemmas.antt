@@ -1,4 +1,5 @@
--- A store whose devices were only read stands for what it stood for, and keeps what it kept.
+-- A store whose devices were only read represents what it represented, and preserves its invariant.
+-- serves: AppendLemmas, AppendPartLemmas, AppendedLemmas, HereLemmas
 use Rattle.std.proofs.Common.{◌≡◌, ℕ, Bool, true, false, List, Result, Err, refl, sym, ◌∙◌, ap, subst}
 use Rattle.std.specs.Prelude.{OnOk, not}
 use Rattle.std.proofs.lemmas.Bool.{false≢true}
@@ -55,7 +56,7 @@ module _ (s : StoreFacts) (new : OnlineFacts) (after : Rack) (disc_fault tape_fa
   pub live_then : new.live ≡ true
   live_then = ap (λ (x : OnlineFacts). x.live) online_is ∙ store.live unspent
 
-  -- the store behind the reads
+  -- the store after the reads
   abbrev pub read_store : StoreFacts
   read_store = record s { online = read_online; rack = after; spent = false }
 
@@ -104,7 +105,7 @@ module _ (s : StoreFacts) (new : OnlineFacts) (after : Rack) (disc_fault tape_fa
             );
       }
 
-  -- THE STEP behind the reads, at a view of the store
+  -- the step after the reads, at a view of the store
   pub leads_read : (who : List ℕ) (call : StoreCall) (answer : Result StoreReply StoreFault) (outcome : Outcome) → Raised outcome s read_store → (u : State) → StandsForState s u
       → ((v : View) → IsView o.disc.held (told_reels s.rack) o.contents v → (let up : State = state_up v (told_reels s.rack) o s.dump in CallStep up (held_in v o) who call outcome answer up))
       → ((v : View) → IsView o.disc.held (told_reels s.rack) o.contents v → (let up : State = state_up v (told_reels s.rack) o s.dump in OnOk answer (Did up (held_in v o) who call s read_store)))
@@ -132,7 +133,7 @@ asked_for there back there' back' asked = record {
   rose = λ s. asked.rose (back' s);
 }
 
--- the count of failed reads alone moves
+-- only the count of failed reads changes
 pub faults_cause : {P Q : Type 0} (x : DiscState) (n : ℕ) → ((P → ⊥) → n ≡ x.read_faults) → (P → Rose x.read_faults n) → (Q → ⊥) → Causes P Q x (record x { read_faults = n })
 faults_cause x n kept rose never = record {
   size = refl;

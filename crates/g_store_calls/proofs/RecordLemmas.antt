@@ -1,4 +1,5 @@
--- A call that changes records by one commit, whatever store the filestore is in.
+-- A call that changes records by one commit, for any store that the filestore belongs to.
+-- serves: AddLemmas, BudgetLemmas, EraseLemmas, GrantedLemmas, RenameLemmas, SetLemmas, TrapLemmas, VersionLemmas, crates above
 use Rattle.std.proofs.Common.{◌≡◌, ◌≢◌, ℕ, ◌<◌, ◌≤◌, ◌+◌, Bool, true, false, List, [], ◌∷◌, length, Option, Some, None, Result, Ok, Err, refl, sym, ◌∙◌, ap, arith, inl, inr, subst, true≢false, All}
 use Rattle.std.specs.Prelude.{◌⊎◌, ◌||◌, ◌&&◌, IfSome, if◌then◌else◌, is_some, nat_lt, not, Contains}
 use Rattle.std.proofs.lemmas.Bool.{false≢true, le-ltb}
@@ -102,7 +103,7 @@ stands_spent : (o : OnlineFacts) (dump : Option DumpFacts) (u : State) (rack : R
 unfolding Stands
 stands_spent o dump u rack is = let devices : Stands true o dump u (told_reels rack) = is in back true o dump u rack devices
 
--- what devices stand for whose disc holds these contents
+-- what devices represent if the disc holds these contents
 pub devices_hold : (size : ℕ) (held : Option (List (List ℕ))) (reels : List Reel) (u : State) (v : View) (c : Contents) (blocks : List (List ℕ)) → held ≡ Some blocks → Holds blocks c
     → IsView held reels c v → u ≡ state_down v reels size (Some c) → DevicesStandFor size held reels u
 devices_hold size held reels u v c blocks has holds seen is = record {
@@ -242,7 +243,7 @@ module _ (s : StoreFacts) (new : OnlineFacts) (who : List ℕ) (call : StoreCall
           did = subst (λ (t : State). Did t (held_in v o) who call s after) (sym sn.state_is) (did up (held_in v o));
         }
 
-    -- what a store keeps
+    -- the invariant of a store
     open_kept : (d : DumpFacts) → IsOpen d o s.rack → IsOpen d new s.rack
     open_kept d open_is =
         let same : new.contents ≡ e = contents_are ∙ ap (λ (b : Bool). committed b e) (ap is_some open_is.pinned) in
@@ -361,7 +362,7 @@ module _ (s : StoreFacts) (new : OnlineFacts) (who : List ℕ) (call : StoreCall
     leads_stopped u here told =
         let (blocks, held) = some_of new.disc.held (tells ∙ told.disc) in leads_one u (seen s u unspent here) blocks held (stopped.holds blocks held).one
 
-    -- whichever of the two the disc holds, it belongs
+    -- whichever contents the disc holds, the old or the new, it belongs to the rack
     committed_belongs : (text : ℕ → List ℕ) (shelf : ℕ → List Dump) (b : Bool) → IsQuiet shelf reels e → DiscBelongs text shelf reels e → DiscBelongs text shelf reels (committed b e)
     committed_belongs text shelf true quiet belongs = belongs
     committed_belongs text shelf false quiet belongs = intents_belong.dropped text shelf reels e quiet belongs
@@ -410,7 +411,7 @@ module _ (s : StoreFacts) (new : OnlineFacts) (who : List ℕ) (call : StoreCall
       spent = (λ then_. refl, λ is_err. refl);
     }
 
--- WHATEVER THE FILESTORE ANSWERED
+-- for any answer of the filestore
 module _ (o new : OnlineFacts) (who : List ℕ) (call : StoreCall) (change : Change) (e : Contents) (owners : List ℕ) (reply : StoreReply) (is : IsRecorded o who call change e owners reply) where
   abbrev At : StoreFacts → Type 0
   At s = IsRecorded s.online who call change e owners reply

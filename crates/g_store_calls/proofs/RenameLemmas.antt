@@ -1,4 +1,5 @@
 -- A file's other name.
+-- serves: rename (answers), renamed_file
 use Rattle.std.proofs.Common.{◌≡◌, ℕ, ◌<◌, true, List, [], ◌∷◌, length, Option, None, is_some, refl, sym, ◌∙◌, ap, subst, All}
 use Rattle.std.specs.Prelude.{Contains, not}
 use Rattle.std.specs.Option.{option_map}
@@ -32,7 +33,7 @@ use Rattle.g_store_calls.proofs.TellLemmas.{granted_off}
 abbrev called : List ℕ → Full → Full
 called to full = record full { local = to }
 
--- WHERE THE CALL ISN'T REFUSED
+-- IF THE CALL ISN'T REFUSED
 module _ (users : List UserRec) (files : List FileRec) (next : ℕ) (who : List ℕ) (path : Path) (to : List ℕ) (is : IsRecords users files)
     (granted : RefusesAs users files next who (Rename path to) None) where
   abbrev t : Tree

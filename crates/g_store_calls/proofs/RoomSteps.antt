@@ -1,4 +1,6 @@
--- The step of a call that takes room on the disc, where files are taken off for it: done, refused for want of room, or stopped.
+-- The step of a call that takes room on the disc, if files are taken off for it: done, refused for lack of room, or
+-- stopped.
+-- serves: VersionLemmas
 use Rattle.std.proofs.Common.{◌≡◌, ℕ, ◌<◌, ◌≤◌, Bool, true, false, List, None, Ok, Err, refl, ap}
 use Rattle.std.specs.Prelude.{◌||◌, ◌&&◌, not}
 use Rattle.std.proofs.lemmas.Bool.{le-ltb, lt-ltb}

@@ -1,4 +1,5 @@
--- ROOM ENOUGH: what a change needs is free, so its only refusals are a stop and want of memory.
+-- There is enough room: what a change needs is free, so it can only be stopped or run out of memory.
+-- serves: append_from_tape, append_here, applied, drop_record, make_version, put_behind, put_record, put_version
 use Rattle.std.proofs.Common.{◌≡◌, ℕ, ◌+◌, ◌-◌, ◌<◌, ◌≤◌, List, ◌++◌, length, length-append, Result, Err, refl, sym, ◌∙◌, ap, arith, inl, inr, subst}
 use Rattle.std.specs.Prelude.{◌⊎◌, ◌↔◌, IsErrOf}
 use Rattle.g_base.specs.Block.{blocks_for}
@@ -107,7 +108,7 @@ roomy o mid take need room len bytes slice need_is slice_is without enough same 
     subst (λ (x : OnlineFacts). blocks_for (len + length bytes) ≤ room_with (taken_off take x.contents.files) x) (sym same)
     (subst (λ (s : ℕ). blocks_for (len + length bytes) ≤ s - 2177 - online_blocks off - pinned_blocks o.pins off) (sym size) here)
 
--- and of the bytes that are put behind
+-- and for the appended bytes
 pub roomy_behind : (o : OnlineFacts) (made : FileRec) (take : List ℕ) (len : ℕ) (old bytes text : List ℕ) → blocks_for (len + length bytes) ≤ room_with (taken_off take o.contents.files) o → length old ≡ len → text ≡ old ++ bytes
     → need_of (PutFile made text take) ≤ room_for (PutFile made text take) o
 roomy_behind o made take len old bytes text enough long is =

@@ -1,4 +1,5 @@
 -- What a store that is up is seen as: its state is that of a right view.
+-- serves: AheadLemmas, AppendLemmas, AskedLemmas, BroughtLemmas, CalmLemmas, HereLemmas, QuietLemmas, RecordLemmas, TapeLemmas, VersionLemmas, crates above
 use Rattle.std.proofs.Common.{◌≡◌, Bool, false, Option, sym, subst}
 use Rattle.g_store_model.specs.State.{State}
 use Rattle.g_disc_contents.specs.Facts.{OnlineFacts}

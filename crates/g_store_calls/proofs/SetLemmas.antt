@@ -1,4 +1,5 @@
 -- Another record of a file, of the same version.
+-- serves: rename, trap_go, trap_stop, RenameLemmas, TrapLemmas
 use Rattle.std.proofs.Common.{◌≡◌, ◌≢◌, ℕ, ◌<◌, ◌≤◌, Bool, true, false, List, [], ◌∷◌, get_or, length, map, Option, Some, None, is_some, refl, sym, ◌∙◌, ap, arith, inl, inr, subst, All}
 use Rattle.std.specs.Prelude.{◌⊎◌, ◌==◌, AllPairs, Contains, IfSome, if◌then◌else◌}
 use Rattle.std.proofs.lemmas.Bool.{cases_eq, cond-false, cond-true, eq-eqb, ne_eqb}
@@ -50,7 +51,7 @@ use Rattle.g_store_calls.proofs.RecordLemmas.{IsRecorded, IsFileNamed}
 use Rattle.g_store_calls.proofs.KindLemmas.{RepliesAs}
 use Rattle.g_online.proofs.OffRuleLemmas.{committed_rules}
 
--- WITH ANOTHER RECORD in the place of one, of a name that no other file has, the records keep their rules
+-- WITH ANOTHER RECORD in the place of one, of a name that no other file has, the records satisfy their rules
 module _ (users : List UserRec) (files : List FileRec) (is : IsRecords users files) (r old : FileRec) (there : Contains files old) (number : r.number ≡ old.number) where
   abbrev after : List FileRec
   after = map (set_one r) files
@@ -258,7 +259,7 @@ module _ (o : OnlineFacts) (who : List ℕ) (path : Path) (r : FileRec) (live : 
             }));
       }
 
-  -- THE CALL is the step's, where its own part is
+  -- THE CALL is the step's, if its own part is
   pub record_of : (f : File) → f.rec ≡ set.old → IsRecordOf o f.rec r
   record_of f rec = record {
     number = set.number ∙ ap (λ (q : FileRec). q.number) (sym rec);

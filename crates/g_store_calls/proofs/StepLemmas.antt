@@ -1,4 +1,5 @@
--- The step of a call, from what its tests say: a refusal before room is looked for, one behind it, or the call is done.
+-- The step of a call, from what its tests say: a refusal before room is computed, a later one, or the call is done.
+-- serves: AppendLemmas, BackLemmas, CalmLemmas, RecordLemmas, RoomSteps
 use Rattle.std.proofs.Common.{◌≡◌, ℕ, Bool, true, false, List, [], ◌∷◌, Option, Some, None, Result, Ok, Err, refl, sym, ap, arith, subst}
 use Rattle.std.specs.Prelude.{◌&&◌, ◌||◌, MatchOption, is_some, nat_lt, not, unwrap_or}
 use Rattle.std.proofs.lemmas.Bool.{le-ltb}
@@ -36,7 +37,7 @@ module _ (u : State) (k : Holding) (who : List ℕ) (call : StoreCall) (o : Outc
   pub no_early : fault_of k.tree who call ≡ None → waits ≡ false → reads_tape ≡ false → early u k who call o ≡ None
   no_early granted going kept = λ i. earlier (granted i) (going i) (kept i)
 
-  -- of a file on the disc, by a call that wants no room
+  -- for a file on the disc, by a call that needs no room
   pub here_early : fault_of k.tree who call ≡ None → is_offline u k who call ≡ false → is_tape_read o ≡ false → early u k who call o ≡ None
   here_early granted here kept = no_early granted (ap (λ (b : Bool). b && not (is_mounted u (reel_of u k who call))) here) (ap (λ (b : Bool). b && is_offline u k who call) kept)
 

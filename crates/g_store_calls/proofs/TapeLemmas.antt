@@ -1,5 +1,6 @@
--- A store whose tapes were read, and in which nothing else has changed; and a call that wants a file whose bytes are on tape alone: it waits,
--- its reel can't be read, its copy is lost, or the disc has no room for it.
+-- A store whose tapes were read, and in which nothing else has changed; and a call that needs a file whose bytes are only
+-- on tape: it waits, its reel can't be read, its copy is lost, or the disc has no room for it.
+-- serves: BroughtLemmas, FetchLemmas, HereLemmas
 use Rattle.std.proofs.Common.{◌≡◌, ℕ, ◌<◌, ◌≤◌, Bool, true, false, List, Some, None, Result, Err, refl, sym, ◌∙◌, ap, arith, inl, inr, subst}
 use Rattle.std.specs.Prelude.{◌⊎◌, not, if◌then◌else◌}
 use Rattle.std.proofs.lemmas.Bool.{and_from, false≢true}
@@ -144,7 +145,7 @@ module _ (s : StoreFacts) (who : List ℕ) (call : StoreCall) (f : File) (c : Ta
       pub room_here : room ≡ room_until u k who call plan.until
       room_here = unjam_is.reached v (told_reels s.rack) s.online s.dump who call (blocks_for f.rec.len) take room are_here plan
 
--- THE REFUSALS of a file that is on tape alone
+-- the refusals for a file that is only on tape
 module _ (s : StoreFacts) (after : Rack) (who : List ℕ) (call : StoreCall) (f : File) (c : TapeCopy) (unspent : s.spent ≡ false) (store : IsStore s) (only : OnlyReads s.rack after)
     (wants : Wants s.online who call f) (offline : f.online ≡ false) (copy : f.rec.tape ≡ Some c) where
   abbrev read : StoreFacts

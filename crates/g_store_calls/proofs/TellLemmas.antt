@@ -1,4 +1,5 @@
--- What is told of records.
+-- What is reported of records.
+-- serves: budget, list (answers), listing, made_user, modes_of, new_user, number_of_user, trap_check (answers), AddLemmas, AppendCallLemmas, and 5 more
 use Rattle.std.proofs.Common.{◌≡◌, ℕ, Bool, true, false, List, [], ◌∷◌, length, map, filter, Option, Some, None, Result, Ok, Err, is_some, unwrap_or, refl, sym, ◌∙◌, ap, arith, inl, inr, subst, ◌<◌, ◌≤◌, All}
 use Rattle.std.specs.Prelude.{◌||◌, Contains, IfOk, IfSome, if◌then◌else◌, not, ◌⊎◌, nat_le, nat_lt}
 use Rattle.std.specs.FinMap.{entries, get, get-from_entries}
@@ -81,11 +82,11 @@ told o who (ListFiles user) live tells reply granted replied = told_by o who (Li
 told o who (TrapCheck path user) live tells reply granted replied = told_by o who (TrapCheck path user) live (λ u k. refl) (λ u k. refl) (λ u k. refl) reply granted replied
 told o who call live tells reply granted replied = absurd (false≢true tells)
 
--- WHO AND WHAT IS THERE where the plain step doesn't refuse
+-- WHICH USERS AND FILES EXIST if the plain step doesn't refuse
 no_fault : (x : StoreFault) → ◌≡◌ {A = Option StoreFault} None (Some x) → ⊥
 no_fault x is = cc
 
--- none of the checks holds
+-- no check holds
 abbrev pub AreOff : Checks → Type 0
 AreOff [] = Unit {0}
 AreOff (c ∷ cs) = (not c.0 ≡ true) × AreOff cs

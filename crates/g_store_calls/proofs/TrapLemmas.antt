@@ -1,4 +1,5 @@
 -- A file's other traps.
+-- serves: closed_file, opened_file, trap_go (answers), trap_stop (answers)
 use Rattle.std.proofs.Common.{◌≡◌, ℕ, ◌<◌, ◌==◌, Bool, true, false, List, [], ◌∷◌, length, filter, None, is_none, nat_le, refl, sym, ◌∙◌, ap, arith, subst, All, Some}
 use Rattle.std.specs.Prelude.{◌&&◌, Contains, if◌then◌else◌, not}
 use Rattle.std.specs.Ordering.{nat_cmp}
@@ -41,7 +42,7 @@ use Rattle.g_store_model.specs.State.{Holding, State}
 use Rattle.g_store_model.specs.CallStep.{is_offline, need, writes}
 use Rattle.g_store_calls.proofs.KindLemmas.{RepliesAs}
 
--- WHO STANDS IN THE TRAPS behind a change: who stood there, and the user
+-- which users are in the traps after a change: those who were there, and this user
 abbrev Pairs : Type 0
 Pairs = List (ℕ × ℕ)
 
@@ -66,7 +67,7 @@ all_with P t owner user modes other mine all = by_owner (user == owner) mine
     by_owner true has = all
     by_owner false has = by_empty (modes == 0) (has refl)
 
--- nobody of them is the owner, by a test and one by one
+-- none of them is the owner, by a test and one by one
 lacks_each : (owner : ℕ) (es : Pairs) → lacks owner es ≡ true → All (λ pair. not (pair.0 == owner) ≡ true) es
 lacks_each owner [] is = All-nil (λ pair. not (pair.0 == owner) ≡ true)
 lacks_each owner (e ∷ es) is = All-cons (λ pair. not (pair.0 == owner) ≡ true) e es (grind (arith, nat_tests)) (lacks_each owner es (grind (arith, nat_tests)))
@@ -121,7 +122,7 @@ module _ (users : List UserRec) (files : List FileRec) (who : List ℕ) (path : 
     traps = ap (λ (q : FileRec). q.traps) made ∙ traps_are;
   }
 
--- where the traps were copied before
+-- if the traps were copied before
 pub trapped_of : (users : List UserRec) (files : List FileRec) (who : List ℕ) (path : Path) (user : List ℕ) (call : StoreCall) (old r : FileRec) (full : Full) (number : ℕ) (was traps : TrapList)
     → IsRecords users files → IsFileNamed users files who path old full → number < length users → name_of users number ≡ user → was ≡ old.traps
     → traps ≡ with_modes was old.owner number (modes_by call (modes_of was old.owner number)) → IsOthers traps.others → traps.owner < 32 → r ≡ record old { traps = traps }
@@ -130,7 +131,7 @@ trapped_of users files who path user call old r full number was traps is at with
     trapped_made users files who path user call old r full number traps is at within user_is
     (subst (λ (w : TrapList). traps ≡ with_modes w old.owner number (modes_by call (modes_of w old.owner number))) copied traps_are) others owner made
 
--- WHERE THE CALL ISN'T REFUSED
+-- IF THE CALL ISN'T REFUSED
 module _ (users : List UserRec) (files : List FileRec) (next : ℕ) (who : List ℕ) (path : Path) (user : List ℕ) (modes : ℕ) (is : IsRecords users files) where
   abbrev t : Tree
   t = tree_of users files zeros next

@@ -1,5 +1,6 @@
--- A call that makes a new version, by one commit or two, whatever the call: the state behind it, what was written, and that disc and rack go
--- on belonging together.
+-- A call that creates a new version, by one commit or two, for any such call: the state afterwards, what was written, and
+-- that disc and rack still belong together.
+-- serves: AppendedLemmas, PutLemmas
 use Rattle.std.proofs.Common.{◌≡◌, ℕ, ◌<◌, ◌≤◌, ◌+◌, Bool, true, false, List, [], ◌∷◌, get_or, length, map, Option, Some, None, Ok, Err, is_some, refl, sym, ◌∙◌, ap, arith, inl, inr, subst, true≢false, All}
 use Rattle.std.specs.Prelude.{◌⊎◌, ◌||◌, ◌&&◌, Contains, IfSome, if◌then◌else◌, nat_lt, not}
 use Rattle.std.specs.Option.{option_map}
@@ -68,7 +69,7 @@ use Rattle.g_store_calls.proofs.RoomSteps.{step_full, step_roomy, step_stopped}
 use Rattle.g_store_calls.proofs.SeenLemmas.{stands}
 use Rattle.g_store_calls.proofs.RecordLemmas.{devices_hold}
 
--- WHAT A VIEW SAYS OF THE CALL: the plain step grants it, it needs so many blocks, and waits for no reel
+-- what a view says of the call: the plain step grants it, it needs this many blocks, and waits for no reel
 pub record IsMet (v : View) (reels : List Reel) (o : OnlineFacts) (dump : Option DumpFacts) (who : List ℕ) (call : StoreCall) (blocks : ℕ) : Type 0 where
   pub granted : fault_of (held_in v o).tree who call ≡ None
   pub needs : need (state_up v reels o dump) (held_in v o) who call ≡ blocks
@@ -84,7 +85,7 @@ most_by n m r x one two most = omega (arith, one, two, most)
 turned : (n m b : ℕ) → n ≡ m → m + b ≡ b + n
 turned n m b same = omega (arith, same)
 
--- TOO FEW BLOCKS, also without all that may go off the disc
+-- TOO FEW BLOCKS, even without everything that may be taken off the disc
 module _ (s : StoreFacts) (unspent : s.spent ≡ false) (store : IsStore s) (keeps : KeepsPlan s.dump) (who : List ℕ) (call : StoreCall) (blocks : ℕ) (take : List ℕ) (room : ℕ)
     (plan : IsUnjamPlan blocks s.online take room) (short : room < blocks)
     (met : (v : View) → IsView s.online.disc.held (told_reels s.rack) s.online.contents v → IsMet v (told_reels s.rack) s.online s.dump who call blocks) where
@@ -415,7 +416,7 @@ module _ (s : StoreFacts) (new : OnlineFacts) (full : Full) (bytes : List ℕ) (
           some_of None is = absurd (false≢true is)
           some_of (Some y) is = (y, refl)
 
-  -- WHICHEVER OF THE THREE the disc holds, it belongs
+  -- whichever of the three contents the disc holds, it belongs to the rack
   module _ (stopped : HasStopped (PutFile r bytes take) s.online new) where
     belong_by : (text : ℕ → List ℕ) (shelf : ℕ → List Dump) (blocks : List (List ℕ)) (x : Contents) → AreShelved shelf reels → RackBelongs text (all_dumps shelf reels) → new.disc.held ≡ Some blocks
         → Holds blocks x → DiscBelongs text shelf reels x → BelongWith new.disc.held reels

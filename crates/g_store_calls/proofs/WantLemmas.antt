@@ -1,4 +1,5 @@
 -- The file that a call reads, as the state of a store has it: where its bytes lie, how many they are, and whether its reel is mounted.
+-- serves: AppendCallLemmas, AppendLemmas, AppendedLemmas, BroughtLemmas, FetchLemmas, HereLemmas, TapeLemmas
 use Rattle.std.proofs.Common.{◌≡◌, ℕ, Bool, true, false, List, [], ◌∷◌, length, map, Option, Some, None, unwrap_or, refl, sym, ◌∙◌, ap}
 use Rattle.std.specs.Prelude.{◌==◌, Contains, not, if◌then◌else◌}
 use Rattle.std.specs.Option.{option_map}
@@ -35,7 +36,7 @@ pub record Wants (o : OnlineFacts) (who : List ℕ) (call : StoreCall) (f : File
   pub granted : RefusesAs o.contents.users (recs_in o.contents) o.contents.head.next_stamp who call None
   pub reads : ForTree o.contents.users (recs_in o.contents) (λ t. version_read t who call ≡ Some (full_of o.contents.users f.rec))
 
--- A REEL is mounted for the state where it is in the rack
+-- A REEL is mounted in the state if it is in the rack
 row_found : (shelf : ℕ → List Dump) (n : ℕ) (reels : List Reel) → reel_at n (map (row_of shelf) reels) ≡ option_map (row_of shelf) (reel n reels)
 row_found shelf n [] = refl
 row_found shelf n (r ∷ rs) = pick (n == r.serial) (row_found shelf n rs)
@@ -95,7 +96,7 @@ module _ (v : View) (reels : List Reel) (o : OnlineFacts) (dump : Option DumpFac
   pub granted_in : IsView o.disc.held reels o.contents v → fault_of k.tree who call ≡ None
   granted_in right = sym (wants.granted (λ (r : FileRec). v.text r.stamp) (texts_fit (AllTold o.disc.held reels) v o.contents right.files))
 
--- its reel is mounted in the state where it is in the rack
+-- its reel is mounted in the state if it is in the rack
 pub mounted_in_state : (v : View) (rack : Rack) (o : OnlineFacts) (dump : Option DumpFacts) (who : List ℕ) (call : StoreCall) (f : File) (c : TapeCopy)
     → IsRecords o.contents.users (recs_in o.contents) → Wants o who call f → f.rec.tape ≡ Some c
     → is_mounted (state_up v (told_reels rack) o dump) (reel_of (state_up v (told_reels rack) o dump) (held_in v o) who call) ≡ is_on (reel c.serial rack.reels)

@@ -1,4 +1,4 @@
--- BYTES PUT BEHIND those of a file: the old ones are read, from the disc or from tape, and the new version is put.
+-- Bytes are appended to those of a file: the old ones are read, from the disc or from tape, and the new version is written.
 use Rattle.std.specs.Prelude.{◌≡◌, ◌⊎◌, ℕ, ◌+◌, ◌<◌, ◌≤◌, ◌++◌, true, false, List, length, None, Some, Result, Ok, Err}
 use Rattle.std.specs.Option.{ForSome}
 use Rattle.g_base.specs.Block.{blocks_for}
@@ -16,23 +16,23 @@ use Rattle.g_retrieve.specs.Retrieval.{HasCopied, IsNowhere}
 use Rattle.g_store_calls.specs.AppliedChange.{HasApplied}
 use Rattle.g_store_calls.specs.Asking.{HasAsked, IsReached}
 
--- the record of a new version of a file, which keeps all but stamp, length and copy on tape
+-- The record of a new version of a file, in which only stamp, length and copy on tape differ.
 abbrev pub version_of : FileRec → ℕ → ℕ → FileRec
 version_of r stamp len = record r { stamp = stamp; len = len; tape = None }
 
--- the bytes that were read of a file: all of them, as far as the disc tells, or those of its copy on tape
+-- The bytes that were read of a file: all of them, as far as the disc exposes them, or those of its copy on tape.
 abbrev pub IsOldText : File → List ℕ → Rack → Rack → Type 0
 IsOldText f text before after =
     (length text ≡ f.rec.len)
     × (((f.online ≡ true) × ForSome f.bytes (λ bytes. bytes ≡ text))
     ⊎ ((f.online ≡ false) × (c : TapeCopy) × (f.rec.tape ≡ Some c) × HasCopied c f.rec.len text before after))
 
--- the file is on tape alone, at this copy
+-- The file is only on tape, in this copy.
 pub record IsAway (f : File) (c : TapeCopy) : Type 0 where
   pub offline : f.online ≡ false
   pub copy : f.rec.tape ≡ Some c
 
--- THE NEW VERSION, by a plan that makes room for it, of the bytes that were read and these
+-- The new version was written, after a plan made room for it. It has the bytes that were read, followed by the new ones.
 pub record HasPutBehind (f : File) (bytes : List ℕ) (old new : OnlineFacts) (before after : Rack) (result : Result (Unit {0}) StoreFault) : Type 0 where
   pub mid : OnlineFacts
   pub asked : HasAsked ⊥ ⊥ old mid before after
@@ -44,15 +44,15 @@ pub record HasPutBehind (f : File) (bytes : List ℕ) (old new : OnlineFacts) (b
   pub fits : blocks_for (f.rec.len + length bytes) ≤ room
   pub applied : HasApplied (PutFile (version_of f.rec old.contents.head.next_stamp (f.rec.len + length bytes)) (text ++ bytes) take) mid new result
 
--- a plan was made for it, which reaches this room
+-- A plan for the new version reaches this room.
 abbrev pub IsFor : File → List ℕ → OnlineFacts → ℕ → Type 0
 IsFor f bytes o room = IsReached (blocks_for (f.rec.len + length bytes)) o room
 
--- where the bytes are on tape alone their reel is mounted
+-- The file is on the disc, or its reel is mounted.
 abbrev pub IsAtHand : File → Rack → Type 0
 IsAtHand f rack = (f.online ≡ true) ⊎ ((c : TapeCopy) × IsAway f c × (is_mounted (reel c.serial rack.reels) ≡ true))
 
--- HOW BYTES ARE PUT BEHIND those of a file of this name, by each answer
+-- How an append to a file of this name is answered, case by case.
 abbrev pub HasAppended : Full → File → List ℕ → OnlineFacts → OnlineFacts → Rack → Rack → Result (Unit {0}) StoreFault → Type 0
 HasAppended full f bytes old new before after (Ok u) = HasPutBehind f bytes old new before after (Ok u)
 HasAppended full f bytes old new before after (Err Stopped) = HasPutBehind f bytes old new before after (Err Stopped)

@@ -1,4 +1,5 @@
--- HOW THE BYTES OF A FILE ARE HAD: read from the disc, or brought back to it from tape, by a plan of what is taken off the disc for them.
+-- How a call gets the bytes of a file: they are read from the disc, or brought back to it from tape, by a plan of the files
+-- to take off the disc for them.
 use Rattle.std.specs.Prelude.{◌≡◌, ◌⊎◌, ◌↔◌, ℕ, ◌<◌, false, List, length, Result, Ok, Err, IfOk, IfErr}
 use Rattle.std.specs.Option.{ForSome}
 use Rattle.g_base.specs.Block.{blocks_for}
@@ -16,7 +17,7 @@ use Rattle.g_laws_store.specs.UnjamPlan.{IsUnjamPlan}
 use Rattle.g_retrieve.specs.Retrieval.{HasBroughtBack, IsOnTape}
 use Rattle.g_retrieve.specs.Invariant.{HasLostCopy}
 
--- the bytes of a file that is on the disc
+-- The bytes of a file that is on the disc.
 pub record HasReadDisc (f : File) (old new : OnlineFacts) (result : Result (List ℕ) StoreFault) : Type 0 where
   pub text : IfOk result (λ text. ForSome f.bytes (λ bytes. text ≡ bytes) × (length text ≡ f.rec.len))
   pub same : new ≡ record old { disc = new.disc }
@@ -25,12 +26,12 @@ pub record HasReadDisc (f : File) (old new : OnlineFacts) (result : Result (List
   pub tied : IsTied new
   pub only : IfErr result (λ e. (e ≡ DiscReadFault) ⊎ (e ≡ NoMemory))
 
--- the faults of a file that is to come back, in their order, and want of memory
+-- The faults of bringing a file back, in their order, the last being out of memory.
 abbrev pub IsBackFault : TapeCopy → ℕ → ℕ → StoreFault → Type 0
 IsBackFault c need room e =
     (e ≡ WaitTape c.serial) ⊎ ((e ≡ TapeReadFault) ⊎ (((name : Full) × (e ≡ NoCopy name c.serial)) ⊎ ((e ≡ DiscFull need room) ⊎ ((e ≡ Stopped) ⊎ (e ≡ NoMemory)))))
 
--- a file that is on tape alone comes back by a plan, or is refused
+-- A file that is only on tape is brought back by a plan, or the call is refused.
 pub record ComesBack (number : ℕ) (f : File) (c : TapeCopy) (old new : OnlineFacts) (before after : Rack) (result : Result (List ℕ) StoreFault) : Type 0 where
   pub plan : Unjam
   pub planned : IsUnjamPlan (blocks_for f.rec.len) old plan.take plan.room
@@ -40,17 +41,18 @@ pub record ComesBack (number : ℕ) (f : File) (c : TapeCopy) (old new : OnlineF
   pub brought : HasBroughtBack number plan f c old new before after result
   pub only : IfErr result (IsBackFault c (blocks_for f.rec.len) plan.room)
 
--- no memory for a plan, and nothing was asked of disc and tapes
+-- There was no memory for a plan, and neither disc nor tapes were used.
 pub record IsStarved (old new : OnlineFacts) (before after : Rack) (result : Result (List ℕ) StoreFault) : Type 0 where
   pub starved : result ≡ Err NoMemory
   pub online : new ≡ old
   pub rack : after ≡ before
 
+-- How bringing back the file of this number is answered, if it is only on tape.
 abbrev pub HasComeBack : ℕ → OnlineFacts → OnlineFacts → Rack → Rack → Result (List ℕ) StoreFault → Type 0
 HasComeBack number old new before after result =
     (f : File) (c : TapeCopy) → IsOnTape number old f c → IsStarved old new before after result ⊎ ComesBack number f c old new before after result
 
--- the reply, with these bytes
+-- The reply with these bytes, or the fault.
 abbrev pub answer_by : (List ℕ → StoreReply) → Result (List ℕ) StoreFault → Result StoreReply StoreFault
 answer_by reply (Ok text) = Ok (reply text)
 answer_by reply (Err fault) = Err fault

@@ -1,4 +1,5 @@
--- WHAT EVERY ANSWER IS BESIDES: a reply is of the call's kind; and who waits, waits at a call that may, for a reel that isn't mounted.
+-- What every answer also satisfies: a reply is of the call's kind, and a call waits only if it may, for a reel that isn't
+-- mounted.
 use Rattle.std.specs.Prelude.{◌≡◌, ℕ, Bool, false, true, Err, IfOk, Result}
 use Rattle.g_tape.specs.Rack.{Rack, is_mounted, reel}
 use Rattle.g_plain.specs.declared.calls.StoreCall.{StoreCall}
@@ -8,18 +9,18 @@ use Rattle.g_plain.specs.declared.faults.StoreFault.TheVariants.{Stopped, WaitTa
 use Rattle.g_plain.specs.PlainAnswers.{may_wait}
 use Rattle.g_plain.specs.Replies.{IsReplyTo}
 
--- rack is the one before the call
+-- `rack` is the rack before the call.
 pub record IsKind (call : StoreCall) (rack : Rack) (answer : Result StoreReply StoreFault) : Type 0 where
   pub reply : IfOk answer (IsReplyTo call)
   pub waits : (serial : ℕ) → answer ≡ Err (WaitTape serial) → is_mounted (reel serial rack.reels) ≡ false
   pub may : (serial : ℕ) → answer ≡ Err (WaitTape serial) → may_wait call ≡ true
 
--- and where no tape is asked for
+-- The same for a call that needs no tape: it never waits.
 pub record IsSettled (call : StoreCall) (answer : Result StoreReply StoreFault) : Type 0 where
   pub reply : IfOk answer (IsReplyTo call)
   pub no_wait : (serial : ℕ) → answer ≡ Err (WaitTape serial) → ⊥
 
--- the answer that spends a store
+-- The answer that leaves the store spent.
 abbrev pub stops_call : Result StoreReply StoreFault → Bool
 stops_call (Err Stopped) = true
 stops_call answer = false

@@ -1,4 +1,4 @@
--- THE RECORDS that calls put in the place of others: of a user with another budget, and of a file with another name or other traps.
+-- The records that calls replace: of a user with another budget, and of a file with another name or other traps.
 use Rattle.std.specs.Prelude.{◌≡◌, ℕ, ◌<◌, List, Contains, length, slice_set}
 use Rattle.g_entry.specs.declared.file_rec.FileRec.{FileRec}
 use Rattle.g_entry.specs.declared.user_rec.UserRec.{UserRec}
@@ -13,13 +13,13 @@ use Rattle.g_tree.specs.Records.{ForTree, IsRecords, full_of, name_of}
 use Rattle.g_tree.specs.State.{with_file}
 use Rattle.g_laws_store.specs.Calls.{modes_by}
 
--- the record of a user with another budget
+-- The record of a user with another budget.
 abbrev pub budgeted : UserRec → BudgetKind → ℕ → UserRec
 budgeted u Space amount = record u { space = amount }
 budgeted u Time amount = record u { time = amount }
 budgeted u Money amount = record u { money = amount }
 
--- in the place of the one there was
+-- It replaces the old record of that user.
 pub record IsBudgeted (users : List UserRec) (files : List FileRec) (user : List ℕ) (kind : BudgetKind) (amount : ℕ) (u : UserRec) : Type 0 where
   pub old : UserRec
   pub there : Contains users old
@@ -27,7 +27,7 @@ pub record IsBudgeted (users : List UserRec) (files : List FileRec) (user : List
   pub is : u ≡ budgeted old kind amount
   pub rules : IsRecords (slice_set users u.number u) files
 
--- another record of its version
+-- Another record of a file, with the same version.
 pub record IsSetFile (users : List UserRec) (files : List FileRec) (who : List ℕ) (path : Path) (r : FileRec) : Type 0 where
   pub old : FileRec
   pub there : Contains files old
@@ -39,14 +39,14 @@ pub record IsSetFile (users : List UserRec) (files : List FileRec) (who : List �
   pub tape : r.tape ≡ old.tape
   pub rules : IsRecords users (with_file r files)
 
--- with another local name
+-- The same with another local name.
 pub record IsRenamed (users : List UserRec) (files : List FileRec) (who : List ℕ) (path : Path) (to : List ℕ) (r : FileRec) (full : Full) : Type 0 where
   pub set : IsSetFile users files who path r
   pub traps : r.traps ≡ set.old.traps
   pub name_is : full_of users r ≡ full
   pub renamed : full ≡ record (full_of users set.old) { local = to }
 
--- with the modes that the call leaves to a user
+-- The same with the modes that the call leaves to a user.
 pub record IsTrapped (users : List UserRec) (files : List FileRec) (who : List ℕ) (path : Path) (user : List ℕ) (call : StoreCall) (r : FileRec) : Type 0 where
   pub set : IsSetFile users files who path r
   pub number : ℕ

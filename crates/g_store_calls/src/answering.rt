@@ -1,5 +1,5 @@
-//! A job's call, whatever it is. Whether it is refused is asked once, and with it the file that its path names; then the call
-//! is taken apart, once.
+//! Any call of a job. It is checked once whether the call is refused, and which file its path names. Then the call is
+//! dispatched, once.
 ghost use Rattle.std.specs.Prelude.{◌≡◌, IfErr, IfOk, Some, true};
 ghost use Rattle.g_disc_contents.specs.Contents.{recs_in};
 ghost use Rattle.g_disc_contents.specs.Facts.{IsTied};
@@ -25,8 +25,8 @@ use g_tape::Tapes;
 use g_tree::{Granted, refusal_of};
 use std::alloc::Global;
 
-/// The answer to any call of a job, whatever store the filestore is in: the refusals of the call by users and files, in their
-/// order (docs/DEFINITIONS.md), then those of the call's own function, each of which says what it leaves.
+/// The answer to any call of a job, for any store that the filestore belongs to: first the refusals by users and files, in
+/// their order (docs/DEFINITIONS.md), then those of the call's own function, whose comment says what each leaves.
 pub fn answer<D: Disc, T: Tapes>(
     alloc: Global,
     online: &mut Online<D>,

@@ -1,4 +1,4 @@
-//! Append: bytes go behind those of a file, which are read from the disc, or from tape where they are on tape alone.
+//! Append: bytes are appended to those of a file, which are read from the disc, or from tape if they are only there.
 ghost use Rattle.std.specs.Prelude.{◌≡◌, ◌≤◌, ◌+◌, ◌++◌, ◌^◌, ◌<◌, true, false, Contains, IfOk, None, Some, length};
 ghost use Rattle.g_name.specs.declared.full.Full.{Full};
 ghost use Rattle.g_base.specs.Block as block;
@@ -34,12 +34,13 @@ use g_tape::Tapes;
 use g_tree::NumberList;
 use std::alloc::Global;
 
-/// The answer to `Append`: a new version of this file, which the path names, of its bytes and those of the call behind them, is
-/// put by one commit, and by one before it where others are taken off the disc to make room. A file that is on tape alone
+/// The answer to `Append`: a new version of this file, which the path names, with its bytes followed by those of the call.
+/// One commit writes it, preceded by another if files are taken off the disc to make room. A file that is only on tape
 /// isn't brought back: its bytes are read from tape, and only the new version is written. `WaitTape`, `TapeReadFault` and
-/// `NoCopy` of a file that is on tape alone; `DiscFull`: the new version needs more blocks than can be made free;
-/// `DiscReadFault` of a file that is on the disc; and `NoMemory`: nothing has changed. `Stopped`: a write of the disc failed; it
-/// holds what it held, or that without the files that were taken off it, or with the new version too, and takes no further call.
+/// `NoCopy` concern a file that is only on tape, `DiscReadFault` one that is on the disc. `DiscFull`: the new version needs
+/// more blocks than can be freed. After these and `NoMemory` nothing has changed. `Stopped`: a write of the disc failed.
+/// The disc holds what it held, or that without the files that were taken off it, or also with the new version; it accepts
+/// no further call.
 pub(crate) fn append<D: Disc, T: Tapes>(
     alloc: Global,
     online: &mut Online<D>,
@@ -62,7 +63,7 @@ pub(crate) fn append<D: Disc, T: Tapes>(
     }
 }
 
-/// Puts bytes behind those of the file of this number.
+/// Appends bytes to those of the file of this number.
 fn append_to<D: Disc, T: Tapes>(
     alloc: Global,
     online: &mut Online<D>,
@@ -88,7 +89,8 @@ fn append_to<D: Disc, T: Tapes>(
     }
 }
 
-/// Puts bytes behind those of a file that is on the disc: room for the new version comes first, then the old bytes are read.
+/// Appends bytes to those of a file that is on the disc: first room is made for the new version, then the old bytes are
+/// read.
 fn append_here<D: Disc>(
     alloc: Global,
     online: &mut Online<D>,
@@ -115,7 +117,7 @@ fn append_here<D: Disc>(
     put_behind(alloc, online, file, old, bytes, plan)
 }
 
-/// Puts bytes behind those of a file that is on tape alone: these are read first, then room is made for the new version.
+/// Appends bytes to those of a file that is only on tape: they are read first, then room is made for the new version.
 fn append_from_tape<D: Disc, T: Tapes>(
     alloc: Global,
     online: &mut Online<D>,
@@ -147,7 +149,7 @@ fn append_from_tape<D: Disc, T: Tapes>(
     put_behind(alloc, online, file, old, bytes, plan)
 }
 
-/// The plan that makes room for so many blocks. `DiscFull`, `NoMemory`.
+/// The plan that makes room for this many blocks. `DiscFull`, `NoMemory`.
 fn plan_for<D: Disc>(alloc: Global, online: &Online<D>, need: u32) -> Result<Unjam, StoreFault>
     requires live { online.now.live ≡ true }
     requires tied { IsTied online.now }
@@ -167,7 +169,7 @@ fn plan_for<D: Disc>(alloc: Global, online: &Online<D>, need: u32) -> Result<Unj
     Ok(plan)
 }
 
-/// Puts the new version of a file, of the old bytes and these behind them, by a plan that has made room for it.
+/// Writes the new version of a file, with the old bytes followed by these, by a plan that has made room for it.
 fn put_behind<D: Disc>(
     alloc: Global,
     online: &mut Online<D>,
@@ -200,7 +202,7 @@ fn put_behind<D: Disc>(
     put_version(alloc, online, rec, &text, &plan.take)
 }
 
-/// Puts a new version of a file, for which there is room once these files are off the disc. `Stopped`, `NoMemory`.
+/// Writes a new version of a file, for which there is room once these files are off the disc. `Stopped`, `NoMemory`.
 fn put_version<D: Disc>(
     alloc: Global,
     online: &mut Online<D>,

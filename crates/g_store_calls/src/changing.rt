@@ -1,4 +1,4 @@
-//! Calls that make a user or take a file away, each by one commit; and how a change of records is answered.
+//! Calls that create a user or erase a file, each by one commit; and how a change of records is answered.
 ghost use Rattle.std.specs.Prelude.{◌≡◌, ◌≤◌, None, true, ℕ};
 ghost use Rattle.g_disc_contents.specs.Facts.{IsTied};
 ghost use Rattle.g_name.specs.declared.path.Path.{Path};
@@ -23,8 +23,8 @@ use g_plain::{StoreFault, StoreReply};
 use g_tree::Tree;
 use std::alloc::Global;
 
-/// The answer to `NewUser`: a user below the caller is made, by one commit. `NoMemory`: nothing has changed. `Stopped`: a write
-/// of the disc failed; it holds what it held, or that with the new user, and takes no further call.
+/// The answer to `NewUser`: a user below the caller is created, by one commit. `NoMemory`: nothing has changed. `Stopped`:
+/// a write of the disc failed; the disc holds what it held, or that with the new user, and accepts no further call.
 pub(crate) fn new_user<D: Disc>(
     alloc: Global,
     online: &mut Online<D>,
@@ -45,13 +45,13 @@ pub(crate) fn new_user<D: Disc>(
     changed(alloc, online, &Change::AddUser(made), StoreReply::Done)
 }
 
-/// The record of a user below the caller, behind the others. The call isn't refused.
+/// The record of a user below the caller, added after the others. The call isn't refused.
 fn made_user(tree: &Tree, who: &User, user: &User, space: u32, time: u64, money: u64) -> UserRec
     requires granted { (next : ℕ) × RefusesAs tree.now.users tree.now.files next who.now (call.NewUser user.now space time money) None }
     requires limits { IsWithinLimits (call.NewUser user.now space time money) }
     ensures { IsNewUser tree.now.users tree.now.files who.now user.now space time money result }
 {
-    // That the name is one is known from here.
+    // The solver learns here that this is a name.
     let _word = user.as_slice();
     let number = tree.users().len() as u8;
     let Some(superior) = tree.user_number(who) else {
@@ -67,8 +67,9 @@ fn made_user(tree: &Tree, who: &User, user: &User, space: u32, time: u64, money:
     }
 }
 
-/// The answer to `Erase`: this file, which the path names, goes by one commit. `NoMemory`: nothing has changed. `Stopped`: a
-/// write of the disc failed; it holds what it held, or that without the file, and takes no further call.
+/// The answer to `Erase`: this file, which the path names, is erased by one commit. `NoMemory`: nothing has changed.
+/// `Stopped`: a write of the disc failed; the disc holds what it held, or that without the file, and accepts no further
+/// call.
 pub(crate) fn erase<D: Disc>(
     online: &mut Online<D>,
     number: u16,
@@ -86,7 +87,7 @@ pub(crate) fn erase<D: Disc>(
     }
 }
 
-/// Takes the file of this number out. `Stopped`.
+/// Removes the file of this number. `Stopped`.
 fn drop_record<D: Disc>(online: &mut Online<D>, number: u16) -> Result<(), StoreFault>
     requires allowed { IsAllowed (Change.EraseFile number) online.old }
     ensures { HasApplied (Change.EraseFile number) online.old online.new result }
@@ -97,7 +98,7 @@ fn drop_record<D: Disc>(online: &mut Online<D>, number: u16) -> Result<(), Store
     }
 }
 
-/// Makes the change, which needs no blocks, and answers this where it was made. `Stopped`, `NoMemory`.
+/// Makes the change, which needs no blocks, and returns this reply if it was made. `Stopped`, `NoMemory`.
 pub(crate) fn changed<D: Disc>(
     alloc: Global,
     online: &mut Online<D>,
@@ -114,7 +115,7 @@ pub(crate) fn changed<D: Disc>(
     }
 }
 
-/// Puts a file's record in the place of the one of its number, and answers this where that was done. `Stopped`, `NoMemory`.
+/// Replaces the record of the same number, and returns this reply if that was done. `Stopped`, `NoMemory`.
 pub(crate) fn replaced<D: Disc>(
     online: &mut Online<D>,
     rec: FileRec,
@@ -129,7 +130,7 @@ pub(crate) fn replaced<D: Disc>(
     }
 }
 
-/// Puts a file's record in the place of the one of its number. `Stopped`, `NoMemory`.
+/// Replaces the record of the same number. `Stopped`, `NoMemory`.
 fn put_record<D: Disc>(online: &mut Online<D>, rec: FileRec) -> Result<(), StoreFault>
     requires allowed { IsAllowed (Change.SetFile rec) online.old }
     ensures { HasApplied (Change.SetFile rec) online.old online.new result }

@@ -1,4 +1,4 @@
-//! Calls that want the bytes of a file: read from the disc, or brought back to it from tape.
+//! Calls that need the bytes of a file: they are read from the disc, or brought back to it from tape.
 ghost use Rattle.std.specs.Prelude.{◌≡◌, Contains, false, true};
 ghost use Rattle.g_base.specs.Block as block;
 ghost use Rattle.g_disc_contents.specs.Contents.{File};
@@ -26,11 +26,11 @@ use g_tape::Tapes;
 use g_tree::Tree;
 use std::alloc::Global;
 
-/// The answer to `Fetch`: the bytes of this file, which the path names for input, read from the disc. A file that isn't there is
-/// brought back to it first (docs/DEFINITIONS.md): its reel's catalogue and each block of its copy are read, and other files
-/// are taken off the disc where it has no room. `WaitTape`, `TapeReadFault`, `NoCopy`, `DiscFull` in blocks of 512 bytes,
-/// `DiscReadFault`; and `NoMemory`: nothing has changed. `Stopped`: a write of the disc failed; it holds what it held, or that
-/// without the files that were to go, or with the file too, and takes no further call.
+/// The answer to `Fetch`: the bytes of this file, which the path names for input, read from the disc. A file that isn't
+/// there is brought back first (docs/DEFINITIONS.md): its reel's catalogue and each block of its copy are read, and other
+/// files are taken off the disc if it has no room. After `WaitTape`, `TapeReadFault`, `NoCopy`, `DiscFull` (in blocks of
+/// 512 bytes), `DiscReadFault` and `NoMemory` nothing has changed. `Stopped`: a write of the disc failed. The disc holds
+/// what it held, or that without the files that were to be taken off, or also with the file; it accepts no further call.
 pub(crate) fn fetch<D: Disc, T: Tapes>(
     alloc: Global,
     online: &mut Online<D>,
@@ -53,8 +53,8 @@ pub(crate) fn fetch<D: Disc, T: Tapes>(
     }
 }
 
-/// The answer to `Retrieve`: this file, which the path names for input, is on the disc. Where it is there no device is asked;
-/// else it is brought back as by `fetch`, with the same refusals.
+/// The answer to `Retrieve`: this file, which the path names for input, is on the disc. If it is there already no device is
+/// used, otherwise it is brought back as by `fetch`, with the same refusals.
 pub(crate) fn retrieve<D: Disc, T: Tapes>(
     alloc: Global,
     online: &mut Online<D>,
@@ -115,7 +115,7 @@ fn disc_bytes<D: Disc>(
     }
 }
 
-/// The bytes of a file that is on tape alone; it is brought back with them. The faults of `bring_back`, and `NoMemory`.
+/// The bytes of a file that is only on tape, which is brought back with them. The faults of `bring_back`, and `NoMemory`.
 fn brought_bytes<D: Disc, T: Tapes>(
     alloc: Global,
     online: &mut Online<D>,
@@ -137,7 +137,7 @@ fn brought_bytes<D: Disc, T: Tapes>(
     bring_back(alloc, online, tapes, number, &unjam)
 }
 
-/// How many blocks the bytes of a file take that is there.
+/// The number of blocks of an existing file.
 fn needed_blocks(tree: &Tree, number: u16) -> u32
     requires { (r : FileRec) × Contains tree.now.files r × (r.number ≡ number) }
     ensures { (r : FileRec) → Contains tree.now.files r → r.number ≡ number

@@ -1,4 +1,4 @@
-//! A job's calls, each answered as the whole store answers it: by the step of the state that it stands for.
+//! The calls of a job, each answered as the whole store answers it: by the step of the state that it represents.
 #![tactic(auto)]
 
 mod answering;

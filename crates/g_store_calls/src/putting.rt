@@ -1,4 +1,4 @@
-//! Calls that put in a new version.
+//! Calls that create a new version.
 ghost use Rattle.std.specs.Prelude.{◌≡◌, ◌<◌, ◌≤◌, ◌^◌, true, None, Some, ℕ, length};
 ghost use Rattle.g_disc_contents.specs.Contents.{recs_in};
 ghost use Rattle.g_disc_contents.specs.Facts.{IsTied};
@@ -24,10 +24,11 @@ use g_plain::{StoreFault, StoreReply};
 use g_trap::Traps;
 use std::alloc::Global;
 
-/// The answer to `Put`: a new version of the file of this number, or a new file where there is none, by one commit; where there
-/// is no room, the oldest versions that are on tape too go off the disc before, by a commit of their own. `DiscFull` where that
-/// doesn't make room enough, in blocks of 512 bytes, and `NoMemory`: nothing has changed. `Stopped`: a write of the disc failed;
-/// it holds what it held, or that with the versions off it, or that with the new version, and takes no further call.
+/// The answer to `Put`: a new version of the file of this number, or a new file if there is none, by one commit. If there
+/// is no room, the oldest versions that are also on tape are taken off the disc first, by a commit of their own. After
+/// `DiscFull`, if that doesn't make enough room (in blocks of 512 bytes), and after `NoMemory` nothing has changed.
+/// `Stopped`: a write of the disc failed. The disc holds what it held, or that without the versions that were taken off, or
+/// that with the new version; it accepts no further call.
 pub(crate) fn put<D: Disc>(
     alloc: Global,
     online: &mut Online<D>,
@@ -70,7 +71,7 @@ fn version_of<D: Disc>(
     }
 }
 
-/// The record of the next version of the file of this number, of so many bytes.
+/// The record of the next version of the file of this number, with this length.
 fn next_of<D: Disc>(online: &Online<D>, number: u16, len: u32) -> FileRec
     requires live { online.now.live ≡ true }
     requires tied { IsTied online.now }
@@ -92,7 +93,7 @@ fn next_of<D: Disc>(online: &Online<D>, number: u16, len: u32) -> FileRec
     }
 }
 
-/// The record of the first version of a new file of this full name, of so many bytes. It is its owner's alone.
+/// The record of the first version of a new file of this full name, with this length. Only its owner may use it.
 fn first_of<D: Disc>(online: &Online<D>, full: &Full, len: u32) -> FileRec
     requires live { online.now.live ≡ true }
     requires tied { IsTied online.now }
@@ -106,7 +107,7 @@ fn first_of<D: Disc>(online: &Online<D>, full: &Full, len: u32) -> FileRec
     ensures version { IsVersionOf online.now full.now result }
     ensures len { result.len ≡ len }
 {
-    // That the parts of the name are names is known from here.
+    // The solver learns here that the parts of the name are names.
     let _word = full.local.as_slice();
     let _lang = full.lang.as_slice();
     let tree = online.tree();
@@ -129,8 +130,8 @@ fn first_of<D: Disc>(online: &Online<D>, full: &Full, len: u32) -> FileRec
     }
 }
 
-/// Makes the version, with these bytes: versions that are on tape too go off the disc for it where there is no room. `DiscFull`
-/// where that isn't enough, and `NoMemory`: nothing has changed. `Stopped`.
+/// Creates the version, with these bytes. If there is no room, versions that are also on tape are taken off the disc. After
+/// `DiscFull`, if that isn't enough, and after `NoMemory` nothing has changed. `Stopped`.
 fn make_version<D: Disc>(
     alloc: Global,
     online: &mut Online<D>,

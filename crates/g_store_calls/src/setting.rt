@@ -1,4 +1,4 @@
-//! Calls that put another record in the place of one: a user's budget, and a file's name and traps. Each by one commit.
+//! Calls that replace a record: a user's budget, a file's name, a file's traps. Each makes one commit.
 ghost use Rattle.std.specs.Prelude.{◌≡◌, ◌≤◌, ◌<◌, None, true, List, ℕ};
 ghost use Rattle.g_disc_contents.specs.Facts.{IsTied};
 ghost use Rattle.g_name.specs.declared.full.Full.{Full};
@@ -28,7 +28,8 @@ use g_tree::Tree;
 use std::alloc::Global;
 
 /// The answer to `Budget`: one budget of a user below the caller is set, by one commit. `NoMemory`: nothing has changed.
-/// `Stopped`: a write of the disc failed; it holds what it held, or that with the budget, and takes no further call.
+/// `Stopped`: a write of the disc failed; the disc holds what it held, or that with the budget, and accepts no further
+/// call.
 pub(crate) fn budget<D: Disc>(
     alloc: Global,
     online: &mut Online<D>,
@@ -47,7 +48,7 @@ pub(crate) fn budget<D: Disc>(
     changed(alloc, online, &Change::SetUser(rec), StoreReply::Done)
 }
 
-/// The record of a user who is there, with another budget.
+/// The record of an existing user, with another budget.
 fn budgeted_user(tree: &Tree, user: &User, kind: BudgetKind, amount: u64) -> UserRec
     requires there { ForTree tree.now.users tree.now.files (λ t. plain.has_user t user.now ≡ true) }
     requires limits { IsWithinLimits (call.Budget user.now kind amount) }
@@ -81,8 +82,8 @@ fn with_budget(user: &UserRec, kind: BudgetKind, amount: u64) -> UserRec
 }
 
 /// The answer to `Rename`: this file, which the path names, gets another local name, by one commit. `NoMemory`: nothing has
-/// changed. `Stopped`: a write of the disc failed; it holds what it held, or that with the file renamed, and takes no further
-/// call.
+/// changed. `Stopped`: a write of the disc failed; the disc holds what it held, or that with the file renamed, and accepts
+/// no further call.
 pub(crate) fn rename<D: Disc>(
     online: &mut Online<D>,
     number: u16,
@@ -100,13 +101,13 @@ pub(crate) fn rename<D: Disc>(
     replaced(online, rec, StoreReply::Renamed(name))
 }
 
-/// The record of the file with another local name, which is put into its full name too. The call isn't refused.
+/// The record of the file with another local name, which is also written into its full name. The call isn't refused.
 fn renamed_file(tree: &Tree, number: u16, full: &mut Full, to: &Local) -> FileRec
     requires granted { (who : List ℕ) × (path : Path) × GrantsFile tree.now.users tree.now.files who (call.Rename path to.now) path number full.old }
     ensures { (who : List ℕ) (path : Path) → GrantsFile tree.now.users tree.now.files who (call.Rename path to.now) path number full.old
         → IsRenamed tree.now.users tree.now.files who path to.now result full.new }
 {
-    // That the name is one is known from here.
+    // The solver learns here that this is a name.
     let _word = to.as_slice();
     let mut rec = file_of(tree, number);
     rec.local = to.copy();
@@ -115,8 +116,8 @@ fn renamed_file(tree: &Tree, number: u16, full: &mut Full, to: &Local) -> FileRe
 }
 
 /// The answer to `TrapGo`: this file, which the path names, opens modes to a user, by one commit. `NoMemory`: nothing has
-/// changed. `Stopped`: a write of the disc failed; it holds what it held, or that with the modes opened, and takes no further
-/// call.
+/// changed. `Stopped`: a write of the disc failed; the disc holds what it held, or that with the modes opened, and accepts
+/// no further call.
 pub(crate) fn trap_go<D: Disc>(
     online: &mut Online<D>,
     number: u16,
@@ -151,9 +152,9 @@ fn opened_file(tree: &Tree, number: u16, user: &User, modes: Modes) -> FileRec
     }
 }
 
-/// The answer to `TrapStop`: this file, which the path names, closes modes to a user, by one commit. `NoMemory`: nothing has
-/// changed. `Stopped`: a write of the disc failed; it holds what it held, or that with the modes closed, and takes no further
-/// call.
+/// The answer to `TrapStop`: this file, which the path names, closes modes to a user, by one commit. `NoMemory`: nothing
+/// has changed. `Stopped`: a write of the disc failed; the disc holds what it held, or that with the modes closed, and
+/// accepts no further call.
 pub(crate) fn trap_stop<D: Disc>(
     online: &mut Online<D>,
     number: u16,
@@ -192,7 +193,7 @@ fn with_traps(file: FileRec, traps: Traps) -> FileRec
     ensures others { IsOthers traps.others }
     ensures owner { traps.owner < 32 }
 {
-    // That these are traps is known from here.
+    // The solver learns here that these are traps.
     let _others = traps.others();
     let _modes = traps.owner_modes().bits();
     FileRec { traps, ..file }

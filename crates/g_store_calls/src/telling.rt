@@ -1,4 +1,4 @@
-//! Calls that only tell: the files of a user, and what a user may do with a file.
+//! Calls that only report: the files of a user, and what a user may do with a file.
 ghost use Rattle.std.specs.Prelude.{◌≡◌, ◌<◌, true, All, IfOk, ℕ, List, Some, length, map};
 ghost use Rattle.g_name.specs.declared.full.Full.{Full};
 ghost use Rattle.g_name.specs.declared.path.Path.{Path};
@@ -20,7 +20,7 @@ use g_trap::Modes;
 use g_tree::{Tree, full_of};
 use std::alloc::Global;
 
-/// The answer to `List`: no device is asked, and nothing changes. `NoMemory`.
+/// The answer to `List`. No device is used, and nothing changes. `NoMemory`.
 pub(crate) fn list<D: Disc>(
     alloc: Global,
     online: &Online<D>,
@@ -37,7 +37,7 @@ pub(crate) fn list<D: Disc>(
     }
 }
 
-/// The answer to `TrapCheck` of this file: no device is asked, and nothing changes.
+/// The answer to `TrapCheck` for this file. No device is used, and nothing changes.
 pub(crate) fn trap_check<D: Disc>(
     online: &Online<D>,
     number: u16,
@@ -54,12 +54,12 @@ pub(crate) fn trap_check<D: Disc>(
     Ok(StoreReply::Modes(modes_of(online.tree(), number, user)))
 }
 
-/// The files of a user who is there, with their lengths, in the order of their names.
+/// The files of an existing user, with their lengths, in the order of their names.
 fn listing(alloc: Global, tree: &Tree, user: &User) -> Result<Listing, NoMemory>
     requires there { ForTree tree.now.users tree.now.files (λ t. plain.has_user t user.now ≡ true) }
     ensures { IfOk result (AreLengths tree.now.users tree.now.files user.now) }
 {
-    // That the records keep their rules is known from here.
+    // The solver learns here that the records satisfy their rules.
     let _users = tree.users();
     let owner = number_of_user(tree, user);
     let numbers = match tree.listing(alloc, owner) {
@@ -96,7 +96,7 @@ fn row_of(tree: &Tree, number: u16) -> (Full, u32)
     }
 }
 
-/// What a user who is there may do with the file of this number.
+/// What an existing user may do with the file of this number.
 fn modes_of(tree: &Tree, number: u16, user: &User) -> Modes
     requires file { IsThere tree.now.files number }
     requires there { ForTree tree.now.users tree.now.files (λ t. plain.has_user t user.now ≡ true) }
@@ -108,7 +108,7 @@ fn modes_of(tree: &Tree, number: u16, user: &User) -> Modes
     tree.modes_of(number, number_of_user(tree, user))
 }
 
-/// The number of a user who is there.
+/// The number of an existing user.
 pub(crate) fn number_of_user(tree: &Tree, user: &User) -> u8
     requires { ForTree tree.now.users tree.now.files (λ t. plain.has_user t user.now ≡ true) }
     ensures within { result < length tree.now.users }

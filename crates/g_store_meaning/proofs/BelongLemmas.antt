@@ -1,4 +1,5 @@
 -- What keeps a disc and a rack belonging together.
+-- serves: changes_belong (version), ChangeLemmas, StayLemmas, crates above
 use Rattle.std.proofs.Common.{◌≡◌, ℕ, ◌<◌, ◌≤◌, List, [], ◌∷◌, Option, Some, None, refl, sym, ◌∙◌, ap, subst, inl, inr, arith}
 use Rattle.std.specs.Prelude.{◌⊎◌, Bool, true, false, All, filter, nat_lt, IfSome, if◌then◌else◌}
 use Rattle.std.specs.Option.{ForSome}

@@ -1,4 +1,5 @@
 -- Changes of files, of the intent and of the last dump's number, and what a restore and a format make.
+-- serves: changes_belong (closing, restore), lib, StayLemmas, crates above
 use Rattle.std.proofs.Common.{◌≡◌, ℕ, ◌≤◌, List, [], ◌∷◌, Option, Some, None, length, refl, sym, ◌∙◌, ap, subst, inl, inr, arith}
 use Rattle.std.specs.Prelude.{◌⊎◌, Bool, true, false, ◌==◌, not, All, Contains, map, IfSome, if◌then◌else◌}
 use Rattle.std.specs.Option.{ForSome, option_map}
@@ -15,7 +16,7 @@ use Rattle.g_store_meaning.specs.Belonging.{DiscBelongs, IsIntended, KeepsFile, 
 use Rattle.g_store_meaning.specs.Laws.{BringsText, ClosingBelongs, FilesBelong, FormatBelongs, HasContent, IntentsBelong, RecordsAnew, RestoreBelongs, restored_file}
 use Rattle.g_store_meaning.proofs.BelongLemmas.{HasKept, Keeps, none_is}
 
--- other files alone
+-- Only the files change.
 with_other : (text : ℕ → List ℕ) (shelf : ℕ → List Dump) (reels : List Reel) (c : Contents) (files : List File) → DiscBelongs text shelf reels c
     → All (Keeps text (all_dumps shelf reels)) files → DiscBelongs text shelf reels (record c { files = files })
 with_other text shelf reels c files disc keep =
@@ -86,7 +87,7 @@ intents_belong = record {
       record { files = disc.files; numbers = λ d there. inl (quiet d there); has_last = disc.has_last; stamps = disc.stamps; intent = tt };
 }
 
--- the copy that is put in, or the one there was, has the text
+-- The new copy, or the previous one, has the text.
 pub copy_is : (text : ℕ → List ℕ) (dumps : List Dump) (copies : List (ℕ × TapeCopy)) (stamp : ℕ) (old : Option TapeCopy) → All (HasContent text dumps) copies
     → IfSome old (λ c. IsContent dumps c (text stamp)) → IfSome (copy_of copies stamp old) (λ c. IsContent dumps c (text stamp))
 copy_is text dumps [] stamp old has_content keep = keep

@@ -1,4 +1,5 @@
 -- Changes keep the directories of the users whom they don't concern.
+-- serves: lib, StayLemmas, crates above
 use Rattle.std.proofs.Common.{◌≡◌, ◌⊎◌, ℕ, suc, ◌<◌, ◌≤◌, Bool, true, false, List, [], ◌∷◌, ◌++◌, get_or, Option, None, refl, sym, ◌∙◌, ap, arith, subst, inl, inr}
 use Rattle.std.specs.Prelude.{◌==◌, All, AllPairs, Contains, filter, map, nat_le, nat_lt, not, if◌then◌else◌}
 use Rattle.std.proofs.lemmas.Bool.{both_ways, cases_Bool, cases_order, cond-false, cond-true, eq-eqb, eqb-false, eqb-true, false_from_ne_true, le-leb, le-ltb, lt-ltb, ne_eqb, true_from_ne_false}
@@ -23,7 +24,7 @@ mine n r rs is = cond-true (r.owner == n) (r ∷ files_of n rs) (files_of n rs) 
 another : (n : ℕ) (r : FileRec) (rs : List FileRec) → (r.owner ≡ n → ⊥) → files_of n (r ∷ rs) ≡ files_of n rs
 another n r rs isnt = cond-false (r.owner == n) (r ∷ files_of n rs) (files_of n rs) (ne_eqb r.owner n isnt)
 
--- the same record in front
+-- The same record at the front.
 same_front : (n : ℕ) (r : FileRec) (rs ss : List FileRec) → files_of n rs ≡ files_of n ss → files_of n (r ∷ rs) ≡ files_of n (r ∷ ss)
 same_front n r rs ss same = ap (λ (xs : List FileRec). let ys : List FileRec = if r.owner == n then r ∷ xs else xs in ys) same
 
@@ -166,7 +167,7 @@ owned_offline number owner numbers (f ∷ fs) owned =
     (subst (λ (r : FileRec). r.number ≡ number → r.owner ≡ owner) (sym (offline_rec (has numbers f.rec.number) f)) (All-head (IsOwnedBy number owner) f fs owned))
     (owned_offline number owner numbers fs (All-tail (IsOwnedBy number owner) f fs owned))
 
--- all users are there still
+-- All users still exist.
 abbrev Stays : List ℕ → List UserRec → List UserRec → Type 0
 Stays changed old new = (u : UserRec) → Contains new u → holds changed u.number ≡ false → (v : UserRec) × Contains old v × (v.number ≡ u.number)
 
@@ -192,7 +193,7 @@ changes_keep_others = record {
   users = λ changed c users there. record { last = refl; users = there; files = λ n isnt. refl };
 }
 
--- WHERE THE OTHERS ARE KEPT, their directories are those of the dumps still
+-- If the other users' directories are unchanged, they are still those of the dumps.
 not_grown : (old new : List ℕ) (n m : ℕ) → Grows old new → n ≡ m → holds new m ≡ false → holds old n ≡ false
 not_grown old new n m grows same isnt = false_from_ne_true (holds old n) (λ is. both_ways (holds new m) isnt (ap (holds new) (sym same) ∙ grows n is))
 
@@ -209,7 +210,7 @@ directories_stay old new c e dumps grows keeps was = record {
       both_ways (holds old v.number) (not_grown old new v.number u.number grows same isnt) (was.none (sym keeps.last ∙ none) v in_c));
 }
 
--- copies that are put in change no owner
+-- New copies change no owner.
 pub copied_recs : (copies : List (ℕ × TapeCopy)) (files : List File) → recs (with_copies copies files) ≡ map (copied_rec copies) (recs files)
 copied_recs copies [] = refl
 copied_recs copies (f ∷ fs) = ap (λ (rs : List FileRec). copied_rec copies f.rec ∷ rs) (copied_recs copies fs)

@@ -1,4 +1,5 @@
--- The records that are gathered of dumps, and those of the first users alone.
+-- The records that are gathered from dumps, for all users and for the first users only.
+-- serves: crates above
 use Rattle.std.proofs.Common.{◌≡◌, ◌≢◌, ℕ, ◌<◌, ◌≤◌, ◌==◌, List, [], ◌∷◌, ◌++◌, get_or, None, refl, sym, ◌∙◌, ap, arith, subst, All}
 use Rattle.std.specs.Prelude.{AllPairs, Contains}
 use Rattle.std.proofs.lemmas.List.{append_assoc, get_or_append_left, length-append}

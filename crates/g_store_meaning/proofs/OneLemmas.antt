@@ -1,4 +1,5 @@
--- Devices that tell what they hold, and belong together, stand for one state.
+-- Devices that expose their contents and belong together represent one state.
+-- serves: one_state, crates above
 use Rattle.std.proofs.Common.{◌≡◌, ◌≢◌, ◌⊎◌, ℕ, zero, suc, ◌+◌, ◌-◌, ◌≤◌, true, false, List, [], ◌∷◌, ◌++◌, length, get_or, take, drop, Option, Some, None, refl, sym, ◌∙◌, ap, arith, subst, inl, inr}
 use Rattle.std.specs.Prelude.{◌==◌, All, Contains, IfSome, map, is_some}
 use Rattle.std.specs.Option.{ForSome, option_map}
@@ -109,7 +110,7 @@ apart_on serial reel at from (c ∷ cs) are d e (suc i, in_d, is_d) (zero, in_e,
 apart_on serial reel at from (c ∷ cs) are d e (suc i, in_d, is_d) (suc j, in_e, is_e) =
     apart_on serial reel (ends c) (c.number + 1) cs are.1 d e (i, omega (arith, in_d), is_d) (j, omega (arith, in_e), is_e)
 
--- what holds of the dumps of one reel that tells
+-- What holds for the dumps of a reel that exposes its blocks.
 pub on_told : {A : Type 0} (serial : ℕ) (blocks : Option (List (List ℕ))) (ds : List Dump) → is_some blocks ≡ true → ForSome blocks (λ reel. AreCompleted serial reel ds)
     → ((reel : List (List ℕ)) → AreCompleted serial reel ds → A) → A
 on_told serial None ds told are make = absurd (false≢true told)
@@ -147,7 +148,7 @@ pub record AreRight (dumps : List Dump) : Type 0 where
 pub are_right : (shelf : ℕ → List Dump) (reels : List Reel) → ReelsTold reels → AreShelved shelf reels → AreRight (all_dumps shelf reels)
 are_right shelf reels told shelved = record { rules = dump_rules shelf reels told shelved; two = two_apart shelf reels told shelved }
 
--- FILES of the disc: online with bytes that are told, or offline with a copy
+-- A file of the disc: online with exposed bytes, or offline with a copy.
 pub record LiesTold (f : File) : Type 0 where
   pub lies : (is_some f.bytes ≡ true) ⊎ ((f.online ≡ false) × (is_some f.rec.tape ≡ true))
 
@@ -198,7 +199,7 @@ module _ (dumps : List Dump) (right : AreRight dumps) where
       by_place (inl some) = by_bytes f.bytes some is_x.bytes is_y.bytes
       by_place (inr (offline, copied)) = one_text f.rec.len f.rec.tape x y (λ some. copied) is_x.len is_y.len (is_x.tape tell offline) (is_y.tape tell offline)
 
--- a file of a disc that tells lies somewhere
+-- Each file of a disc that exposes its blocks is online or has a copy.
 lies_told : (blocks : List (List ℕ)) (f : FileEntry) → LiesSomewhere f → LiesTold (file_of (Some blocks) f)
 lies_told blocks (rec, Some copy) is = record { lies = inl refl }
 lies_told blocks (rec, None) is = record { lies = inr (refl, on_tape is.lies) }
@@ -250,7 +251,7 @@ numbered_copied n [] all = λ i d within. let no : ⊥ = omega (arith, within) i
 numbered_copied n (r ∷ rs) all =
     All-cons IsCopied (with_number n r) (numbered_from (n + 1) rs) (All-head IsCopied r rs all) (numbered_copied (n + 1) rs (All-tail IsCopied r rs all))
 
--- what a state says of a dumped directory, of its parts
+-- The parts of a dumped directory that determine its state.
 unfoldable pub dumped_parts : (ℕ → List ℕ) → Dump → List FileRec → state.Dumped
 dumped_parts text last gathered = record {
   number = last.number;
@@ -270,7 +271,7 @@ same_tree x y users files next agree = same_bytes users files (λ r. y r.stamp) 
 abbrev pub KeepsIn : (dumps : List Dump) → (ℕ → List ℕ) → DumpedDirectory dumps → Type 0
 KeepsIn dumps text t = All (λ r. KeepsRecord (text r.stamp) dumps r) (files_in t)
 
--- no tree is dumped where no directory has all its bytes
+-- No tree is dumped if no directory has all its bytes.
 abbrev pub NoneIn : (dumps : List Dump) → Option (DumpedDirectory dumps) → Type 0
 NoneIn dumps t = t ≡ None → (u : DumpedDirectory dumps) (text : ℕ → List ℕ) → KeepsIn dumps text u → ⊥
 
@@ -305,7 +306,7 @@ module _ (dumps : List Dump) (right : AreRight dumps) (apart : IsApart dumps) wh
   same_dumped x y (Some t) None is_t is_u none_t none_u = let no : ⊥ = none_u refl t x is_t in absurd no
   same_dumped x y (Some t) (Some u) is_t is_u none_t none_u = ap (λ (d : state.Dumped). Some d) (same_directory x y t u is_t is_u)
 
-  -- whatever the lists of dumps are called
+  -- The same for equal lists of dumps.
   pub over_dumps : (x y : ℕ → List ℕ) (a b : List Dump) → dumps ≡ a → dumps ≡ b → (t : Option (DumpedDirectory a)) (u : Option (DumpedDirectory b))
       → IfSome t (KeepsIn a x) → IfSome u (KeepsIn b y) → NoneIn a t → NoneIn b u → option_map (dumped_of x) t ≡ option_map (dumped_of y) u
   over_dumps x y a b is_a is_b t u keeps_t keeps_u none_t none_u =
@@ -315,7 +316,7 @@ module _ (dumps : List Dump) (right : AreRight dumps) (apart : IsApart dumps) wh
       (λ u keeps_u none_u. same_dumped x y t u keeps_t keeps_u none_t none_u) u keeps_u none_u)
       t keeps_t none_t
 
-  -- FILES of a disc that tells
+  -- The texts of the files of a disc that exposes its blocks.
   pub texts_on : (all : Type 0) (x y : ℕ → List ℕ) (blocks : List (List ℕ)) (c : Contents) → all → Holds blocks c
       → All (λ f. HasText all (x f.rec.stamp) dumps f) c.files → All (λ f. HasText all (y f.rec.stamp) dumps f) c.files → AgreeOn x y (recs_in c)
   unfolding AgreeOn
@@ -373,7 +374,7 @@ module _ (held : Option (List (List ℕ))) (reels : List Reel) (all : AllTold he
   same_holdings (Some c) None of_c of_e = let no : ⊥ = of_e.1 refl of_c.0.blocks c of_c.0.is of_c.0.holds in absurd no
   same_holdings (Some c) (Some e) of_c of_e = ap (λ (h : state.Holding). Some h) (same_holding c e of_c.0 of_e.0)
 
--- of a disc, as it is said
+-- The parts of the state of devices, for a disc.
 is_of : (held : Option (List (List ℕ))) (reels : List Reel) (v : View) (c : Option Contents)
     → IfSome c (λ k. (blocks : List (List ℕ)) × (held ≡ Some blocks) × Holds blocks k × IsView held reels k v) → IfSome c (IsOf held reels v)
 is_of held reels v None is = tt

@@ -1,4 +1,5 @@
 -- A change of a file keeps what a store that is up keeps.
+-- serves: changes_stay_up, crates above
 use Rattle.std.proofs.Common.{◌≡◌, ℕ, ◌+◌, ◌≤◌, List, Option, Some, None, sym, ◌∙◌, ap, subst}
 use Rattle.std.specs.Prelude.{IfSome}
 use Rattle.std.specs.Option.{ForSome}
@@ -19,11 +20,11 @@ use Rattle.g_store_meaning.proofs.BelongLemmas.{new_version_belongs}
 use Rattle.g_store_meaning.proofs.ChangeLemmas.{files_belong}
 use Rattle.g_store_meaning.proofs.DirectoryLemmas.{changes_keep_others, others_stay}
 
--- whatever dumps there are, what belonged belongs behind the change
+-- The change preserves belonging, for any dumps.
 unfoldable pub Carries : (ℕ → List ℕ) → (ℕ → List ℕ) → List Reel → Contents → Contents → Type 0
 Carries text new reels c e = (shelf : ℕ → List Dump) → RackBelongs text (all_dumps shelf reels) → DiscBelongs text shelf reels c → RackBelongs new (all_dumps shelf reels) × DiscBelongs new shelf reels e
 
--- the change keeps the directories of all who aren't touched, where a dump is open
+-- While a dump is open, the change preserves the directories of all users who aren't touched.
 abbrev KeepsTouched : Option DumpFacts → List ℕ → List ℕ → Contents → Contents → Type 0
 KeepsTouched dump old touched c e = IfSome dump (λ d. Grows old touched × KeepsOthers touched c e)
 
@@ -60,7 +61,7 @@ module _ (text new : ℕ → List ℕ) (shelf : ℕ → List Dump) (s : StoreFac
         open_dump = open_stays s.dump open_keeps was.open_dump;
       }
 
--- what is known where a dump is open
+-- What is known while a dump is open.
 pub both_open : {P Q R : DumpFacts → Type 0} (dump : Option DumpFacts) → ((d : DumpFacts) → P d → Q d → R d) → IfSome dump P → IfSome dump Q → IfSome dump R
 both_open None make p q = tt
 both_open (Some d) make p q = make d p q
@@ -105,7 +106,7 @@ stays_up = record {
       (one_open s.dump (λ d grows. (grows, changes_keep_others.back touched c number bytes)) grow.grows_open) was;
 }
 
--- AN OPEN DUMP stays open where its intent, the last number, the pins and its reel stay
+-- An open dump remains open if its intent, the last number, the pins and its reel are unchanged.
 pub stays_open : (d : DumpFacts) (o new : OnlineFacts) (rack after : Rack) → new.contents.head.intent ≡ o.contents.head.intent → new.contents.head.last_dump ≡ o.contents.head.last_dump
     → new.pins ≡ o.pins → reel d.plan.serial after.reels ≡ reel d.plan.serial rack.reels → IsOpen d o rack → IsOpen d new after
 stays_open d o new rack after intent last pins same is = record {

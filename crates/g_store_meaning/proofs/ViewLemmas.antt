@@ -1,4 +1,5 @@
--- Reads change nothing of what a rack means.
+-- Reads don't change the meaning of a rack.
+-- serves: reads_change_nothing (belong, state), crates above
 use Rattle.std.proofs.Common.{◌≡◌, List, Option, sym, subst}
 use Rattle.std.specs.Prelude.{Bool, true, false}
 use Rattle.g_tape.specs.Reel.{Reel}
@@ -14,7 +15,7 @@ use Rattle.g_store_meaning.specs.Laws.{ReadsBelong, ReadsKeepState}
 pub reads_belong : ReadsBelong
 reads_belong held old new only is = subst (BelongWith held) (sym only.reels) is
 
--- what a store stands for, of its parts
+-- The state that a store represents, by the parts of the store.
 unfoldable pub Stands : Bool → OnlineFacts → Option DumpFacts → State → List Reel → Type 0
 Stands true o dump u reels = DevicesStandFor o.disc.size o.disc.held reels u
 Stands false o dump u reels = (v : View) × IsView o.disc.held reels o.contents v × IsOpenView reels v o dump × (u ≡ state_up v reels o dump)

@@ -1,4 +1,4 @@
--- THE DIRECTORIES OF USERS WHO AREN'T CHANGED stay those of the completed dumps, whatever becomes of the others.
+-- The directories of unchanged users remain those of the completed dumps, whatever happens to the others.
 use Rattle.std.specs.Prelude.{◌≡◌, ℕ, ◌<◌, ◌≤◌, true, false, List, Contains, All, Option}
 use Rattle.g_entry.specs.declared.file_rec.FileRec.{FileRec}
 use Rattle.g_entry.specs.declared.head.Intent.{Intent}
@@ -11,30 +11,32 @@ use Rattle.g_store_meaning.specs.Laws.{closed, with_version}
 use Rattle.g_store_meaning.specs.Meaning.{files_of}
 use Rattle.g_store_meaning.specs.StoreInvariant.{KeepsDirectories, KeepsOpening}
 
+-- The second list has all numbers of the first.
 abbrev pub Grows : List ℕ → List ℕ → Type 0
 Grows old new = (n : ℕ) → holds old n ≡ true → holds new n ≡ true
 
--- a user outside these numbers was there, and has the same directory
+-- Every user outside these numbers existed before and has the same directory.
 pub record KeepsOthers (changed : List ℕ) (c e : Contents) : Type 0 where
   pub last : e.head.last_dump ≡ c.head.last_dump
   pub users : (u : UserRec) → Contains e.users u → holds changed u.number ≡ false → (v : UserRec) × Contains c.users v × (v.number ≡ u.number)
   pub files : (n : ℕ) → holds changed n ≡ false → files_of n (recs_in e) ≡ files_of n (recs_in c)
 
--- what a change of contents keeps, where it keeps the others
+-- If a change of contents leaves the other users' directories unchanged, these remain those of the dumps.
 pub record OthersStay : Type 0 where
   pub directories : (old new : List ℕ) (c e : Contents) (dumps : List Dump) → Grows old new → KeepsOthers new c e → KeepsDirectories old c dumps → KeepsDirectories new e dumps
   pub opening : (o : OnlineFacts) (e : Contents) (touched : List ℕ) (dumps : List Dump) → Grows o.touched touched → KeepsOthers touched o.contents e
       → KeepsOpening o dumps → KeepsOpening (record o { contents = e; touched = touched }) dumps
 
--- the file of this number is of this user
+-- The file of this number belongs to this user.
 abbrev pub IsOwnedBy : ℕ → ℕ → File → Type 0
 IsOwnedBy number owner g = g.rec.number ≡ number → g.rec.owner ≡ owner
 
--- and of one of these
+-- The file of this number belongs to one of these users.
 abbrev pub IsOwnedIn : ℕ → List ℕ → File → Type 0
 IsOwnedIn number changed g = g.rec.number ≡ number → holds changed g.rec.owner ≡ true
 
--- a change of a file keeps all but its owner's; what is taken off or brought back, and an intent, keep all
+-- The change of a file preserves the directories of all users but its owner. Taking files off the disc, bringing one
+-- back, or setting the intent preserves all directories.
 pub record ChangesKeepOthers : Type 0 where
   pub version : (changed : List ℕ) (c : Contents) (f : File) (numbers : List ℕ) → AreNumbered (recs_in c) → holds changed f.rec.owner ≡ true
       → All (IsOwnedBy f.rec.number f.rec.owner) c.files → KeepsOthers changed c (with_version f numbers c)
@@ -48,7 +50,7 @@ pub record ChangesKeepOthers : Type 0 where
       → ((u : UserRec) → Contains users u → holds changed u.number ≡ false → (v : UserRec) × Contains c.users v × (v.number ≡ u.number))
       → KeepsOthers changed c (record c { users = users })
 
--- the closing of a dump: who wasn't touched since its opening isn't changed behind it
+-- After a dump is closed, every user who wasn't touched since its opening counts as unchanged.
 abbrev pub ClosingKeepsDirectories : Type 0
 ClosingKeepsDirectories = (o : OnlineFacts) (number : ℕ) (dumps : List Dump) → 0 < number → ((d : Dump) → Contains dumps d → d.number ≤ number)
     → KeepsOpening o dumps → KeepsDirectories o.touched (closed number (noted o.pins) o.contents) dumps

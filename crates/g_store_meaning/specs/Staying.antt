@@ -1,4 +1,4 @@
--- WHAT A STORE THAT IS UP KEEPS, it keeps over each change of a file, whether a dump is open or not.
+-- The invariant of a store that is up is preserved by each change of a file, whether or not a dump is open.
 use Rattle.std.specs.Prelude.{◌≡◌, ℕ, ◌<◌, true, List, All, IfSome, Option}
 use Rattle.g_entry.specs.declared.file_rec.FileRec.{FileRec}
 use Rattle.g_entry.specs.Rules.{AreNumbered}
@@ -8,21 +8,22 @@ use Rattle.g_store_meaning.specs.Directories.{Grows, IsOwnedBy, IsOwnedIn}
 use Rattle.g_store_meaning.specs.Laws.{BringsText, IsNewVersion, RecordsAnew, with_text, with_version}
 use Rattle.g_store_meaning.specs.StoreInvariant.{IsUp, StoreFacts}
 
--- the store with these contents, and these users changed and touched
+-- The store with these contents, and with these changed and touched users.
 abbrev pub behind : StoreFacts → Contents → List ℕ → List ℕ → StoreFacts
 behind s e changed touched = record s { online = record s.online { contents = e; changed = changed; touched = touched } }
 
--- nobody is taken out of the changed and the touched users; the touched ones count while a dump is open
+-- No user is removed from the changed users, nor from the touched users while a dump is open.
 pub record OnlyGrow (s : StoreFacts) (changed touched : List ℕ) : Type 0 where
   pub grows : Grows s.online.changed changed
   pub grows_open : IfSome s.dump (λ d. Grows s.online.touched touched)
 
--- and this user is among them
+-- The same, and this user is among them.
 pub record AreMarked (s : StoreFacts) (owner : ℕ) (changed touched : List ℕ) : Type 0 where
   pub grow : OnlyGrow s changed touched
   pub has : holds changed owner ≡ true
   pub has_open : IfSome s.dump (λ d. holds touched owner ≡ true)
 
+-- The changes that preserve the invariant: a new version, an erasure, another record, files taken off the disc, and a file brought back.
 pub record StaysUp : Type 0 where
   pub version : (text : ℕ → List ℕ) (shelf : ℕ → List Dump) (s : StoreFacts) (f : File) (bytes numbers changed touched : List ℕ) → (let c = s.online.contents in
       AreNumbered (recs_in c) → All (λ g. g.rec.stamp < c.head.next_stamp) c.files → IsNewVersion c f bytes → All (IsOwnedBy f.rec.number f.rec.owner) c.files

@@ -1,4 +1,4 @@
--- WHAT A STORE THAT IS UP KEEPS besides: what it has in memory, and of an open dump.
+-- The invariant of a store that is up: its memory and an open dump.
 use Rattle.std.specs.Prelude.{◌≡◌, ℕ, ◌+◌, ◌<◌, ◌≤◌, ◌==◌, Bool, true, false, List, [], ◌∷◌, ◌++◌, map, filter, length, take, drop, Contains, Option, Some, None, IfSome, nat_le, if◌then◌else◌}
 use Rattle.std.specs.Option.{ForSome}
 use Rattle.g_base.specs.Block.{blocks_for}
@@ -14,18 +14,19 @@ use Rattle.g_shelf.specs.CompletedDumps.{all_dumps}
 use Rattle.g_store_meaning.specs.Meaning.{HasDirectory, files_of, told_reels}
 use Rattle.g_store_meaning.specs.Belonging.{RackBelongs, DiscBelongs}
 
--- a dump in memory: what it will hold, and how many of its blocks are written
+-- A dump in memory: what it will hold, and how many of its blocks have been written.
 pub record DumpFacts : Type 0 where
   pub plan : Plan
   pub done : ℕ
 
+-- A store: the online filestore, the rack, the open dump, and whether a write has failed.
 pub record StoreFacts : Type 0 where
   pub online : OnlineFacts
   pub rack : Rack
   pub dump : Option DumpFacts
   pub spent : Bool
 
--- the pins are the plan's versions that wait, in their order, with the copies that it notes
+-- The pins are the waiting versions of the plan, in their order, with the copies that the plan gives them.
 abbrev pub ArePinned : ℕ → ℕ → List FileRec → List Pin → Type 0
 ArePinned serial at [] pins = pins ≡ []
 ArePinned serial at (r ∷ rs) pins =
@@ -33,7 +34,7 @@ ArePinned serial at (r ∷ rs) pins =
     × (pin.copy ≡ record { serial = serial; first = at }) × ForSome pin.blocks (λ blocks. length blocks ≡ blocks_for r.len)
     × ArePinned serial (at + blocks_for r.len) rs rest
 
--- the content that the pinned versions give, where the disc tells
+-- The content that the pinned versions give, if the disc exposes its blocks.
 abbrev pub content_in : List Pin → Option (List (List ℕ))
 content_in [] = Some []
 content_in (p ∷ ps) = both p.blocks (content_in ps)
@@ -42,7 +43,7 @@ content_in (p ∷ ps) = both p.blocks (content_in ps)
     both (Some a) (Some b) = Some (a ++ b)
     both a b = None
 
--- AN OPEN DUMP: its intent, its pins and its reel. This part needs no content to be told.
+-- An open dump: its intent, its pins and its reel. Only the blocks already written are compared, if they are exposed.
 pub record IsOpen (d : DumpFacts) (o : OnlineFacts) (rack : Rack) : Type 0 where
   pub intent : o.contents.head.intent ≡ Some (record { serial = d.plan.serial; place = d.plan.place; number = d.plan.number })
   pub number : d.plan.number ≡ o.contents.head.last_dump + 1
@@ -59,49 +60,52 @@ pub record IsOpen (d : DumpFacts) (o : OnlineFacts) (rack : Rack) : Type 0 where
   pub written : 0 < d.done → ForSome on.blocks (λ blocks. ForSome (content_in pins)
       (λ content. drop d.plan.place blocks ≡ take d.done (dump_blocks (dump_of d.plan content))))
 
--- the directory of a user as the newest dump that holds it has it; numbers don't count
+-- The record with number 0. File numbers are ignored when directories are compared.
 abbrev pub unnumbered : FileRec → FileRec
 unnumbered r = record r { number = 0 }
 
+-- The records are the same, apart from file numbers.
 abbrev pub same_files : List FileRec → List FileRec → Type 0
 same_files a b = map unnumbered a ≡ map unnumbered b
 
+-- The newest dump that holds the user's directory has these files in it, apart from their numbers.
 pub record IsKept (dumps : List Dump) (user : ℕ) (files : List FileRec) : Type 0 where
   pub source : Dump
   pub directory : HasDirectory dumps user source
   pub same : same_files (files_of user source.files) files
 
+-- The dumps with numbers of at most n.
 abbrev pub up_to : ℕ → List Dump → List Dump
 up_to n dumps = filter (λ d. nat_le d.number n) dumps
 
--- A dump leaves out the users who haven't changed since the last completed one. This is why it may: the directories of the users
--- who aren't changed are those of the completed dumps.
+-- A dump leaves out users who haven't changed since the last completed one. It may, because the directories of the unchanged
+-- users are those of the completed dumps.
 pub record KeepsDirectories (changed : List ℕ) (c : Contents) (dumps : List Dump) : Type 0 where
   pub each : 0 < c.head.last_dump → (u : UserRec) → Contains c.users u → holds changed u.number ≡ false
       → IsKept (up_to c.head.last_dump dumps) u.number (files_of u.number (recs_in c))
   pub none : c.head.last_dump ≡ 0 → (u : UserRec) → Contains c.users u → holds changed u.number ≡ true
 
--- What lets the users who weren't touched count as unchanged once the open dump is completed: with it completed their directories,
--- the noted copies put in, are those of the dumps.
+-- If the open dump were completed, the directories of untouched users, with the noted copies, would be those of the dumps. These
+-- users may then count as unchanged.
 pub record KeepsOpening (o : OnlineFacts) (dumps : List Dump) : Type 0 where
   pub each : (u : UserRec) → Contains o.contents.users u → holds o.touched u.number ≡ false
       → IsKept dumps u.number (files_of u.number (map (λ f. f.rec) (with_copies (noted o.pins) o.contents.files)))
 
--- the shelf with one more dump behind the others of its reel
+-- The shelf with one more dump, after the others of its reel.
 abbrev pub with_dump : Dump → (ℕ → List Dump) → ℕ → List Dump
 with_dump d shelf serial = if serial == d.serial then shelf serial ++ d ∷ [] else shelf serial
 
--- What lets the mark be written at any later moment, whatever became of the files meanwhile: with the open dump completed disc and
--- rack would belong together, and the directories be those of its opening. It is kept by every change of a file, so the last step
--- has nothing else to show.
+-- The mark of the open dump may be written at any time, whatever happened to the files: with that dump completed, disc and rack
+-- would belong together, and the directories would be those of its opening. Every change of a file preserves this, so the last
+-- step of the dump has nothing else to establish.
 pub record IsReady (text : ℕ → List ℕ) (shelf : ℕ → List Dump) (reels : List Reel) (o : OnlineFacts) (d : Dump) : Type 0 where
   pub rules : IsDump d
   pub rack : RackBelongs text (all_dumps (with_dump d shelf) reels)
   pub disc : DiscBelongs text (with_dump d shelf) reels o.contents
   pub opening : KeepsOpening o (all_dumps (with_dump d shelf) reels)
 
--- WHAT A STORE THAT IS UP KEEPS: memory and disc agree, no completed dump is newer than the last one, the kept users'
--- directories are in the dumps, and an open dump is as it was opened
+-- The invariant of a store that is up: memory and disc agree, no completed dump is newer than the last one, the kept
+-- users' directories are in the dumps, and an open dump may be completed at any time.
 pub record IsUp (text : ℕ → List ℕ) (shelf : ℕ → List Dump) (s : StoreFacts) : Type 0 where
   pub rack : RackBelongs text (all_dumps shelf (told_reels s.rack))
   pub disc : DiscBelongs text shelf (told_reels s.rack) s.online.contents

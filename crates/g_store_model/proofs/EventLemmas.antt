@@ -1,4 +1,5 @@
--- More of what follows of the step: refusals, completeness, and the events that change no tree.
+-- Further laws of the step: refusals, completeness, and the events that change no tree.
+-- serves: lib, refusals_are_plain (complete, only)
 use Rattle.std.proofs.Common.{◌≡◌, ℕ, ◌+◌, ◌<◌, ◌≤◌, List, [], ◌∷◌, Option, Some, None, refl, sym, ◌∙◌, ap, subst, inl, inr, arith}
 use Rattle.std.specs.Prelude.{option_map, if◌then◌else◌, ◌⊎◌, Bool, true, false, not, nat_lt, sum_by, Result, Ok, Err, MatchOption, is_some, unwrap_or, ◌||◌, ◌&&◌}
 use Rattle.std.specs.FinMap.{entries}

@@ -1,4 +1,5 @@
--- Where no count rose, the answer of a call and the state behind it are determined.
+-- If no device fails, the answer of a call and the state after it are determined.
+-- serves: lib, StartLemmas
 use Rattle.std.proofs.Common.{◌≡◌, ℕ, ◌+◌, ◌<◌, ◌≤◌, List, [], ◌∷◌, Option, Some, None, refl, sym, ◌∙◌, ap, subst, inl, inr, arith}
 use Rattle.std.specs.Prelude.{◌⊎◌, Bool, true, false, T, cond, map, nat_lt, ◌==◌, sum_by, Result, Ok, Err, MatchOption, option_map, unwrap_or, ◌||◌, ◌&&◌, if◌then◌else◌}
 use Rattle.std.specs.Ordering.{nat_cmp, eq_by_cmp, is_lt}

@@ -1,4 +1,5 @@
 -- What follows of the step of PROCESS.
+-- serves: lib, StartLemmas
 use Rattle.std.proofs.Common.{◌≡◌, ◌≢◌, ℕ, ◌+◌, List, [], ◌∷◌, ◌++◌, Option, Some, None, refl, sym, ◌∙◌, ap, subst, inl, inr}
 use Rattle.std.specs.Prelude.{◌⊎◌, ◌==◌, Bool, true, false, not, ◌&&◌, map, nat_lt, Result, Ok, Err, MatchOption, option_map, if◌then◌else◌}
 use Rattle.std.specs.FinMap.{FinMap}
@@ -65,14 +66,14 @@ step_tree : (s : State) (k : Holding) (serial : ℕ) (o : Outcome) (answer : Res
 step_tree s k serial o answer new held (inl (fault, e, same)) = ap tree_in same ∙ tree_held s k held
 step_tree s k serial o answer new held (inr is) = outcome_tree s k serial o answer new held is
 
--- REELS, one by one
+-- Single reels.
 same_reel : (r : ReelRow) → IsThatReel r r
 same_reel r = record { serial = refl; capacity = refl; mounted = refl }
 
 kept_reel : (r : ReelRow) → KeepsDumps r r
 kept_reel r = record { reel = same_reel r; dumps = refl }
 
--- where a choice is made between two
+-- A property of a conditional, from its two branches.
 by_choice : {A : Type 0} (P : A → Type 0) (b : Bool) (x y : A) → (b ≡ true → P x) → P y → P (if b then x else y)
 by_choice P true x y on off = on refl
 by_choice P false x y on off = off
@@ -104,7 +105,7 @@ used_reels serial used rs =
 abbrev put_on : Shelved → ReelRow → ReelRow
 put_on d r = with_used true (with_shelved d r)
 
--- the dump is put on its reel once
+-- The dump is added to its reel once.
 one_more : (on : ℕ) (d : Shelved) (rs : List ReelRow) → AllZip (IsWrittenOrReleased on d) rs (with_reel on (put_on d) rs)
 one_more on d [] = tt
 one_more on d (r ∷ rs) =
@@ -146,7 +147,7 @@ found_here on r rs is = cond-true (on == r.serial) (Some r) (reel_at on rs) (eq-
 found_behind : (on : ℕ) (r : ReelRow) (rs : List ReelRow) → (on == r.serial) ≡ false → reel_at on (r ∷ rs) ≡ reel_at on rs
 found_behind on r rs isnt = cond-false (on == r.serial) (Some r) (reel_at on rs) isnt
 
--- what is found where one reel is changed
+-- What is found after one reel was changed.
 pub found_with : (on : ℕ) (f : ReelRow → ReelRow) → ((r : ReelRow) → (f r).serial ≡ r.serial) → (rs : List ReelRow) → reel_at on (with_reel on f rs) ≡ option_map f (reel_at on rs)
 found_with on f same [] = refl
 found_with on f same (r ∷ rs) = by_serial (cases_Bool (on == r.serial)) (found_with on f same rs)
@@ -176,7 +177,7 @@ found_apart on n f same apart (r ∷ rs) = by_serial (cases_Bool (n == r.serial)
         ap (reel_at on) (cond-false (n == r.serial) (f r ∷ rs) (r ∷ with_reel n f rs) isnt)
         ∙ ap (λ (o : Option ReelRow). let x : Option ReelRow = if on == r.serial then Some r else o in x) rest
 
--- and so does the release of others
+-- The same for the release of other reels.
 released_serial : (on until : ℕ) (r : ReelRow) → (released_before on until r).serial ≡ r.serial
 released_serial on until r = by_choice (λ (q : ReelRow). q.serial ≡ r.serial) _ (record r { dumps = [] }) r (λ e. refl) refl
 

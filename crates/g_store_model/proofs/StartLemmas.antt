@@ -1,4 +1,5 @@
 -- When a start adopts a dump, and what it holds then.
+-- serves: lib
 use Rattle.std.proofs.Common.{◌≡◌, ℕ, List, [], ◌∷◌, ◌++◌, Option, Some, None, refl, ◌∙◌, ap, subst}
 use Rattle.std.specs.Prelude.{◌==◌, ◌&&◌, Bool, true, false, find, is_some, map, Result, Ok, option_map, unwrap_or, if◌then◌else◌}
 use Rattle.std.specs.Ordering.{nat_cmp}
@@ -16,7 +17,7 @@ use Rattle.g_store_model.specs.StartLaws.{HasItsDump, OwnsNoted, StartsAdopt, in
 use Rattle.g_store_model.proofs.OneLemmas.{AllOwn, own_all}
 use Rattle.g_store_model.proofs.ProcessLemmas.{found_with}
 
--- AN ANSWER WITH A NUMBER comes of a dump that stands whole
+-- A reply with a number implies a complete dump.
 done_reply : {A : Type 0} (refusal : Option StoreFault) (reply : A) (s after : State) (answer : A) (new : State) → Event refusal reply s after (Ok answer) new → (let one : Result A StoreFault = Ok answer in one ≡ Ok reply)
 done_reply None reply s after answer new step = step.0
 done_reply (Some Stopped) reply s after answer new step = absurd (let e = step.0 in (let no : ⊥ = cc in no))
@@ -61,7 +62,7 @@ same_copies d k owns (e ∷ es) own =
 same_places : (d : OpenDump) (k : Holding) → OwnsNoted d k → from_sorted {R = nat_cmp} (map (adopts d) (entries k.places)) ≡ with_noted d k.places
 same_places d k owns = ap (λ (es : List (ℕ × Place)). from_sorted {R = nat_cmp} es) (same_copies d k owns (entries k.places) (own_all (entries k.places) (entries_sorted k.places)))
 
--- THE DUMP stands on its reel behind the mark
+-- The dump is on its reel after the mark was written.
 found_last : (test : Shelved → Bool) (ds : List Shelved) (d : Shelved) → test d ≡ true → is_some (find test (ds ++ d ∷ [])) ≡ true
 found_last test [] d is = ap (λ (b : Bool). is_some (if b then Some d else None)) is
 found_last test (x ∷ xs) d is = at (test x) (found_last test xs d is)
@@ -83,7 +84,7 @@ module _ (s : State) (d : OpenDump) (r : ReelRow) (there : reel_at d.serial s.re
   mounted_is : r.mounted ≡ true → is_mounted (down (marked d s)) d.serial ≡ true
   mounted_is is = ap mounted_in reel_is ∙ is
 
--- where nothing refuses the event is done
+-- If nothing refuses it, the event is done.
 event_is : {A : Type 0} (refusal : Option StoreFault) (reply : A) (s after : State) (answer : Result A StoreFault) (new : State) → refusal ≡ None → Event refusal reply s after answer new
     → (answer ≡ Ok reply) × (new ≡ after)
 event_is None reply s after answer new none step = step

@@ -1,4 +1,5 @@
 -- What follows of the step by cases on its refusals.
+-- serves: lib, EventLemmas, ProcessLemmas
 use Rattle.std.proofs.Common.{◌≡◌, ℕ, List, [], ◌∷◌, Option, Some, None, refl, sym, ◌∙◌, ap, subst, inl, inr}
 use Rattle.std.specs.Prelude.{◌≢◌, ◌⊎◌, Bool, true, false, not, Result, Ok, Err, option_map, MatchOption, is_some, unwrap_or, ◌||◌, ◌&&◌, if◌then◌else◌}
 use Rattle.g_plain.specs.declared.calls.StoreCall.{StoreCall}
@@ -36,7 +37,7 @@ dumps_keep_tree s k d o (Err fault) new held step = absurd step
 not_ok : {A : Type 0} (reply : StoreReply) (fault : StoreFault) → (let one : Result StoreReply StoreFault = Ok reply in one ≡ Err fault) → A
 not_ok reply fault e = absurd (let no : ⊥ = cc in no)
 
--- an answer that is Ok is behind all refusals
+-- An answer that is Ok has passed all refusals.
 pub not_refused : {P : Type 0} (Q : StoreFault → Type 0) (f : Option StoreFault) (reply : StoreReply) → MatchOption f P (λ fault. (let one : Result StoreReply StoreFault = Ok reply in one ≡ Err fault) × Q fault) → (f ≡ None) × P
 not_refused Q None reply step = (refl, step)
 not_refused Q (Some fault) reply step = not_ok reply fault step.0
@@ -82,7 +83,7 @@ pub left_same : (s : State) (k : Holding) (who : List ℕ) (call : StoreCall) (o
 left_same s k who call o until Stopped new other left = absurd (other refl)
 left_same s k who call o until f new other left = left
 
--- a refusal is before room is looked for, or behind
+-- A refusal precedes the check of room, or follows it.
 pub refused : {P : Type 0} (Q : StoreFault → Type 0) (f : Option StoreFault) (fault : StoreFault) → MatchOption f P (λ g. (let one : Result StoreReply StoreFault = Err fault in one ≡ Err g) × Q g)
     → ((f ≡ None) × P) ⊎ ((f ≡ Some fault) × Q fault)
 refused Q None fault step = inl (refl, step)

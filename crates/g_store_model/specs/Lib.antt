@@ -1,4 +1,4 @@
--- The states of the whole store, and what each event does to them.
+-- The states of the whole store, and the effect of each event on them.
 pub mod State
 pub mod CallStep
 pub mod DumpSteps

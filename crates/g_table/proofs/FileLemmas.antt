@@ -1,4 +1,5 @@
--- Records beside their numbers, and without them.
+-- Records with their numbers, and without them.
+-- serves: free (least, unused), get, of, put (files, was), set, take (files, was)
 use Rattle.std.proofs.Common.{◌≡◌, ℕ, zero, suc, ◌+◌, ◌<◌, ◌==◌, not, List, [], ◌∷◌, ◌++◌, length, filter, find, map, take, get_or, AllPairs, Bool, Option, Some, None, option_map, refl, sym, ◌∙◌, ap, arith, subst, cond, true, false}
 use Rattle.std.specs.Prelude.{IfSome, is_some, nat_lt}
 use Rattle.std.specs.List.{AllByRecursion}
@@ -57,7 +58,7 @@ rec_is (c ∷ items) n have = by (c.0 == n) (c.1.number == n) (ap (λ (k : ℕ).
     by true false same rest = let no : ⊥ = cc in absurd no
     by false true same rest = let no : ⊥ = cc in absurd no
 
--- A RECORD PUT among others, and one taken out
+-- Adding a record to others, and removing one.
 pub with_numbers : (items : Records) (n : ℕ) (r : FileRec) → n ≡ r.number → HaveNumbers items → HaveNumbers (with_item n r items)
 with_numbers items n r same have =
     both (filter (λ c. nat_lt c.0 n) items) ((n, r) ∷ filter (λ c. nat_lt n c.0) items) (kept (λ k. nat_lt k n) items have) (same, kept (λ k. nat_lt n k) items have)
@@ -88,7 +89,7 @@ pub free_least : (items : Records) (files : List FileRec) (found : Option ℕ) �
 free_least items files None have is least = tt
 free_least items files (Some n) have is least = λ lower less. ap is_some (sym (rec_in items files lower have is)) ∙ least lower less
 
--- A RECORD BEHIND those of lower numbers
+-- A record after those of lower numbers.
 low_all : (n : ℕ) (files : List FileRec) → AllByRecursion (λ s. s.number < n) files → filter (λ s. nat_lt s.number n) files ≡ files
 low_all n [] lower = refl
 low_all n (r ∷ files) lower =

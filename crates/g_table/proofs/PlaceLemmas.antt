@@ -1,4 +1,5 @@
--- How many items stand at places, and at each 32 of them.
+-- How many items a list of places holds, and each group of 32 of them.
+-- serves: free (least, none, unused), iter, new, next_back (goes, steps), put, set_rec, take
 use Rattle.std.proofs.Common.{◌≡◌, ℕ, zero, suc, ◌+◌, ◌*◌, ◌-◌, ◌/◌, ◌<◌, ◌≤◌, ◌⊎◌, inl, inr, List, [], ◌∷◌, ◌++◌, length, length-append, drop, take, Option, Some, None, get_or, slice_get, replicate, false, true, refl, sym, ◌∙◌, ap, subst, arith}
 use Rattle.std.specs.Prelude.{is_some, slice_set}
 use Rattle.std.proofs.Math.Seq.{take-set-lt}
@@ -9,7 +10,7 @@ use Rattle.std.proofs.lemmas.Option.{slice_get-get_or}
 use Rattle.g_table.specs.Table.{AreCounts, AreTaken, IsTable, present, standing, standing_at}
 use Rattle.g_table.proofs.TableLemmas.{Places}
 
--- of the places in front, and of those behind
+-- The items of a prefix of the places, and of the rest.
 pub get_front : {A : Type 0} (k : ℕ) (xs : List A) (i : ℕ) → i < k → slice_get (take k xs) i ≡ slice_get xs i
 get_front zero xs i less = let no : ⊥ = omega (arith, less) in absurd no
 get_front (suc k) [] i less = refl
@@ -109,7 +110,7 @@ module _ {A : Type 0} where
         subst (AreCounts (slice_set counts g v)) (sym rest) (counts_change counts (drop 32 places) m g old new v (omega (arith, low, behind)) (omega (arith, high, behind)) (omega (arith, within)) there are.1 sum),
       )
 
-  -- ALL PLACES ARE TAKEN where there are as many items
+  -- All places are taken if there are as many items.
   taken_first : (place : Option A) → 1 ≤ weight place → is_some place ≡ true
   taken_first None some = let no : ⊥ = omega (arith, some) in absurd no
   taken_first (Some item) some = refl
@@ -169,7 +170,7 @@ module _ {A : Type 0} where
   rest_size (suc n) [] long = let no : ⊥ = omega (arith, long) in absurd no
   rest_size (suc n) (x ∷ xs) long = let rest = rest_size n xs (omega (arith, long)) in omega (arith, rest)
 
-  -- a group that isn't full has a place where none stands
+  -- A group that isn't full has an empty place.
   pub open_gap : (counts : List ℕ) (places : Places A) (g : ℕ) → AreCounts counts places → g < length counts → get_or counts g 0 < 32 → 32 * g + 32 ≤ length places → AreTaken (32 * g) (32 * g + 32) places → ⊥
   open_gap [] places g are within free long taken = omega (arith, within)
   open_gap (c ∷ counts) places zero are within free long taken =
@@ -196,7 +197,7 @@ module _ {A : Type 0} where
     all = sym (ap (λ (l : Places A). length (present l)) is ∙ ap length (none_present A 1024));
   }
 
-  -- BEHIND THE END no item stands
+  -- The places after the end are empty.
   pub later_none : (e d : ℕ) (places : Places A) → present (drop e places) ≡ [] → e ≤ d → present (drop d places) ≡ []
   later_none zero zero places none less = none
   later_none zero (suc d) [] none less = refl
@@ -301,7 +302,7 @@ module _ {A : Type 0} where
           all = let change = present_change places n (Some old) None there in let all = table.all in let same = ap (λ (l : Places A). length (present l)) is in omega (arith, change, all, less, same);
         }
 
-  -- what stood at a place that was changed
+  -- The item that was at a changed place.
   pub stood_none : (places : Places A) (n : ℕ) (was stood : Option A) → n < 1024 → length places ≡ 1024 → stood ≡ get_or places n stood → was ≡ stood → is_some was ≡ false → (let none : Option A = None in slice_get places n ≡ Some none)
   stood_none places n None stood below size there same empty = slice_get-get_or places n stood (omega (arith, below, size)) ∙ ap Some (sym there ∙ sym same)
   stood_none places n (Some item) stood below size there same empty = let no : ⊥ = cc in absurd no
@@ -351,7 +352,7 @@ module _ {A : Type 0} where
   front_present (suc e) (None ∷ places) none = front_present e places none
   front_present (suc e) (Some item ∷ places) none = ap (λ (l : List A). item ∷ l) (front_present e places none)
 
-  -- what stands at the last place
+  -- The item at the last place.
   pub back_some : (places : Places A) (item : A) → present (places ++ Some item ∷ []) ≡ present places ++ item ∷ []
   back_some [] item = refl
   back_some (None ∷ places) item = back_some places item
@@ -370,7 +371,7 @@ module _ {A : Type 0} where
   pub shorter_back : (all rest : List A) (item : A) → all ≡ rest ++ item ∷ [] → length rest < length all
   shorter_back all rest item is = let many = ap length is ∙ length-append rest (item ∷ []) in omega (arith, many)
 
-  -- what stands where one does
+  -- The item at a place that has one.
   pub standing_some : (places : Places A) (n : ℕ) (stood : Option A) → is_some (standing_at places n) ≡ true → stood ≡ get_or places n stood → (item : A) × ((slice_get places n ≡ Some (Some item)) × (stood ≡ Some item))
   standing_some [] n stood some is = let no : ⊥ = cc in absurd no
   standing_some (None ∷ places) zero stood some is = let no : ⊥ = cc in absurd no

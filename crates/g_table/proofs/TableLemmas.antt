@@ -1,4 +1,5 @@
 -- Items at places by number: which is that of a number, and what the list is when a place changes.
+-- serves: free (least, none, unused), get, iter, len, new, put (items, was), set_rec, take (items, was), PlaceLemmas, crates above
 use Rattle.std.proofs.Common.{◌≡◌, ◌≢◌, ℕ, zero, suc, ◌+◌, ◌<◌, ◌≤◌, ◌==◌, not, List, [], ◌∷◌, ◌++◌, length, filter, find, map, drop, take, Option, Some, None, get_or, slice_get, replicate, option_map, refl, sym, ◌∙◌, ap, subst, arith, cond}
 use Rattle.std.specs.Prelude.{nat_lt, slice_set}
 use Rattle.std.specs.List.{AllByRecursion}
@@ -26,7 +27,7 @@ module _ {A : Type 0} where
   listed_none first zero = refl
   listed_none first (suc count) = listed_none (first + 1) count
 
-  -- the items alone, and how many they are
+  -- The items without their numbers, and how many they are.
   pub items_present : (first : ℕ) (places : Places A) → map (λ c. c.1) (listed_from first places) ≡ present places
   items_present first [] = refl
   items_present first (None ∷ places) = items_present (first + 1) places
@@ -105,7 +106,7 @@ module _ {A : Type 0} where
   all_high n [] greater = refl
   all_high n (c ∷ items) greater = high_in n c items greater.0 ∙ ap (λ (l : Items A). c ∷ l) (all_high n items greater.1)
 
-  -- AN ITEM PUT among others
+  -- Adding an item to others.
   pub in_front : (c : ℕ × A) (items : Items A) → ItemsAbove c.0 items → with_item c.0 c.1 items ≡ c ∷ items
   in_front c items greater = ap (λ (l : Items A). l ++ c ∷ highs c.0 items) (no_low c.0 items greater) ∙ ap (λ (l : Items A). c ∷ l) (all_high c.0 items greater)
 

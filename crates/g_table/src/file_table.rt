@@ -11,8 +11,8 @@ use g_entry::{BoxedRec, FileRec};
 use std::alloc::Global;
 use std::marker::Model;
 
-/// The records of files, each in a box at the place of its number, below 1,024. Contracts see them in
-/// order of number.
+/// The records of files, each in a box at the place of its number, below 1,024. Contracts see them in order of their
+/// numbers.
 #[derive(Drop)]
 pub struct FileTable {
     records: NumberTable<BoxedRec>,
@@ -31,7 +31,7 @@ impl Model for FileTable {
 }
 
 impl FileTable {
-    /// No file.
+    /// A table without files.
     pub fn new(alloc: Global) -> Result<FileTable, NoMemory>
         ensures { IfOk result (λ t. t ≡ []) }
     {
@@ -40,7 +40,7 @@ impl FileTable {
         })
     }
 
-    /// The table of these records, each in a box of its own.
+    /// The table of these records, each in a new box.
     pub fn of(alloc: Global, files: &[FileRec]) -> Result<FileTable, NoMemory>
         requires { AreNumbered files.now }
         ensures { IfOk result (λ t. t ≡ files.now) }
@@ -52,14 +52,14 @@ impl FileTable {
         Ok(table)
     }
 
-    /// How many files there are.
+    /// The number of files.
     pub fn len(&self) -> usize
         ensures { result ≡ length self.now }
     {
         self.records.len()
     }
 
-    /// The record of the file of this number, where there is one.
+    /// The record of the file of this number, if there is one.
     pub fn get(&self, number: u16) -> Option<&FileRec>
         ensures { option_copied result ≡ rec_at self.now number }
     {
@@ -69,8 +69,8 @@ impl FileTable {
         }
     }
 
-    /// Puts a record at the place of its number, and gives back the box of the one that stood there. It
-    /// takes no memory.
+    /// Stores a record at the place of its number and returns the box of the record that it replaces. It allocates
+    /// nothing.
     pub fn put(&mut self, rec: BoxedRec) -> Option<BoxedRec>
         requires { rec.number < 1024 }
         ensures files { self.new ≡ with_rec rec self.old }
@@ -80,7 +80,7 @@ impl FileTable {
         self.records.put(number, rec)
     }
 
-    /// Puts a record in the place of the one of its number, which is there.
+    /// Replaces the record of this number, which must exist, in its box.
     pub fn set(&mut self, rec: FileRec)
         requires { is_some (rec_at self.old rec.number) ≡ true }
         ensures { self.new ≡ with_rec rec self.old }
@@ -88,7 +88,7 @@ impl FileTable {
         self.records.set_rec(rec);
     }
 
-    /// Takes the record of this number out, if there is one.
+    /// Removes and returns the record of this number, if there is one.
     pub fn take(&mut self, number: u16) -> Option<BoxedRec>
         requires { number < 1024 }
         ensures files { self.new ≡ without_rec number self.old }
@@ -97,7 +97,7 @@ impl FileTable {
         self.records.take(number)
     }
 
-    /// The least number that no file has, where there is one below 1,024.
+    /// The least number below 1,024 that no file has, if there is one.
     pub fn free(&self) -> Option<u16>
         ensures unused { IfSome result (λ number. (number < 1024)
             × (rec_at self.now number ≡ None)) }
@@ -108,7 +108,7 @@ impl FileTable {
         self.records.free()
     }
 
-    /// The records in order of number.
+    /// The records in order of their numbers.
     pub fn iter(&self) -> Files
         ensures { result ≡ self.now }
     {

@@ -1,4 +1,4 @@
-//! A walk over the records of files.
+//! Iterates over the records of files.
 ghost use Rattle.std.specs.Prelude.{◌≡◌};
 ghost use Rattle.std.specs.Iterator.{YieldsFirstRef, YieldsLastRef, item_count};
 
@@ -6,7 +6,7 @@ use crate::iter::Iter;
 use g_entry::{BoxedRec, FileRec};
 use std::marker::Model;
 
-/// Records of files, one after another. Contracts see those that are left.
+/// The records of files, one at a time. Contracts see the remaining ones.
 #[derive(Drop)]
 pub struct Files<'a> {
     records: Iter<'a, BoxedRec>,

@@ -1,11 +1,11 @@
-//! A walk over what stands at places.
+//! Iterates over the items of places.
 ghost use Rattle.std.specs.Prelude.{◌≡◌};
 ghost use Rattle.std.specs.Iterator.{YieldsFirstRef, YieldsLastRef, item_count};
 ghost use Rattle.g_table.specs.Table.{present};
 
 use std::marker::Model;
 
-/// The items that stand at places, one after another. Contracts see those that are left.
+/// The items at places, one at a time. Contracts see the remaining ones.
 #[derive(Drop)]
 pub struct Iter<'a, T> {
     places: &'a [Option<T>],

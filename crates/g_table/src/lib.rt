@@ -1,5 +1,5 @@
-//! Items that stand by their numbers, below 1,024: none moves where another comes or goes. And the
-//! records of files so.
+//! Tables of items with numbers below 1,024, in which no item moves when another is added or removed; and the records
+//! of files in such a table.
 #![tactic(auto)]
 
 mod file_table;

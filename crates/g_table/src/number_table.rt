@@ -1,4 +1,4 @@
-//! Items by their numbers.
+//! A table of items by number.
 ghost use Rattle.std.specs.Prelude.{◌≡◌, ◌<◌, ℕ, [], IfOk, IfSome, IfNone, None, is_some, length, map, true};
 ghost use Rattle.std.specs.Option.{option_copied};
 ghost use Rattle.g_table.specs.Table.{item_at, with_item, without_item};
@@ -12,16 +12,16 @@ use g_entry::{BoxedRec, FileRec};
 use std::alloc::Global;
 use std::marker::Model;
 
-/// Items with a place for each number below 1,024: none is searched for, and none moves where another
-/// comes or goes. Contracts see the items in order of number, each with its number.
+/// Items with a place for each number below 1,024: access needs no search, and no item moves when another is added or
+/// removed. Contracts see the items in order of their numbers, each with its number.
 #[derive(Drop)]
 pub struct NumberTable<T> {
     places: Vec<Option<T>>,
 
-    // No item stands from this place on.
+    // The places from this one on are empty.
     end: usize,
 
-    // How many items stand in each group of 32 places, and how many there are.
+    // The number of items in each group of 32 places, and in all.
     used: Vec<u8>,
     count: usize,
 }
@@ -50,14 +50,14 @@ impl<T: Drop> NumberTable<T> {
         })
     }
 
-    /// How many items there are.
+    /// The number of items.
     pub fn len(&self) -> usize
         ensures { result ≡ length self.now }
     {
         self.count
     }
 
-    /// The item of this number, where there is one.
+    /// The item of this number, if there is one.
     pub fn get(&self, number: u16) -> Option<&T>
         ensures { option_copied result ≡ item_at self.now number }
     {
@@ -67,7 +67,7 @@ impl<T: Drop> NumberTable<T> {
         }
     }
 
-    /// Puts an item at the place of its number, and gives back what stood there. It takes no memory.
+    /// Stores an item at the place of its number and returns the item that it replaces. It allocates nothing.
     pub fn put(&mut self, number: u16, item: T) -> Option<T>
         requires { number < 1024 }
         ensures items { self.new ≡ with_item number item self.old }
@@ -83,7 +83,7 @@ impl<T: Drop> NumberTable<T> {
         was
     }
 
-    /// Takes the item of this number out, if there is one.
+    /// Removes and returns the item of this number, if there is one.
     pub fn take(&mut self, number: u16) -> Option<T>
         requires { number < 1024 }
         ensures items { self.new ≡ without_item number self.old }
@@ -99,7 +99,7 @@ impl<T: Drop> NumberTable<T> {
         was
     }
 
-    /// The least number that no item has, where there is one below 1,024.
+    /// The least number below 1,024 that no item has, if there is one.
     pub fn free(&self) -> Option<u16>
         ensures unused { IfSome result (λ number. (number < 1024)
             × (item_at self.now number ≡ None)) }
@@ -115,7 +115,7 @@ impl<T: Drop> NumberTable<T> {
         }
     }
 
-    /// The items in order of number.
+    /// The items in order of their numbers.
     pub fn iter(&self) -> Iter<T>
         ensures { result ≡ map (λ c. c.1) self.now }
     {
@@ -124,7 +124,7 @@ impl<T: Drop> NumberTable<T> {
 }
 
 impl NumberTable<BoxedRec> {
-    /// Puts a record into the box that stands at its number.
+    /// Replaces the record in the box of its number.
     pub(crate) fn set_rec(&mut self, rec: FileRec)
         requires { is_some (item_at self.old rec.number) ≡ true }
         ensures { self.new ≡ with_item rec.number rec self.old }

@@ -1,17 +1,17 @@
-//! What is asked of places by number.
+//! Operations on places and on the counts of their groups.
 ghost use Rattle.std.specs.Prelude.{◌≡◌, ◌≤◌, ◌<◌, ◌+◌, ◌-◌, ◌/◌, ℕ, None, [], IfOk, drop, length, replicate, slice_index_or, slice_set};
 ghost use Rattle.g_table.specs.Table.{AreTaken, present, standing_at};
 
 use g_base::NoMemory;
 use std::alloc::Global;
 
-/// How many numbers there are.
+/// The number of places.
 pub(crate) const NUMBERS: usize = 1024;
 
-/// How many of them are counted together.
+/// The number of places in a group.
 pub(crate) const GROUP: usize = 32;
 
-/// A place for each number, and no item.
+/// A place for each number, all empty.
 pub(crate) fn no_items<T: Drop>(alloc: Global) -> Result<Vec<Option<T>>, NoMemory>
     ensures { IfOk result (λ places. places.items ≡ replicate 1024 None) }
 {
@@ -22,7 +22,7 @@ pub(crate) fn no_items<T: Drop>(alloc: Global) -> Result<Vec<Option<T>>, NoMemor
     Ok(places)
 }
 
-/// One item more stands in the group of this place.
+/// Counts one more item in the group of this place.
 pub(crate) fn count_up(used: &mut Vec<u8>, place: usize)
     requires there { place / 32 < length used.old.items }
     requires room { slice_index_or used.old.items (place / 32) 0 < 32 }
@@ -32,7 +32,7 @@ pub(crate) fn count_up(used: &mut Vec<u8>, place: usize)
     used[place / GROUP] += 1;
 }
 
-/// One item fewer stands there.
+/// Counts one item fewer in the group of this place.
 pub(crate) fn count_down(used: &mut Vec<u8>, place: usize)
     requires there { place / 32 < length used.old.items }
     requires some { 0 < slice_index_or used.old.items (place / 32) 0 }
@@ -42,7 +42,7 @@ pub(crate) fn count_down(used: &mut Vec<u8>, place: usize)
     used[place / GROUP] -= 1;
 }
 
-/// The first group that isn't full, or how many groups there are.
+/// The index of the first group that isn't full, or the number of groups.
 pub(crate) fn open_group(used: &[u8]) -> usize
     ensures full { (group : ℕ) → group < result → 32 ≤ slice_index_or used.now group 0 }
     ensures open { result < length used.now → slice_index_or used.now result 0 < 32 }
@@ -55,7 +55,7 @@ pub(crate) fn open_group(used: &[u8]) -> usize
     group
 }
 
-/// The first place from one on where no item stands, or how many places there are.
+/// The first empty place from `from` on, or the number of places.
 pub(crate) fn first_gap<T: Drop>(places: &[Option<T>], from: usize) -> usize
     requires { from ≤ length places.now }
     ensures taken { AreTaken from result places.now }
@@ -70,7 +70,7 @@ pub(crate) fn first_gap<T: Drop>(places: &[Option<T>], from: usize) -> usize
     place
 }
 
-/// A place behind the last item, which isn't behind the one that is known.
+/// An end of the places: every place from it on is empty. It is at most the known end.
 pub(crate) fn end_of<T: Drop>(places: &[Option<T>], known: usize) -> usize
     requires within { known ≤ length places.now }
     requires known { present (drop known places.now) ≡ [] }

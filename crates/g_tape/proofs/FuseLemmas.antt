@@ -1,4 +1,5 @@
--- What a rack's fuse is behind a write.
+-- The fuse of a rack after a write.
+-- serves: crates above
 use Rattle.std.proofs.Common.{ℕ, List, Ok, Err, sym, subst}
 use Rattle.std.specs.Prelude.{Result}
 use Rattle.g_base.proofs.FuseLemmas.{fails_failed, fails_good}

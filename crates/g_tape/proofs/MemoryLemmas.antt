@@ -1,4 +1,5 @@
--- The calls of a rack in memory that went through, or whose write failed, by what was done to the reel.
+-- The calls of a rack in memory that succeeded, or whose write failed, by the change of the reel.
+-- serves: read, secure, write, crates above
 use Rattle.std.proofs.Common.{◌≡◌, ℕ, ◌<◌, ◌≤◌, List, true, false, Option, Some, None, is_some, Ok, Err, Contains, length, get_or, slice_get, subst, sym, ap, ◌∙◌, refl, arith, eqb}
 use Rattle.std.specs.Option.{ForSome}
 use Rattle.std.proofs.Math.ListN.{set}
@@ -13,7 +14,7 @@ use Rattle.g_tape.specs.Leave.{remains_of}
 use Rattle.g_tape.specs.Memory.{Memory, MemoryReads, MemorySecures, MemoryWrites}
 use Rattle.g_tape.proofs.RackLemmas.{with_reel-place}
 
--- the reel of the serial is the one that stands at its place
+-- The reel with the serial is the one at its place.
 pub at-place : (s i : ℕ) (reels : List Reel) (was : Reel) → IsPlaceOf s reels i → was ≡ get_or reels i was → reel s reels ≡ Some was
 at-place s i reels was place is = place.there was ∙ ap Some (sym is)
 
@@ -87,7 +88,7 @@ writes-torn s k i block old fuse faults was now place is allowed value burns mor
       others = refl;
     }
 
--- SECURING A REEL that is there
+-- Securing an existing reel.
 pub secures_done : (s i : ℕ) (old : Memory) → IsPlaceOf s old.rack.reels i → (Contains old.insecure s → ⊥) → MemorySecures s old (Ok tt) old
 secures_done s i old place sound = record {
   securing = (found s i old.rack.reels place, refl);

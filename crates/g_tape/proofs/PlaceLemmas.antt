@@ -1,4 +1,5 @@
 -- The first reel of a serial, found by place.
+-- serves: place_of, ReadLemmas, crates above
 use Rattle.std.proofs.Common.{◌≡◌, ℕ, zero, suc, ◌<◌, List, [], ◌∷◌, Some, None, Bool, true, false, ◌==◌, if◌then◌else◌, Contains, length, get_or, inl, inr, sym, ap, ◌∙◌, refl, arith, eq-eqb}
 use Rattle.std.proofs.lemmas.Bool.{ne_eqb}
 use Rattle.std.proofs.lemmas.Bool.Decides.{eqb_tells}

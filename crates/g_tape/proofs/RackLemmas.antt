@@ -1,4 +1,5 @@
 -- What is done to one reel of a rack.
+-- serves: mount (mounting), read, unmount (mounting), write, MemoryLemmas, crates above
 use Rattle.std.proofs.Common.{◌≡◌, ℕ, ◌<◌, List, Bool, Option, Some, None, Ok, length, get_or, map, subst, sym, ap, ◌∙◌, arith, length-set}
 use Rattle.std.specs.List.Sorted.{IsStrictlyIncreasing}
 use Rattle.std.proofs.Math.ListN.{set}
@@ -23,22 +24,22 @@ AreReels-set reels i old new are within was keeps same =
       each = All-set IsReel reels i new kept are.each;
     }
 
--- the reel of the serial is changed where it stands
+-- The reel with the serial is changed at its place.
 pub with_reel-place : (s : ℕ) (reels : List Reel) (i : ℕ) (f : Reel → Reel) (old new : Reel) → IsPlaceOf s reels i → old ≡ get_or reels i old → new ≡ f old → set reels i new ≡ with_reel s f reels
 with_reel-place s reels i f old new place was is =
     ap (set reels i) (is ∙ ap f was) ∙ sym (place.change f old)
 
--- what stands at one place, read twice
+-- Two reads of one place give the same item.
 pub same-place : (reels : List Reel) (i : ℕ) (here was : Reel) → i < length reels → here ≡ get_or reels i here → was ≡ get_or reels i was → here ≡ was
 same-place reels i here was within one two = one ∙ get_or_default reels i here was within ∙ sym two
 
--- a call that isn't refused by the reel that was asked isn't by the one that is changed
+-- A call that wasn't refused for the reel that was checked isn't refused for the reel that is changed.
 pub still-free : (refuses : Option Reel → Option TapeFault) (reels : List Reel) (i : ℕ) (here was : Reel) (answer : Option TapeFault) → i < length reels
     → here ≡ get_or reels i here → was ≡ get_or reels i was → answer ≡ refuses (Some here) → answer ≡ None → refuses (Some was) ≡ None
 still-free refuses reels i here was answer within one two asked free =
     ap (λ (r : Reel). refuses (Some r)) (sym (same-place reels i here was within one two)) ∙ sym asked ∙ free
 
--- the reel whose place was found in the rack's list is mounted or unmounted there
+-- The reel is mounted or unmounted at its place in the rack's list.
 module _ (is : Bool) (s i : ℕ) (old : Rack) (all : List Reel) (was now : Reel) (same : all ≡ old.reels) (found : IsPlaceOf s all i)
     (stood : was ≡ get_or old.reels i was) (value : now ≡ with_mounted is was) where
   place : IsPlaceOf s old.reels i

@@ -1,4 +1,5 @@
--- What reads leave as it is, and how they add up.
+-- What reads preserve, and how they compose.
+-- serves: reads_only_read, crates above
 use Rattle.std.proofs.Common.{◌≡◌, ℕ, ◌<◌, ◌≤◌, List, [], ◌∷◌, Bool, true, false, ◌==◌, nat_lt, if◌then◌else◌, Option, Some, None, Result, Ok, Err, All, length, map, get_or, option_map, refl, subst, sym, ap, ◌∙◌, inl, inr, eq-eqb, arith}
 use Rattle.std.proofs.Math.ListN.{set, get_or-eq_default}
 use Rattle.std.specs.Option.{ForSome}
@@ -31,7 +32,7 @@ reel-with_reel s f keeps (r ∷ rs) =
           ∙ sym (ap (λ (b : Bool). option_map f (if b then Some r else reel s rs)) h.0)
     ]
 
--- the others are found as they were
+-- The other reels are found unchanged.
 pub reel-with_reel_other : (s t : ℕ) (f : Reel → Reel) → ((r : Reel) → (f r).serial ≡ r.serial) → (s ≡ t → ⊥) → (rs : List Reel) → reel t (with_reel s f rs) ≡ reel t rs
 reel-with_reel_other s t f keeps apart [] = refl
 reel-with_reel_other s t f keeps apart (r ∷ rs) =
@@ -79,7 +80,7 @@ reel-unread s (r ∷ rs) =
           ∙ sym (ap (λ (b : Bool). option_map unread (if b then Some r else reel s rs)) h.0)
     ]
 
--- after reads each reel is as it was but for its counts
+-- After reads each reel is unchanged, apart from its read counts.
 pub reel_after_reads : (s : ℕ) (old new : Rack) → OnlyReads old new → option_map unread (reel s new.reels) ≡ option_map unread (reel s old.reels)
 reel_after_reads s old new only = sym (reel-unread s new.reels) ∙ ap (reel s) only.reels ∙ reel-unread s old.reels
 
@@ -192,7 +193,7 @@ counted-in k (Some r) free is =
     let kept = is r refl in
     counted-once k r.times_read r.capacity (omega (arith, allowed-read k r free, kept.within)) kept.counted
 
--- a good read of block k
+-- A successful read of block k.
 pub has_read : (s k : ℕ) (old new : Rack) (into : List ℕ) → AreReels old.reels → Reading s k old (Ok tt) into new → HasRead s k old new
 has_read s k old new into are (free, block, is) =
     let found = reel-with_reel s (read_at k) (λ r. refl) old.reels in
@@ -210,7 +211,7 @@ counts-told (Some us) y ts same at = (us, refl)
 counts-told None None ts same at = absurd (cc)
 counts-told None (Some us) ts same at = absurd (cc)
 
--- whether counts are told stays through reads
+-- Reads preserve whether read counts are exposed.
 told-times : (a b : Option Reel) (ts : List ℕ) → option_map unread a ≡ option_map unread b → times_in b ≡ Some ts → (us : List ℕ) × (times_in a ≡ Some us)
 told-times a None ts same at = absurd (cc)
 told-times None (Some r) ts same at = absurd (cc)

@@ -1,4 +1,5 @@
 -- What is done to a reel leaves it one.
+-- serves: cut_at (keeps), end_with (keeps), RackLemmas, crates above
 use Rattle.std.proofs.Common.{◌≡◌, ℕ, ◌+◌, ◌<◌, ◌≤◌, List, [], ◌∷◌, ◌++◌, Bool, true, false, not, ◌||◌, nat_lt, Option, Some, None, length, take, All, option_map, if◌then◌else◌, refl, subst, arith, length-append}
 use Rattle.std.specs.Option.{ForSome}
 use Rattle.std.proofs.lemmas.Bool.{ltb-true, ltb-false}
@@ -9,7 +10,7 @@ use Rattle.g_tape.specs.declared.fault.TapeFault.TheVariants.{NotMounted, End}
 use Rattle.g_tape.specs.Reel.{Reel, IsReel, with_mounted, cut_at, ending}
 use Rattle.g_tape.specs.Rack.{refuses_write}
 
--- what holds of each value that is told, through a change of it
+-- A property of each exposed value, after a change of that value.
 told-map : {X Y : Type 0} (f : X → Y) (P : X → Type 0) (Q : Y → Type 0) (o : Option X) → ForSome o P → ((x : X) → P x → Q (f x)) → ForSome (option_map f o) Q
 told-map f P Q None all each y is = absurd (cc)
 told-map f P Q (Some x) all each y is =
@@ -21,13 +22,13 @@ passes true true under is = absurd (cc)
 passes true false true is = (refl, refl)
 passes true false false is = absurd (cc)
 
--- a write that isn't refused goes to a place on the reel or just behind it, and within its capacity
+-- A write that isn't refused is to a block of the reel or directly after the last one, and within the capacity.
 pub allowed-write : (k : ℕ) (r : Reel) → refuses_write k (Some r) ≡ None → (k ≤ r.len) × (k < r.capacity)
 allowed-write k r is =
     let tests = passes r.mounted (nat_lt r.len k) (nat_lt k r.capacity) is in
     (ltb-false r.len k tests.0, ltb-true k r.capacity tests.1)
 
--- a reel with another length, other blocks and other counts, where these agree
+-- A reel with another length, other blocks and other counts, if these agree.
 reel_made : (len : ℕ) (mounted : Bool) (blocks : Option (List (List ℕ))) (times_read : Option (List ℕ)) (r : Reel) → IsReel r → len ≤ r.capacity
     → ForSome blocks (λ bs. length bs ≡ len) → ForSome blocks (λ bs. All IsBlock bs) → ForSome times_read (λ ts. length ts ≡ r.capacity)
     → IsReel (record r { len = len; mounted = mounted; blocks = blocks; times_read = times_read })

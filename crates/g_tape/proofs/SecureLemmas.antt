@@ -1,5 +1,5 @@
 -- A REEL AFTER THE OTHER is made durable.
--- serves: securing::secure_all
+-- serves: secure_all
 use Rattle.std.proofs.Common.{◌≡◌, ℕ, zero, suc, List, [], ◌∷◌, Bool, true, false, ◌==◌, ◌<◌, length, subst, Some, None, Result, Ok, Err, map, slice_get, is_some, if◌then◌else◌, inl, inr, eq-eqb, refl, sym, ap, ◌∙◌}
 use Rattle.std.proofs.lemmas.Bool.Decides.{eqb_tells}
 use Rattle.g_tape.specs.declared.fault.TapeFault.{TapeFault}

@@ -1,4 +1,5 @@
 -- A rack of empty reels, sorted by their serials.
+-- serves: new
 use Rattle.std.proofs.Common.{◌≡◌, ◌≢◌, ℕ, ◌<◌, ◌≤◌, List, [], ◌∷◌, All, AllPairs, length, map, get_or, replicate, refl, subst, sym, ap, ◌∙◌, arith, inl, inr, eqb}
 use Rattle.std.specs.List.{IsDistinct}
 use Rattle.std.specs.List.Sorted.{IsPermutation, IsNonDecreasingBy, IsNonDecreasing, IsStrictlyIncreasing}

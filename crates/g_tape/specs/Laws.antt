@@ -4,8 +4,8 @@ use Rattle.g_tape.specs.declared.fault.TapeFault.{TapeFault}
 use Rattle.g_tape.specs.Rack.{Rack, AreReels, Reading, Securing, SecuringAll}
 use Rattle.g_tape.specs.Reads.{OnlyReads, HasRead, blocks_of}
 
--- a read changes nothing but counts of reads; a good one counts its block; reads leave every block as it is observed; and making a reel
--- durable is, to every observer, a read or nothing
+-- A read changes only read counts; a successful one counts its block; reads change no exposed block; and making a reel durable is, as
+-- far as a caller can observe, a read or nothing.
 pub record ReadsOnlyRead : Type 0 where
   pub only : (s k : ℕ) (old new : Rack) (result : Result (Unit {0}) TapeFault) (into : List ℕ) → Reading s k old result into new → OnlyReads old new
   pub counted : (s k : ℕ) (old new : Rack) (into : List ℕ) → AreReels old.reels → Reading s k old (Ok tt) into new → HasRead s k old new

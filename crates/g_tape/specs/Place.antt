@@ -3,7 +3,7 @@ use Rattle.std.specs.Prelude.{◌≡◌, ℕ, ◌<◌, List, Some, length, slice
 use Rattle.g_tape.specs.Reel.{Reel}
 use Rattle.g_tape.specs.Rack.{reel, with_reel}
 
--- the reel of this serial is at place i, so that changing it is a write there
+-- The reel with this serial is at place i, and changing it changes the item at that place.
 pub record IsPlaceOf (s : ℕ) (reels : List Reel) (i : ℕ) : Type 0 where
   pub within : i < length reels
   pub there : (d : Reel) → reel s reels ≡ Some (slice_index_or reels i d)

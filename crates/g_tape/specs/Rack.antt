@@ -1,4 +1,4 @@
--- A rack of reels, when its calls refuse, and what they do to it.
+-- A rack of reels, when it refuses calls, and the effects of its calls.
 use Rattle.std.specs.Prelude.{◌≡◌, ◌≢◌, ℕ, ◌≤◌, List, [], ◌∷◌, Bool, true, false, not, ◌||◌, Option, Some, None, is_some, Result, Ok, Err, length, map, All, slice_get, nat_lt, ◌==◌, if◌then◌else◌}
 use Rattle.std.specs.Option.{ForSome}
 use Rattle.std.specs.List.Sorted.{IsStrictlyIncreasing}
@@ -8,7 +8,8 @@ use Rattle.g_tape.specs.declared.fault.TapeFault.{TapeFault}
 use Rattle.g_tape.specs.declared.fault.TapeFault.TheVariants.{NoTape, NotMounted, End, ReadFailed, WriteFailed}
 use Rattle.g_tape.specs.Reel.{Reel, IsReel, with_mounted, ending, read_at, Remains, left_by}
 
--- the reels in rising serial, the counts of failed reads and writes, the fuse, and what the rack was armed with
+-- A rack: the reels by increasing serial, the counts of failed reads and of failed writes, the fuse, and what the rack
+-- was armed with.
 pub record Rack : Type 0 where
   pub reels : List Reel
   pub read_faults : ℕ
@@ -16,62 +17,67 @@ pub record Rack : Type 0 where
   pub fuse : Option ℕ
   pub arms : Arms
 
--- what a rack's fuse is at each moment
+-- The rack's fuse agrees with what the rack was armed with and with the failed writes since.
 abbrev pub IsFused : Rack → Type 0
 IsFused r = BurnsByFailures r.write_faults r.arms r.fuse
 
--- what holds of the reels of every rack
+-- The reels are those of a rack: at most 16 reels within the limits, by strictly increasing serial.
 pub record AreReels (reels : List Reel) : Type 0 where
   pub few : length reels ≤ 16
   pub rising : IsStrictlyIncreasing (map (λ r. r.serial) reels)
   pub each : All IsReel reels
 
--- the reel of a serial
+-- The reel with this serial, if there is one.
 abbrev pub reel : ℕ → List Reel → Option Reel
 reel s [] = None
 reel s (r ∷ rs) = if s == r.serial then Some r else reel s rs
 
--- the reels with that one changed
+-- The reels, with f applied to the one with this serial.
 abbrev pub with_reel : ℕ → (Reel → Reel) → List Reel → List Reel
 with_reel s f [] = []
 with_reel s f (r ∷ rs) = if s == r.serial then f r ∷ rs else r ∷ with_reel s f rs
 
--- the rack with that reel changed and nothing else
+-- The rack, with f applied to the reel with this serial.
 abbrev pub changed : ℕ → (Reel → Reel) → Rack → Rack
 changed s f r = record r { reels = with_reel s f r.reels }
 
+-- The rack has the reel, and the reel is mounted.
 abbrev pub is_mounted : Option Reel → Bool
 is_mounted None = false
 is_mounted (Some r) = r.mounted
 
--- a number of a reel, which is told without a mount
+-- A number of a reel that can be read without mounting it; NoTape if the rack has no such reel.
 abbrev pub told_of : (Reel → ℕ) → Option Reel → Result ℕ TapeFault
 told_of number None = Err NoTape
 told_of number (Some r) = Ok (number r)
 
--- The refusals, in the order of their tests: of a mount, of an unmount, of a read and of a write of block k.
+-- Why a mount is refused, if it is. Refusals are in the order of their checks.
 abbrev pub refuses_mount : Option Reel → Option TapeFault
 refuses_mount None = Some NoTape
 refuses_mount (Some r) = None
 
+-- Why an unmount is refused, if it is.
 abbrev pub refuses_unmount : Option Reel → Option TapeFault
 refuses_unmount None = Some NoTape
 refuses_unmount (Some r) = if r.mounted then None else Some NotMounted
 
+-- Why a read of block k is refused, if it is.
 abbrev pub refuses_read : ℕ → Option Reel → Option TapeFault
 refuses_read k None = Some NoTape
 refuses_read k (Some r) = if r.mounted then (if nat_lt k r.len then None else Some End) else Some NotMounted
 
+-- Why a write of block k is refused, if it is.
 abbrev pub refuses_write : ℕ → Option Reel → Option TapeFault
 refuses_write k None = Some NoTape
 refuses_write k (Some r) = if r.mounted then (if nat_lt r.len k || not (nat_lt k r.capacity) then Some End else None) else Some NotMounted
 
--- the reel is mounted, or it isn't, or the call is refused and nothing changes
+-- The reel was mounted (or unmounted), or the call was refused and nothing changed.
 abbrev pub Mounting : (Option Reel → Option TapeFault) → Bool → ℕ → Rack → Result (Unit {0}) TapeFault → Rack → Type 0
 Mounting refuses is s old (Ok _) new = (refuses (reel s old.reels) ≡ None) × (new ≡ changed s (with_mounted is) old)
 Mounting refuses is s old (Err fault) new = (refuses (reel s old.reels) ≡ Some fault) × (new ≡ old)
 
--- Block k of the reel was read into `into`; or the read failed, or was refused.
+-- Block k of the reel was read into `into`; or the read failed and only the count of failed reads changed; or the call
+-- was refused.
 abbrev pub Reading : ℕ → ℕ → Rack → Result (Unit {0}) TapeFault → List ℕ → Rack → Type 0
 Reading s k old (Ok _) into new =
     (refuses_read k (reel s old.reels) ≡ None)
@@ -82,8 +88,8 @@ Reading s k old (Err ReadFailed) into new =
 Reading s k old (Err WriteFailed) into new = ⊥
 Reading s k old (Err fault) into new = (refuses_read k (reel s old.reels) ≡ Some fault) × (new ≡ old)
 
--- The reel keeps its blocks below k and ends with this one; or the write failed, or was refused. A write that
--- isn't refused burns the fuse, and fails where the fuse is 1.
+-- The reel keeps its blocks below k and ends with this one; or the write failed, and left some remains; or the call was
+-- refused. A write that isn't refused burns the fuse. It fails if the fuse is 1, and may fail otherwise.
 abbrev pub Writing : ℕ → ℕ → List ℕ → Rack → Result (Unit {0}) TapeFault → Rack → Type 0
 Writing s k block old (Ok _) new =
     (refuses_write k (reel s old.reels) ≡ None) × (old.fuse ≢ Some 1)
@@ -94,8 +100,8 @@ Writing s k block old (Err WriteFailed) new =
 Writing s k block old (Err ReadFailed) new = ⊥
 Writing s k block old (Err fault) new = (refuses_write k (reel s old.reels) ≡ Some fault) × (new ≡ old)
 
--- The reel was made durable, and nothing that a caller can observe has changed; or the device failed, which counts as a failed read; or
--- there is no such reel.
+-- The reel was made durable, and nothing that a caller can observe changed; or the device failed, which counts as a failed read; or the
+-- rack has no such reel.
 abbrev pub Securing : ℕ → Rack → Result (Unit {0}) TapeFault → Rack → Type 0
 Securing s old (Ok _) new = (is_some (reel s old.reels) ≡ true) × (new ≡ old)
 Securing s old (Err ReadFailed) new =
@@ -103,7 +109,7 @@ Securing s old (Err ReadFailed) new =
 Securing s old (Err NoTape) new = (is_some (reel s old.reels) ≡ false) × (new ≡ old)
 Securing s old (Err fault) new = ⊥
 
--- the same of every reel of the rack
+-- The same for every reel of the rack.
 abbrev pub SecuringAll : Rack → Result (Unit {0}) TapeFault → Rack → Type 0
 SecuringAll old (Ok _) new = new ≡ old
 SecuringAll old (Err ReadFailed) new = Rose old.read_faults new.read_faults × (new ≡ record old { read_faults = new.read_faults })

@@ -1,36 +1,38 @@
--- Calls that only read a rack, and what they read.
+-- Calls that only read a rack, and which blocks they read.
 use Rattle.std.specs.Prelude.{◌≡◌, ℕ, ◌≤◌, List, [], Option, Some, None, map, slice_index, option_map}
 use Rattle.std.specs.Option.{ForSome}
 use Rattle.g_base.specs.Counts.{one_more}
 use Rattle.g_tape.specs.Reel.{Reel}
 use Rattle.g_tape.specs.Rack.{Rack, reel}
 
--- the reel without how often its blocks were read
+-- The reel, ignoring how often its blocks were read.
 abbrev pub unread : Reel → Reel
 unread r = record r { times_read = option_map (λ _. []) r.times_read }
 
--- the blocks of a reel, where it is there and they are told
+-- The blocks of a reel, if there is one and it exposes them.
 abbrev pub blocks_in : Option Reel → Option (List (List ℕ))
 blocks_in None = None
 blocks_in (Some r) = r.blocks
 
--- how often its blocks were read, where it is there and that is told
+-- The read counts of a reel's blocks, if there is one and it exposes them.
 abbrev pub times_in : Option Reel → Option (List ℕ)
 times_in None = None
 times_in (Some r) = r.times_read
 
+-- The read count of block k; 0 if read counts aren't exposed.
 abbrev pub count_at : ℕ → Option (List ℕ) → ℕ
 count_at k None = 0
 count_at k (Some times) = slice_index times k
 
+-- The blocks of the reel with this serial, if there is one and it exposes them.
 abbrev pub blocks_of : ℕ → Rack → Option (List (List ℕ))
 blocks_of s rack = blocks_in (reel s rack.reels)
 
--- how often block k of a reel was read; 0 where that isn't told
+-- How often block k of a reel was read; 0 if that isn't exposed.
 abbrev pub time_of : ℕ → ℕ → Rack → ℕ
 time_of s k rack = count_at k (times_in (reel s rack.reels))
 
--- nothing happened but reads, which may have failed
+-- Only reads happened, and some of them may have failed.
 pub record OnlyReads (old new : Rack) : Type 0 where
   pub reels : map unread new.reels ≡ map unread old.reels
   pub write_faults : new.write_faults ≡ old.write_faults
@@ -39,6 +41,6 @@ pub record OnlyReads (old new : Rack) : Type 0 where
   pub read_faults : old.read_faults ≤ new.read_faults
   pub times : (s k : ℕ) → time_of s k old ≤ time_of s k new
 
--- block k of the reel was read in between, where that is told
+-- Block k of the reel was read at least once in between, if read counts are exposed.
 pub record HasRead (s k : ℕ) (old new : Rack) : Type 0 where
   pub more : ForSome (times_in (reel s old.reels)) (λ times. one_more (time_of s k old) ≤ time_of s k new)

@@ -6,11 +6,11 @@ use g_base::Block;
 /// What a failing write of block k leaves of its reel.
 #[derive(Drop)]
 pub enum TapeLeave {
-    /// The reel as it was.
+    /// The unchanged reel.
     Old,
     /// The blocks below k.
     Cut,
-    /// The blocks below k, and the first 256 bytes of the new block with zeros behind them.
+    /// The blocks below k, and the first 256 bytes of the new block, padded with zeros.
     Half,
     /// The blocks below k, and the new block.
     Whole,
@@ -18,7 +18,7 @@ pub enum TapeLeave {
     These(Block),
 }
 
-/// The first half of the block, with zeros behind it.
+/// The first half of the block, padded with zeros.
 pub fn half_of(block: &Block) -> Block
     ensures { result ≡ take 256 block.now ++ replicate 256 0 }
 {

@@ -1,4 +1,4 @@
-//! A rack of reels in memory, whose failures are set beforehand.
+//! A rack of reels in memory, whose failures are set in advance.
 ghost use Rattle.std.specs.Prelude.{◌≡◌, ◌≢◌, ◌≤◌, All, AllPairs, IfOk, Some, map, true, false, vec_len};
 ghost use Rattle.g_base.specs.Fuse.{BurnsByFailures, armed_with};
 ghost use Rattle.g_tape.specs.Reel.{IsLabel};
@@ -12,7 +12,7 @@ use crate::tapes::Tapes;
 use g_base::{Armings, Block, Fuse, NoMemory, raised};
 use std::alloc::Global;
 
-/// A rack in memory. Nothing fails but the write at which its fuse is 1, the reads that are named, and `secure` of the reels that are named.
+/// A rack in memory. Exactly these calls fail: the write at which its fuse is 1, chosen reads, and `secure` of chosen reels.
 #[derive(Drop)]
 pub struct MemoryTapes {
     reels: Vec<MemoryReel>,
@@ -31,9 +31,8 @@ pub struct MemoryTapes {
 impl MemoryTapes {
     ghost use Rattle.g_tape.specs.Memory.{memory_of, IsEmptyRack};
 
-    /// A rack of empty reels, none of them mounted, from their serials and capacities in any order. It
-    /// takes the memory of all capacities at once. Its failing writes leave the reel as it was, until
-    /// `set_leave` says otherwise.
+    /// A rack of empty, unmounted reels, from their serials and capacities in any order. It reserves the memory of all
+    /// capacities at once. Failing writes leave the reel unchanged, until `set_leave` changes that.
     pub fn new(alloc: Global, reels: Vec<(u32, u32)>) -> Result<MemoryTapes, NoMemory>
         requires few { vec_len reels ≤ 16 }
         requires limits { All IsLabel reels.items }
@@ -55,22 +54,22 @@ impl MemoryTapes {
         })
     }
 
-    /// Says what failing writes leave from now on.
+    /// Sets what failing writes leave from now on.
     pub fn set_leave(&mut self, leave: TapeLeave)
         ensures { memory_of self.new ≡ record (memory_of self.old) { leave = leave } }
     {
         self.leave = leave;
     }
 
-    /// Names the reads that fail, counted from 1 since the rack was made, in place of those named
-    /// before. A read that is refused counts too.
+    /// Sets the reads that fail, counted from 1 since the rack was created. It replaces an earlier setting. A refused
+    /// read is counted too.
     pub fn fail_reads(&mut self, calls: Vec<u64>)
         ensures { memory_of self.new ≡ record (memory_of self.old) { fail = calls.items } }
     {
         self.fail = calls;
     }
 
-    /// Names the reels that can't be made durable from now on, by their serials, in place of those named before.
+    /// Sets the serials of the reels that can't be made durable from now on. It replaces an earlier setting.
     pub fn set_insecure(&mut self, serials: Vec<u32>)
         ensures { memory_of self.new ≡ record (memory_of self.old) { insecure = serials.items } }
     {

@@ -1,4 +1,4 @@
-//! One reel in memory: a store with room for as many blocks as its capacity, of which the first are on the reel.
+//! One reel in memory: reserved memory for as many blocks as its capacity, with the reel's blocks at its front.
 ghost use Rattle.std.specs.Prelude.{◌≡◌, ◌<◌, ◌≤◌, [], ◌∷◌, ◌++◌, IfOk, None, Some, map, slice_get, take, vec_capacity, vec_len};
 ghost use Rattle.std.specs.Option.{ForSome};
 ghost use Rattle.g_tape.specs.Rack.{refuses_read, refuses_write};
@@ -12,7 +12,7 @@ use std::alloc::Global;
 use std::marker::Model;
 use std::slice::from_ref;
 
-/// A reel whose content is told. Contracts see it as such.
+/// A reel whose content is exposed. Contracts see it as such.
 #[derive(Drop)]
 pub(crate) struct MemoryReel {
     state: ReelState,
@@ -36,8 +36,8 @@ impl Model for MemoryReel {
 }
 
 impl MemoryReel {
-    /// An empty reel, which isn't mounted. It takes the memory of its whole capacity, and touches
-    /// that of a block when it is written.
+    /// An empty, unmounted reel. It reserves the memory of its whole capacity, but touches that of a block only when
+    /// the block is written.
     pub fn new(alloc: Global, serial: u32, capacity: u32) -> Result<MemoryReel, NoMemory>
         ensures { IfOk result (λ r. r ≡ empty_reel serial capacity) }
     {
@@ -48,7 +48,7 @@ impl MemoryReel {
         })
     }
 
-    /// What every reel has, wherever its blocks are kept.
+    /// The state that every reel has, independent of where its blocks are stored.
     pub fn state(&self) -> &ReelState
         ensures { result.now ≡ record self.now { blocks = result.now.blocks; times_read = result.now.times_read } }
     {
@@ -62,7 +62,7 @@ impl MemoryReel {
         self.state.set_mounted(mounted);
     }
 
-    /// Copies block k out, and counts that.
+    /// Copies block k to `into` and counts that.
     pub fn read(&mut self, k: u32, into: &mut Block)
         requires { refuses_read k (Some self.old) ≡ None }
         ensures block { ForSome self.old.blocks (λ bs. slice_get bs k ≡ Some into.new) }
@@ -73,7 +73,7 @@ impl MemoryReel {
         self.times[k as usize] = raised(self.times[k as usize]);
     }
 
-    /// Drops the blocks from k on, and puts this one there.
+    /// Drops the blocks from k on and appends this one.
     pub fn end_with(&mut self, k: u32, block: &Block)
         requires { refuses_write k (Some self.old) ≡ None }
         ensures value { self.new ≡ ending k block.now self.old }
@@ -83,7 +83,7 @@ impl MemoryReel {
         self.state.end_with(k);
     }
 
-    /// Does what a failing write of this block does.
+    /// Applies the effect of a failing write of this block.
     pub fn tear(&mut self, leave: &TapeLeave, k: u32, block: &Block)
         requires { refuses_write k (Some self.old) ≡ None }
         ensures value { self.new ≡ left_by (remains_of leave.now block.now) k self.old }
@@ -109,7 +109,7 @@ impl MemoryReel {
     }
 }
 
-/// Drops the blocks from k on, and puts this one there. There is room for it.
+/// Drops the blocks from k on and appends this one, within the reserved memory.
 fn put_last(store: &mut Vec<Block>, k: usize, block: &Block)
     requires place { k ≤ vec_len store.old }
     requires room { k < vec_capacity store.old }

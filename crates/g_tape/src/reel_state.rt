@@ -1,5 +1,5 @@
-//! What every reel has, wherever its blocks are kept: its serial, how many blocks it can hold and
-//! holds, whether it is mounted, and so which calls it refuses.
+//! The state that every reel has, independent of where its blocks are stored: serial, capacity, length, whether it is
+//! mounted, and the refusals that follow from these.
 ghost use Rattle.std.specs.Prelude.{◌≡◌, ◌+◌, Some, None};
 ghost use Rattle.g_tape.specs.Rack.{refuses_unmount, refuses_read, refuses_write};
 ghost use Rattle.g_tape.specs.Reel.{untold_reel, with_mounted};
@@ -7,7 +7,7 @@ ghost use Rattle.g_tape.specs.Reel.{untold_reel, with_mounted};
 use crate::fault::TapeFault;
 use std::marker::Model;
 
-/// A reel without its blocks. Contracts see it as a reel of which nothing is told.
+/// A reel without its blocks. Contracts see it as a reel whose content isn't exposed.
 #[derive(Drop)]
 pub struct ReelState {
     serial: u32,
@@ -25,7 +25,7 @@ impl Model for ReelState {
 }
 
 impl ReelState {
-    /// A reel that holds `len` blocks and isn't mounted. Capacity and length are in blocks.
+    /// An unmounted reel that holds `len` blocks. Capacity and length are in blocks.
     pub fn new(serial: u32, capacity: u32, len: u32) -> ReelState
         ensures { result ≡ untold_reel serial capacity len }
     {
@@ -37,21 +37,21 @@ impl ReelState {
         }
     }
 
-    /// The number by which the reel is called.
+    /// The serial of the reel.
     pub fn serial(&self) -> u32
         ensures { result ≡ self.now.serial }
     {
         self.serial
     }
 
-    /// How many blocks it can hold.
+    /// The number of blocks that it can hold.
     pub fn capacity(&self) -> u32
         ensures { result ≡ self.now.capacity }
     {
         self.capacity
     }
 
-    /// How many blocks it holds.
+    /// The number of blocks that it holds.
     pub fn len(&self) -> u32
         ensures { result ≡ self.now.len }
     {
@@ -76,7 +76,7 @@ impl ReelState {
         }
     }
 
-    /// Why a read of block k is refused, if it is: `NotMounted`, or `End` where the reel ends before it.
+    /// Why a read of block k is refused, if it is: `NotMounted`, or `End` if the reel has no block k.
     pub fn refuses_read(&self, k: u32) -> Option<TapeFault>
         ensures { result ≡ refuses_read k (Some self.now) }
     {
@@ -89,8 +89,8 @@ impl ReelState {
         }
     }
 
-    /// Why a write of block k is refused, if it is: `NotMounted`, or `End` where a block before it is
-    /// missing or the reel is full.
+    /// Why a write of block k is refused, if it is: `NotMounted`, or `End` if the block before it is missing or the
+    /// reel is full.
     pub fn refuses_write(&self, k: u32) -> Option<TapeFault>
         ensures { result ≡ refuses_write k (Some self.now) }
     {
@@ -103,14 +103,14 @@ impl ReelState {
         }
     }
 
-    /// Says whether it is mounted from now on.
+    /// Sets whether it is mounted.
     pub fn set_mounted(&mut self, mounted: bool)
         ensures { self.new ≡ with_mounted mounted self.old }
     {
         self.mounted = mounted;
     }
 
-    /// Lets the reel end with block k, which replaces those from k on.
+    /// Makes the reel end with block k, which replaces the blocks from k on.
     pub fn end_with(&mut self, k: u32)
         requires { refuses_write k (Some self.old) ≡ None }
         ensures { self.new ≡ record self.old { len = k + 1 } }
@@ -119,7 +119,7 @@ impl ReelState {
         self.len = k + 1;
     }
 
-    /// Lets the reel end before block k.
+    /// Truncates the reel to k blocks.
     pub fn cut_at(&mut self, k: u32)
         ensures { self.new ≡ record self.old { len = k } }
     {

@@ -1,11 +1,11 @@
-//! Every reel of a rack is made durable.
+//! Makes every reel of a rack durable.
 ghost use Rattle.g_tape.specs.Rack.{SecuringAll};
 
 use crate::fault::TapeFault;
 use crate::tapes::Tapes;
 
-/// Makes every reel of the rack durable, as `Tapes::secure` does, in rising serial and whether mounted or not. `ReadFailed` at the
-/// first reel whose device fails; the reels before it are durable then.
+/// Makes every reel of the rack durable, as `Tapes::secure` does, by increasing serial and whether mounted or not. `ReadFailed` at
+/// the first reel whose device fails; the reels before it are durable then.
 pub fn secure_all<T: Tapes>(tapes: &mut T) -> Result<(), TapeFault>
     ensures { SecuringAll (T.rack tapes.old) result (T.rack tapes.new) }
 {

@@ -1,4 +1,4 @@
-//! The rack of reels, as all that keep something on it see it.
+//! The rack of reels, as everything that stores data on it sees it.
 ghost use Rattle.std.specs.Prelude.{◌≡◌, ◌<◌, ◌≤◌, Some, true, false, length, map, slice_get};
 ghost use Rattle.g_base.specs.Fuse.{armed_with};
 ghost use Rattle.g_tape.specs.Laws.{ReadsOnlyRead};
@@ -7,60 +7,60 @@ ghost use Rattle.g_tape.specs.Rack.{Rack, AreReels, IsFused, reel, is_mounted, t
 use crate::fault::TapeFault;
 use g_base::Block;
 
-/// Reels in a rack, each of blocks of 512 bytes that are written one behind the other. A rack counts
-/// its failed reads, its failed writes and how often it was armed, and with which number last; each
-/// count stands still at 2^64 - 1. A rack in memory tells what its reels hold and how often each block was read, a real one
-/// doesn't. A serial is from 1 to 999,999, a capacity from 2 to 65,536 blocks.
+/// Reels in a rack. A reel is a sequence of blocks of 512 bytes, written in order. A rack counts its failed reads, its
+/// failed writes and how often it was armed, and records the last number that it was armed with; each count saturates at
+/// 2^64 - 1. A rack in memory exposes what its reels hold and how often each block was read; a real one doesn't. A serial
+/// is from 1 to 999,999, a capacity from 2 to 65,536 blocks.
 pub trait Tapes {
     ghost rack: { Self → Rack };
 
-    /// How many reels are in the rack.
+    /// The number of reels in the rack.
     fn reels(&self) -> usize
         ensures { result ≡ length (rack self.now).reels };
 
-    /// The serial of the i-th reel. Serials rise.
+    /// The serial of the i-th reel. Serials are strictly increasing.
     fn serial(&self, i: usize) -> u32
         requires { i < length (rack self.now).reels }
         ensures { slice_get (map (λ r. r.serial) (rack self.now).reels) i ≡ Some result };
 
-    /// Whether the reel is there and mounted.
+    /// Whether the rack has the reel and it is mounted.
     fn mounted(&self, serial: u32) -> bool
         ensures { result ≡ is_mounted (reel serial (rack self.now).reels) };
 
-    /// How many blocks the reel can hold, or `NoTape`.
+    /// The number of blocks that the reel can hold. `NoTape`.
     fn capacity(&self, serial: u32) -> Result<u32, TapeFault>
         ensures { result ≡ told_of (λ r. r.capacity) (reel serial (rack self.now).reels) };
 
-    /// How many blocks the reel holds, or `NoTape`.
+    /// The number of blocks that the reel holds. `NoTape`.
     fn length(&self, serial: u32) -> Result<u32, TapeFault>
         ensures { result ≡ told_of (λ r. r.len) (reel serial (rack self.now).reels) };
 
-    /// Mounts the reel, or `NoTape`. A reel that is mounted stays so.
+    /// Mounts the reel. A reel that is already mounted remains so. `NoTape`.
     fn mount(&mut self, serial: u32) -> Result<(), TapeFault>
         ensures { Mounting refuses_mount true serial (rack self.old) result (rack self.new) };
 
-    /// Unmounts the reel, or `NoTape`, `NotMounted`.
+    /// Unmounts the reel. `NoTape`, `NotMounted`.
     fn unmount(&mut self, serial: u32) -> Result<(), TapeFault>
         ensures { Mounting refuses_unmount false serial (rack self.old) result (rack self.new) };
 
-    /// Reads block k of the reel, or `NoTape`, `NotMounted`, `End`, `ReadFailed`. Where it isn't Ok,
-    /// nothing is known of `into`.
+    /// Reads block k of the reel. On any error the contents of `into` are unspecified. `NoTape`, `NotMounted`, `End`,
+    /// `ReadFailed`.
     fn read(&mut self, serial: u32, k: u32, into: &mut Block) -> Result<(), TapeFault>
         ensures { Reading serial k (rack self.old) result into.new (rack self.new) };
 
-    /// Writes block k of the reel, which ends there, or `NoTape`, `NotMounted`, `End`, `WriteFailed`.
+    /// Writes block k of the reel, which ends there. `NoTape`, `NotMounted`, `End`, `WriteFailed`.
     fn write(&mut self, serial: u32, k: u32, from: &Block) -> Result<(), TapeFault>
         ensures { Writing serial k from.now (rack self.old) result (rack self.new) };
 
-    /// Makes the reel durable, mounted or not: after `Ok` its completed dumps survive a power loss as they are read, and a power loss
+    /// Makes the reel durable, mounted or not. After `Ok` its completed dumps survive a power loss as they are read, and a power loss
     /// completes no other dump on it, whatever failed before (docs/FORMATS.md, "Durability"). Reads, writes and mounts see no
-    /// difference, and the fuse doesn't burn. `NoTape`; `ReadFailed` if the device fails: then nothing is known of what a power loss
-    /// leaves of the blocks that were written last.
+    /// difference, and the fuse doesn't burn. `NoTape`; `ReadFailed` if the device fails: the blocks that were written last are then
+    /// unspecified after a power loss.
     fn secure(&mut self, serial: u32) -> Result<(), TapeFault>
         ensures { Securing serial (rack self.old) result (rack self.new) };
 
-    /// Sets the fuse, so that the k-th next write that isn't refused fails. It replaces a fuse that was
-    /// set before; one that has fired is spent.
+    /// Sets the fuse: the k-th next write that isn't refused fails. It replaces an earlier fuse. A fuse that has fired
+    /// is spent.
     fn arm(&mut self, k: u32)
         requires { 1 ≤ k }
         ensures { rack self.new ≡ record (rack self.old)
@@ -71,9 +71,8 @@ pub trait Tapes {
     ghost fused: { (tapes : Self) → IsFused (rack tapes) };
 }
 
-/// The laws of reads: a read, however it ends, changes nothing but counts of reads; a good one counts
-/// its block, if the rack's blocks are observable; and after any number of them each reel holds what it held. `secure` is such a read,
-/// or nothing.
+/// The laws of reads: a read, successful or not, changes only read counts; a successful one counts its block, if the rack exposes read
+/// counts; and after any number of reads each reel holds the same blocks. `secure` is such a read, or nothing.
 pub fn reads_only_read()
     ensures { ReadsOnlyRead }
 {}

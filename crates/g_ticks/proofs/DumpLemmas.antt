@@ -1,4 +1,5 @@
--- The step of the open dump, from each world that is what is at hand, and what holds of all devices behind it.
+-- The step of the open dump, from each world that matches what is at hand, and what holds of all devices after it.
+-- serves: dump_step (did), step (did), TickLemmas
 use Rattle.std.proofs.Common.{◌≡◌, ◌+◌, ◌-◌, ◌≤◌, ◌++◌, codes, is_some, ℕ, Bool, true, false, List, [], Option, Some, None, Result, Ok, Err, sum_by, refl, sym, ◌∙◌, ap, subst, inl, inr, arith, if◌then◌else◌}
 use Rattle.std.proofs.lemmas.Bool.{false≢true}
 use Rattle.std.specs.Option.{option_map}
@@ -46,7 +47,7 @@ use Rattle.g_base.proofs.CountLemmas.{Rose-later}
 use Rattle.g_day.proofs.LabelLemmas.{labels_with, same_counts, same_still, stands_still}
 use Rattle.g_day.proofs.PutLemmas.{puts_grown, same_grown, with_more-nil}
 
--- a step never wants memory
+-- a step never runs out of memory
 steps_lead : (answer : Result Stepped StoreFault) (s : State) (old new : StoreFacts) (dump after : DumpFacts) → Stepping dump old.online old.rack answer after new.online new.rack
     → StepsBy IsStepOfDump s old answer new → LeadsBy IsStepOfDump s old new answer
 steps_lead (Err NoMemory) s old new dump after stepping steps = absurd stepping
@@ -63,13 +64,13 @@ stop_is s k d o u (cut, inl (inr (at, inr is))) = ap (λ (t : State). t.up) is
 stop_is s k d o u (cut, inr (last, inl is)) = ap (λ (t : State). t.up) is
 stop_is s k d o u (cut, inr (last, inr is)) = ap (λ (t : State). t.up) is
 
--- what is said of the step of a dump, by how it came out
+-- what is known of the step of a dump, by its outcome
 pub as_stepped : (old new : StoreFacts) (x y : Step) → x ≡ y → StepsDump old (Ok (stepped x)) new → StepsAs old (Ok (stepped x)) new → KeepsDumps old (Ok (stepped x)) new
     → StepsDump old (Ok (stepped y)) new × StepsAs old (Ok (stepped y)) new × KeepsDumps old (Ok (stepped y)) new
 as_stepped old new x y is event steps stay =
     subst (λ (z : Step). StepsDump old (Ok (stepped z)) new × StepsAs old (Ok (stepped z)) new × KeepsDumps old (Ok (stepped z)) new) is (event, steps, stay)
 
--- WHAT IS TOLD of a step
+-- what is printed for a step
 told_store : (n : ℕ) (r : Result Stepped StoreFault) (s : State) (w : World) → (dump_told n r s w).store ≡ s
 told_store n (Ok Going) s w = refl
 told_store n (Ok (Completed m)) s w = refl
@@ -403,7 +404,7 @@ one_number a b e = cc
 pub one_fault : (fault : StoreFault) → (let x : Result Stepped StoreFault = Err fault in x ≡ Err Stopped) → fault ≡ Stopped
 one_fault fault e = cc
 
--- a dump that is given up is told by its number
+-- a dump that is given up is reported by its number
 pub did_lost : (old new : StoreFacts) (unspent : old.spent ≡ false) (c : CrewState) (count number : ℕ) → option_map (λ d. d.plan.number) old.dump ≡ Some number → (fault : StoreFault) → (fault ≡ Stopped → ⊥)
     → StepsDump old (Err fault) new → StepsAs old (Err fault) new → KeepsDumps old (Err fault) new → AreOpen c.jobs → (failure : Option Failure) (before after : Option (List ℕ)) (faults faults' : ℕ)
     → Puts failure (operator_line count (dump_text number (codes "LOST " ++ fault_line fault))) before after faults faults' → DidDump (seen (Up old) c count) failure (seen (Up new) c count) before after faults faults'
@@ -414,7 +415,7 @@ did_lost old new unspent c count number number_is fault isnt event is stay takin
     (subst (λ (t : List ℕ). Puts failure t before after faults faults')
     (ap (λ (n : ℕ). operator_line count (dump_text n (codes "LOST " ++ fault_line fault))) same ∙ sym (lost_added count is.dump.plan.number fault c.jobs isnt)) puts)
 
--- nothing is told while it goes on
+-- nothing is printed while it continues
 pub did_going : (old new : StoreFacts) (unspent : old.spent ≡ false) (c : CrewState) (count : ℕ) → StepsDump old (Ok Going) new → StepsAs old (Ok Going) new → KeepsDumps old (Ok Going) new → AreOpen c.jobs → (before : Option (List ℕ)) (faults : ℕ)
     → DidDump (seen (Up old) c count) None (seen (Up new) c count) before before faults faults
 did_going old new unspent c count event is stay taking before faults =

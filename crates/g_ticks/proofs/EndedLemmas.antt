@@ -1,4 +1,5 @@
--- What a turn's end asks for and leaves: the job is still there, its reel isn't mounted.
+-- What a turn's end requires and leaves: the job is still there, its reel isn't mounted.
+-- serves: end_shown (ends), end_turn, end_untold (ends), open_each (opens), turn_of (turn)
 use Rattle.std.proofs.Common.{◌≡◌, ℕ, ◌==◌, Bool, true, false, cond, not, List, [], ◌∷◌, Option, None, Some, drop, length, refl, sym, ◌∙◌, ap, subst, inl, inr, if◌then◌else◌, eq-eqb}
 use Rattle.std.specs.Prelude.{◌↔◌, Err, IfOk, Ok, Result}
 use Rattle.g_base.specs.declared.memory.NoMemory.{NoMemory}
@@ -14,8 +15,8 @@ use Rattle.g_store_meaning.specs.StoreInvariant.{StoreFacts}
 use Rattle.g_store_model.specs.State.{State}
 use Rattle.g_entry.specs.declared.user_rec.UserRec.{UserRec}
 use Rattle.g_tape.specs.Rack.{is_mounted, reel}
-use Rattle.g_budget.specs.declared.tariff.Usage.{Usage}
-use Rattle.g_budget.specs.declared.tariff.Charge.{Charge}
+use Rattle.g_rules.specs.declared.tariff.Usage.{Usage}
+use Rattle.g_rules.specs.declared.tariff.Charge.{Charge}
 use Rattle.g_day.specs.declared.progress.Failure.{Failure}
 use Rattle.g_day.specs.declared.progress.Failure.TheVariants.{Memory}
 use Rattle.g_day.specs.Opening.{Opens}
@@ -32,7 +33,7 @@ use Rattle.g_run_model.proofs.CrewLemmas.{no_job, one_job}
 use Rattle.g_ticks.specs.Turning.{EndsTurn, LeftBy, ShowsAs, TakenOut, Takes, added_of}
 use Rattle.g_ticks.proofs.NumberedLemmas.{numbered_is}
 
--- who takes the place of a job is found under its number
+-- the job that replaces another is found under its number
 found_with : (j old : JobState) (jobs : List JobState) → job_in j.number jobs ≡ Some old → job_in j.number (with_job j jobs) ≡ Some j
 found_with j old [] found = no_job old found
 found_with j old (k ∷ jobs) found = by (k.number == j.number) refl found (λ e. found_with j old jobs e)
@@ -58,7 +59,7 @@ pub ends_by : (count number : ℕ) (s : StoreFacts) (c : CrewState) (shown : Lis
     → EndsTurn count number s c shown t failure system c' before after faults faults' → EndsTurn count number s c shown turn failure system c' before after faults faults'
 ends_by count number s c shown t turn failure system c' before after faults faults' is ends = subst (λ (x : Turn). EndsTurn count number s c shown x failure system c' before after faults faults') (sym is) ends
 
--- WHAT A TURN SHOWS at a terminal, by how many bytes the job's file had before
+-- WHAT A TURN SHOWS at a terminal, by the number of bytes that the job's file had before
 module _ (job behind : JobState) (seat : behind.terminal ≡ job.terminal) where
   pub added_is : added_of (shown_from job) behind ≡ shown job behind
   added_is = by job.terminal seat
@@ -89,7 +90,7 @@ whole_file number c mid job one out there none =
     let same : job ≡ one = one_job job one (sym out.there ∙ there) in
     ap (λ (p : Option ℕ). put_as p job.monitor []) (ap (λ (j : JobState). j.terminal) same ∙ none)
 
--- and nothing more of one that is at one
+-- and nothing more for one that is at a terminal
 pub no_file : (number t : ℕ) (c mid : CrewState) (job one : JobState) → TakenOut job number c mid → job_in number c.jobs ≡ Some one → one.terminal ≡ Some t → ended_file job ≡ []
 no_file number t c mid job one out there some =
     let same : job ≡ one = one_job job one (sym out.there ∙ there) in

@@ -1,9 +1,10 @@
--- A turn leaves less to do, whether devices tell or not.
+-- A turn leaves less to do, whether or not the devices expose their contents.
+-- serves: job_steps, RestLemmas, TakenLemmas
 use Rattle.std.proofs.Common.{◌&&◌, ◌≡◌, ◌≤◌, ◌+◌, ◌-◌, ℕ, Bool, true, false, cond, not, List, [], ◌∷◌, filter, sum_by, Option, Some, None, refl, sym, ◌∙◌, ap, subst, if◌then◌else◌, arith}
 use Rattle.std.proofs.lemmas.List.Sums.{sum_by-cons}
 use Rattle.std.specs.Fn.{Shared}
 use denote.Ref.{Bor}
-use Rattle.g_sched.specs.declared.rule.Standing.{Standing}
+use Rattle.g_rules.specs.declared.rule.Standing.{Standing}
 use Rattle.g_job.specs.Spending.{SpendsBy}
 use Rattle.g_job.specs.State.{JobState}
 use Rattle.g_job.specs.declared.turn.Turn.{Turn}
@@ -65,7 +66,7 @@ able_same u rack same (j ∷ jobs) =
     ap (λ (b : Bool). cond b (j ∷ filter (can_step u) jobs) (filter (can_step u) jobs)) (step_same u rack same j)
     ∙ ap (λ (js : List JobState). cond (may_step rack j) (j ∷ js) js) (able_same u rack same jobs)
 
--- one less is as many as asked for
+-- one less is enough
 falls_by : (less : Bool) (n m : ℕ) → n + 1 ≤ m → n + (if less then 1 else 0) ≤ m
 falls_by true n m is = is
 falls_by false n m is = omega (arith, is)
@@ -157,7 +158,7 @@ module _ (old new : StoreFacts) (count number : ℕ) (c : CrewState) (rise : Ris
       subst (λ (s : SystemFacts). left (seen s c' count) + (if less then 1 else 0) ≤ left (seen (Up old) c count)) (sym ends.3.up)
       (up_falls less c' (jobs_left (turns.Ended units money)) (left_jobs (turns.Ended units money) failure system c' before after faults faults' ends none) (jobs_less (turns.Ended units money) spends waits) (dump (λ e. let no : ⊥ = cc in no)))
 
--- THE CHOICE, whether devices tell or not: the job that is chosen can step
+-- the choice, whether or not the devices expose their contents: the chosen job can step
 module _ {U : Type 0} (rules : Shared U (Bor Standing × Unit {0}) ℕ) (rule : U) (old : StoreFacts) (c : CrewState) (rise : Rise 1 c.jobs c.next_job) where
   pub chosen_steps : (number : ℕ) (job : JobState) → Chooses rules rule c.jobs (able_in (some_state old) c.jobs) (Some number) → job_in number c.jobs ≡ Some job → may_step old.rack job ≡ true
   chosen_steps number job (place, other, chosen, at, is, found) there =
@@ -168,7 +169,7 @@ module _ {U : Type 0} (rules : Shared U (Bor Standing × Unit {0}) ℕ) (rule : 
   pub none_steps : (count : ℕ) → Chooses rules rule c.jobs (able_in (some_state old) c.jobs) None → some_job_steps (seen (Up old) c count) ≡ false
   none_steps count none = ap (λ (b : Bool). not b) (sym (ap has_none (able_same (some_state old) old.rack (mounted_some old) c.jobs)) ∙ none)
 
--- where no job can step, all stays as it is
+-- if no job can step, everything is unchanged
 pub none_falls : (less : Bool) (s : Seen) → less ≡ false → Falls less s None s
 none_falls true s is = absurd (let no : ⊥ = cc in no)
 none_falls false s is = λ none. omega arith

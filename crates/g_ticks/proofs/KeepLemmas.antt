@@ -1,4 +1,5 @@
--- WHAT BECOMES OF COMPLETED DUMPS in the parts of a run, one behind the other.
+-- What happens to completed dumps in the parts of a run, one after another.
+-- serves: PartLemmas, TickedLemmas, UntilLemmas, crates above
 use Rattle.std.proofs.Common.{◌≡◌, ◌++◌, ℕ, Bool, true, false, List, [], ◌∷◌, Option, refl, sym, ap, subst}
 use Rattle.std.proofs.lemmas.List.Elements.{All-head}
 use Rattle.g_tape.specs.Rack.{Rack}
@@ -15,7 +16,7 @@ use Rattle.g_day.proofs.ByLemmas.{moved_by, moves_grown, moves_then}
 use Rattle.g_day.proofs.GrowLemmas.{grow_itself, grow_then}
 use Rattle.g_ticks.specs.Parts.{DumpsKept, HaveNoProcess}
 
--- where they stay, whatever was done
+-- if they stay, for any lines
 pub kept_grown : (done : List Timed) (old new : Rack) → DumpsGrow old new → DumpsKept done old new
 kept_grown done old new grows = record { move = moves_grown old new grows; stay = λ none. grows }
 
@@ -35,7 +36,7 @@ kept_line next old new is = record {
   stay = λ none. stays_by (is_process next.what) old new (All-head (λ (t : Timed). is_process t.what ≡ false) next [] none) is;
 }
 
--- two parts, over the same reels
+-- two parts, on the same reels
 pub kept_then : (a b : List Timed) (old mid new : Rack) → labels new.reels ≡ labels mid.reels → DumpsKept a old mid → DumpsKept b mid new → DumpsKept (a ++ b) old new
 kept_then a b old mid new same first later = record {
   move = moves_then old mid new same first.move later.move;
@@ -43,7 +44,7 @@ kept_then a b old mid new same first later = record {
       grow_then old mid new (first.stay (all_left (λ (t : Timed). is_process t.what ≡ false) a b none)) (later.stay (all_right (λ (t : Timed). is_process t.what ≡ false) a b none));
 }
 
--- lines that weren't come to
+-- lines that weren't reached
 pub kept_more : (a b : List Timed) (old new : Rack) → DumpsKept a old new → DumpsKept (a ++ b) old new
 kept_more a b old new first = record { move = first.move; stay = λ none. first.stay (all_left (λ (t : Timed). is_process t.what ≡ false) a b none) }
 

@@ -1,4 +1,5 @@
--- What holds of every device behind a turn.
+-- What holds of every device after a turn.
+-- serves: DumpLemmas, TakenLemmas
 use Rattle.std.proofs.Common.{◌≡◌, ℕ, true, List, Option, Some, None, refl, sym, ◌∙◌, ap, subst, inl, inr}
 use Rattle.std.specs.Prelude.{◌↔◌}
 use Rattle.g_job.specs.Spending.{SpendsBy}
@@ -56,7 +57,7 @@ module _ (old new : StoreFacts) (c : CrewState) (count : ℕ) (stays : StaysOver
         numbers = λ none. numbers_are number count old new c job behind there numbers failure system c' before after faults faults' turn ends none;
       })
 
-  -- a front of one
+  -- a prefix of one
   pub part_keeps_run : (system : SystemFacts) (c' : CrewState) → LeftBy new system → (faults : ℕ) → KeepsRun (seen (Up old) c count) (Some Memory) (seen system c' count) faults faults
   part_keeps_run system c' left faults = record {
     ready = λ none. absurd (let no : ⊥ = cc in no);
@@ -69,7 +70,7 @@ module _ (old new : StoreFacts) (c : CrewState) (count : ℕ) (stays : StaysOver
     numbers = λ none. absurd (let no : ⊥ = cc in no);
   }
 
--- nobody took a turn
+-- no job took a turn
 pub none_keeps_run : (s : StoreFacts) (c : CrewState) (count : ℕ) → IsReady (Up s) c → AreOpen c.jobs → (faults : ℕ) → KeepsRun (seen (Up s) c count) None (seen (Up s) c count) faults faults
 none_keeps_run s c count ready still faults = record {
   ready = λ none. (ready, still);

@@ -1,4 +1,5 @@
--- THE SYSTEM BEHIND A TICK, of a store that was stopped or wasn't.
+-- The system after a tick, from a store that was stopped or wasn't.
+-- serves: dump_step (did), something_steps (no), step (did), stops (ends), take_turn (did), tick (did), tick_on, turn_of (turn), until_up, and 2 more
 use Rattle.std.proofs.Common.{◌≡◌, ◌↔◌, ℕ, Bool, true, false, Err, Result, refl, sym, ◌∙◌, ap, inl, inr}
 use Rattle.g_plain.specs.declared.faults.StoreFault.{StoreFault}
 use Rattle.g_plain.specs.declared.faults.StoreFault.TheVariants.{Stopped}
@@ -27,11 +28,11 @@ left_so s = by s.spent refl
 pub seen_up : (s : StoreFacts) (c : CrewState) (count : ℕ) → s.spent ≡ false → seen (left_of s) c count ≡ seen (Up s) c count
 seen_up s c count running = ap (λ (f : SystemFacts). seen f c count) (left_up s running)
 
--- behind a fault
+-- after a fault
 pub left_fault : (s : StoreFacts) (fault : StoreFault) → fault ≡ Stopped → s.spent ≡ true → left_of s ≡ system_behind fault (Up s)
 left_fault s fault is stopped = left_down s stopped ∙ sym (ap (λ (f : StoreFault). system_behind f (Up s)) is)
 
--- behind a step of the dump that stopped nothing
+-- after a dump step that stopped nothing
 pub unstopped : (b : Bool) (answer : Result Stepped StoreFault) → (b ≡ true) ↔ (answer ≡ Err Stopped) → (answer ≡ Err Stopped → ⊥) → b ≡ false
 unstopped false answer is isnt = refl
 unstopped true answer is isnt = absurd (isnt (is.0 refl))

@@ -1,4 +1,5 @@
--- Lists of jobs behind a turn: the job of a number goes on as another, or is taken out.
+-- Lists of jobs after a turn: the job of a number continues as another, or is removed.
+-- serves: EndedLemmas, FallLemmas, TurningLemmas, WeighedLemmas
 use Rattle.std.proofs.Common.{◌≡◌, ℕ, ◌==◌, Bool, true, false, cond, not, List, [], ◌∷◌, Some, refl, sym, ◌∙◌, ap, if◌then◌else◌, eqb-true, eq-eqb}
 use Rattle.std.proofs.lemmas.List.Elements.{All-cons, All-filter, All-head, All-tail}
 use Rattle.g_job_table.specs.Numbers.{AreOpen, job_in}
@@ -6,7 +7,7 @@ use Rattle.g_job.specs.State.{JobState}
 use Rattle.g_run_model.specs.World.{with_job, without_job}
 use Rattle.g_run_model.proofs.CrewLemmas.{no_job, one_job}
 
--- who takes the place of a job is gone with it
+-- the job that replaces another is removed with it
 pub without_with : (j : JobState) (jobs : List JobState) → without_job j.number (with_job j jobs) ≡ without_job j.number jobs
 without_with j [] = refl
 without_with j (k ∷ jobs) = by (k.number == j.number) refl (without_with j jobs)

@@ -1,13 +1,14 @@
--- Parts of a run, one behind the other.
+-- Parts of a run, one after another.
+-- serves: TickedLemmas, UntilLemmas, crates above
 use Rattle.std.proofs.Common.{◌≡◌, ◌+◌, ◌≤◌, ◌++◌, ℕ, List, [], ◌∷◌, Option, Some, None, length, append_assoc, append-nil, refl, sym, ◌∙◌, ap, subst, arith}
 use Rattle.std.proofs.lemmas.List.{length-append}
 use Rattle.std.specs.Fn.{Shared}
 use denote.Ref.{Bor}
 use Rattle.g_base.specs.Fuse.{Arms, IsArmedBy, IsArmedWithin}
 use Rattle.g_base.proofs.FuseLemmas.{armed_then, within_more, within_none, within_then}
-use Rattle.g_budget.specs.declared.tariff.Charge.{Charge}
-use Rattle.g_budget.specs.declared.tariff.Usage.{Usage}
-use Rattle.g_sched.specs.declared.rule.Standing.{Standing}
+use Rattle.g_rules.specs.declared.tariff.Charge.{Charge}
+use Rattle.g_rules.specs.declared.tariff.Usage.{Usage}
+use Rattle.g_rules.specs.declared.rule.Standing.{Standing}
 use Rattle.g_io.specs.Streams.{with_more}
 use Rattle.g_script.specs.declared.operator.Operator.{Operator}
 use Rattle.g_script.specs.declared.operator.Timed.{Timed}
@@ -30,7 +31,7 @@ use Rattle.g_ticks.specs.Parts.{Anything, Arrives, GoesBy, Keeps, Leads}
 use Rattle.g_ticks.proofs.KeepLemmas.{kept_more, kept_then}
 use Rattle.g_day.proofs.LabelLemmas.{same_then}
 
--- ARMINGS, one part behind the other
+-- armings, one part after another
 pub none_arm : (through : Type 0) (old new : Devices) → new.disc.arms ≡ old.disc.arms → new.rack.arms ≡ old.rack.arms → AreArmings [] through old new
 none_arm through old new disc tape = record {
   disc = within_none [] old.disc.arms new.disc.arms disc;
@@ -68,7 +69,7 @@ arms_then a b old now new early late went first later = record {
   tape_since = in_then old.rack.write_faults now.rack.write_faults new.rack.write_faults old.rack.arms now.rack.arms new.rack.arms early.tape_write_faults late.tape_write_faults first.tape_since later.tape_since;
 }
 
--- lines that weren't come to
+-- lines that weren't reached
 pub arms_more : {One Two : Type 0} (a b : List Timed) (old new : Devices) → (Two → ⊥) → AreArmings a One old new → AreArmings (a ++ b) Two old new
 arms_more a b old new cut first = record {
   disc = and_more disc_arms a b old.disc.arms new.disc.arms first.disc;
@@ -79,7 +80,7 @@ arms_more a b old new cut first = record {
   tape_since = first.tape_since;
 }
 
--- WHAT HOLDS OF ALL DEVICES behind two parts
+-- what holds of all devices after two parts
 pub keeps_then : (a b : List Timed) (old mid : Seen) (failure : Option Failure) (new : Seen) (faults faults1 faults2 : ℕ)
     → Keeps a old None mid faults faults1 → Keeps b mid failure new faults1 faults2 → Keeps (a ++ b) old failure new faults faults2
 keeps_then a b old mid failure new faults faults1 faults2 first later = record {
@@ -140,7 +141,7 @@ module _ {F U : Type 0} (tariffs : Shared F (Bor Usage × Unit {0}) Charge) (tar
     text = later.text ∙ ap (λ (t : List ℕ). t ++ b) first.text ∙ append_assoc w.text a b;
   }
 
-  -- BEHIND A PART that arrived
+  -- after a part that arrived
   pub goes_then : (First Rests : World → Type 0) (w : World) (lines rest : List Timed) (old mid : Seen) (before middle : Option (List ℕ)) (first : Arrives tariffs tariff rules rule First w lines old mid before middle)
       (failure : Option Failure) (new : Seen) (after : Option (List ℕ)) → GoesBy tariffs tariff rules rule Rests first.next rest mid failure new middle after
       → GoesBy tariffs tariff rules rule Rests w rest old failure new before after

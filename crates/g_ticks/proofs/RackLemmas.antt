@@ -1,4 +1,5 @@
--- A write to a reel mounts and unmounts none, so that what jobs have left to do is as it was.
+-- A write to a reel mounts and unmounts none, so what jobs have left to do is unchanged.
+-- serves: DumpLemmas
 use Rattle.std.proofs.Common.{◌≡◌, ◌+◌, ◌-◌, ◌==◌, ◌&&◌, ℕ, Bool, true, false, List, [], ◌∷◌, Option, Some, None, sum_by, refl, ◌∙◌, ap, if◌then◌else◌, arith}
 use Rattle.std.proofs.lemmas.List.Sums.{sum_by-cons}
 use Rattle.g_job.specs.State.{JobState}
@@ -57,7 +58,7 @@ module _ (old new : Rack) (same : SameMounted old new) where
   share_still : (j : JobState) → share_in new j ≡ share_in old j
   share_still j = ap (λ (b : Bool). (j.allowance - j.used) + (if b then 1 else 0)) (steps_still j)
 
-  -- WHAT JOBS HAVE LEFT TO DO is as it was
+  -- what jobs have left to do is unchanged
   pub shares_still : (jobs : List JobState) → sum_by (share_in new) jobs ≡ sum_by (share_in old) jobs
   shares_still [] = refl
   shares_still (j ∷ jobs) =

@@ -1,4 +1,6 @@
--- What a turn's calls leave as it was, whether devices tell or not; and which reels a state has mounted.
+-- What a turn's calls leave unchanged, whether or not the devices expose their contents; and which reels a state has
+-- mounted.
+-- serves: job_steps, take_turn, FallLemmas, KeptLemmas, RestLemmas, TakenLemmas
 use Rattle.std.proofs.Common.{◌≡◌, ◌⊎◌, ℕ, false, List, [], ◌∷◌, None, Err, refl, sym, ◌∙◌, ap, subst, inl, inr}
 use Rattle.std.proofs.lemmas.Bool.{false≢true}
 use Rattle.g_turn.specs.Causes.{IsHonest, IsOther, StopsAt}
@@ -21,7 +23,8 @@ use Rattle.g_day.specs.System.{SameDevices, Up, devices_in}
 use Rattle.g_day.proofs.CauseLemmas.{same_caused}
 use Rattle.g_day.proofs.LabelLemmas.{same_itself, same_then}
 
--- the store stays over devices of the same sizes, which nobody armed, and whose counts of the disc's failures didn't fall; the same reels are mounted, and they hold the same; and it goes on belonging to them
+-- the store stays on devices of the same sizes, which weren't armed, and the disc's fault counters didn't fall; the same
+-- reels are mounted, and they hold the same; and disc and rack still belong together
 pub record StaysOver (old new : StoreFacts) : Type 0 where
   pub same : SameDevices (devices_in (Up old)) (devices_in (Up new))
   pub disc_arms : new.online.disc.arms ≡ old.online.disc.arms
@@ -57,7 +60,7 @@ call_stays old new who call answer is = record {
   belongs = is.belongs;
 }
 
--- where it wasn't stopped, the open dump is as it was
+-- if it wasn't stopped, the open dump is unchanged
 stopped_at : (who : List ℕ) (stop : Stop) (p : Asks Work) → StopsAt stop p → (told : List Answer) (old : StoreFacts) (given : Work) (new : StoreFacts) → RanBy Answers who old p told given new → new ≡ old
 stopped_at who stop (Gives x) s [] old given new r = r.1
 stopped_at who stop (Gives x) s (a ∷ told) old given new r = absurd r
@@ -101,7 +104,7 @@ module _ (who : List ℕ) where
   ran_stays (Call call more) [] old given new r = absurd r
   ran_stays (Call call more) (a ∷ told) old given new (mid, is, real, rest) = stays_then old mid new (call_stays old mid who call a is) (ran_stays (more a) told mid given new rest)
 
-  -- a front of one
+  -- a prefix of one
   pub part_stays : (p : Asks Work) (old new : StoreFacts) → RanInPart Answers who old p new → StaysOver old new
   part_stays (Gives x) old new r = stays_itself old new r
   part_stays (Call call more) old new (inl r) = stays_itself old new r
@@ -115,7 +118,7 @@ up_mounted v s u is serial = ap (λ (t : State). state.is_mounted t serial) is �
 pub mounted_in : (s : StoreFacts) → s.spent ≡ false → (u : State) → StandsForState s u → (serial : ℕ) → state.is_mounted u serial ≡ is_mounted (reel serial s.rack.reels)
 mounted_in s unspent u here serial = let is = seen s u unspent here in up_mounted is.view s u is.state_is serial
 
--- such a state is there, whatever devices tell
+-- such a state exists, for any devices
 abbrev pub no_view : View
 no_view = record { text = λ stamp. []; shelf = λ serial. []; dumps = []; dumped = None; opened = None }
 

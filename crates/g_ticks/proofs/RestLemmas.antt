@@ -1,4 +1,5 @@
 -- Whether a tick may begin, by what is at hand and by the world.
+-- serves: something_steps (no, yes), tick_until_due, TickedLemmas, UntilLemmas
 use Rattle.std.proofs.Common.{◌≡◌, ℕ, Bool, true, false, not, List, [], ◌∷◌, Option, Some, None, filter, is_some, refl, sym, ◌∙◌, ap}
 use Rattle.std.specs.Prelude.{◌&&◌, ◌||◌, option_map}
 use Rattle.g_job.specs.State.{JobState}
@@ -17,7 +18,7 @@ use Rattle.g_ticks.proofs.FallLemmas.{able_same}
 use Rattle.g_ticks.proofs.RanLemmas.{mounted_in}
 use Rattle.g_ticks.specs.Parts.{is_past, steps_in, turn_of}
 
--- the next line is due where the count has come to its turn
+-- the next line is due if the count has reached its turn
 due_by : (w : World) (lines : List Timed) → (let v : World = record w { lines = lines } in is_due v ≡ is_past (turn_of lines) w.count)
 due_by w [] = refl
 due_by w (next ∷ lines) = refl
@@ -54,7 +55,7 @@ nothing_down w d c count m empty =
     let there : [] ≡ filter (may_step d.rack) c.jobs = sym (ap (λ (js : List JobState). filter (may_step d.rack) js) empty) in
     nothing_by w (Down d) c count dumping (ap (λ (js : List JobState). not (has_none js)) (here ∙ there))
 
--- NOTHING STEPS in a world where nothing steps of what is at hand
+-- nothing steps in a world if nothing at hand steps
 pub nothing_is : (w : World) (f : SystemFacts) (c : CrewState) (count : ℕ) → Matches w (seen f c count) → IsReady f c → nothing_steps w ≡ not (steps_in (seen f c count))
 nothing_is w (Up s) c count m ready = nothing_up w s c count m ready.0
 nothing_is w (Down d) c count m ready = nothing_down w d c count m ready.2

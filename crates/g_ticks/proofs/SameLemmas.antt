@@ -1,10 +1,11 @@
--- WHAT IS AT HAND THEN, told in another way.
+-- What is at hand then, in another formulation.
+-- serves: dump_step (did), step (did), take_turn (did), tick (did), TickedLemmas, UntilLemmas
 use Rattle.std.proofs.Common.{◌≡◌, ◌+◌, ◌≤◌, ℕ, List, Option, None, sym, subst}
 use Rattle.std.specs.Fn.{Shared}
 use denote.Ref.{Bor}
-use Rattle.g_budget.specs.declared.tariff.Charge.{Charge}
-use Rattle.g_budget.specs.declared.tariff.Usage.{Usage}
-use Rattle.g_sched.specs.declared.rule.Standing.{Standing}
+use Rattle.g_rules.specs.declared.tariff.Charge.{Charge}
+use Rattle.g_rules.specs.declared.tariff.Usage.{Usage}
+use Rattle.g_rules.specs.declared.rule.Standing.{Standing}
 use Rattle.g_day.specs.declared.progress.Failure.{Failure}
 use Rattle.g_day.specs.Parts.{Seen}
 use Rattle.g_ticks.specs.Parts.{Anything, DidTicks}

@@ -1,4 +1,5 @@
 -- What the devices count in a step of the open dump, by its outcome.
+-- serves: DumpLemmas
 use Rattle.std.proofs.Common.{◌≡◌, ℕ, List, Option, Result, Ok, Err, refl, sym, ap, subst, inl, inr}
 use Rattle.g_disc_contents.specs.Facts.{OnlineFacts}
 use Rattle.g_dumper.specs.Steps.{Abandoned, FailedWrite, Stepping, WroteBlock}

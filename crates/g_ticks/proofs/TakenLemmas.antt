@@ -1,10 +1,11 @@
 -- A TURN'S PART of a tick, from the choice and from how the turn was taken.
+-- serves: take_turn (did)
 use Rattle.std.proofs.Common.{◌≡◌, ℕ, List, Option, Some, None, refl, sym, subst, inl, inr}
 use Rattle.std.specs.Fn.{Shared}
 use denote.Ref.{Bor}
-use Rattle.g_budget.specs.declared.tariff.Charge.{Charge}
-use Rattle.g_budget.specs.declared.tariff.Usage.{Usage}
-use Rattle.g_sched.specs.declared.rule.Standing.{Standing}
+use Rattle.g_rules.specs.declared.tariff.Charge.{Charge}
+use Rattle.g_rules.specs.declared.tariff.Usage.{Usage}
+use Rattle.g_rules.specs.declared.rule.Standing.{Standing}
 use Rattle.g_job.specs.Turns.{turn_work}
 use Rattle.g_job.proofs.TurnBounds.{turn_honest}
 use Rattle.g_store_meaning.specs.StoreInvariant.{StoreFacts}
@@ -36,7 +37,7 @@ module _ {F U : Type 0} (tariffs : Shared F (Bor Usage × Unit {0}) Charge) (tar
   abbrev pub before_it : Seen
   before_it = seen (Up old) c count
 
-  -- nobody can step
+  -- no job can step
   pub nobody_turns : ChoosesFor rules rule old c None → (before : Option (List ℕ)) (faults : ℕ) → DidTurn tariffs tariff rules rule before_it None before_it before before faults faults
   nobody_turns choice before faults = record {
     goes = none_goes tariffs tariff rules rule old c count 0 ready (λ u here. choice u (mounted_in old ready.0 u here)) before;
@@ -59,7 +60,7 @@ module _ {F U : Type 0} (tariffs : Shared F (Bor Usage × Unit {0}) Charge) (tar
         grows = puts_grown (text_is number count old took.new c took.job took.behind took.there takes.spends.0 failure system c' before after faults faults' took.turn took.ends);
       }
 
-  -- or a front of one
+  -- or a prefix of one
   part_turns : (number : ℕ) → ChoosesFor rules rule old c (Some number) → (failure : Option Failure) (system : SystemFacts) (c' : CrewState) (before after : Option (List ℕ)) (faults faults' : ℕ)
       → TookPart tariffs tariff old c number failure system before after faults faults' → DidTurn tariffs tariff rules rule before_it failure (seen system c' count) before after faults faults'
   part_turns number choice failure system c' before after faults faults' took =

@@ -1,13 +1,14 @@
--- The two parts of a tick, one behind the other.
+-- The two parts of a tick, one after the other.
+-- serves: tick (did), PartLemmas, crates above
 use Rattle.std.proofs.Common.{◌≡◌, ◌+◌, ◌≤◌, ◌++◌, ℕ, Bool, true, false, List, [], ◌∷◌, Option, Some, None, Result, Ok, Err, append_assoc, append-nil, is_some, length, take, refl, sym, ◌∙◌, ap, subst, inl, inr, arith, if◌then◌else◌}
 use Rattle.std.specs.Prelude.{◌||◌}
 use Rattle.std.proofs.lemmas.List.{length-append}
 use Rattle.std.proofs.Math.Seq.{take-append-add}
 use Rattle.std.specs.Fn.{Shared}
 use denote.Ref.{Bor}
-use Rattle.g_budget.specs.declared.tariff.Charge.{Charge}
-use Rattle.g_budget.specs.declared.tariff.Usage.{Usage}
-use Rattle.g_sched.specs.declared.rule.Standing.{Standing}
+use Rattle.g_rules.specs.declared.tariff.Charge.{Charge}
+use Rattle.g_rules.specs.declared.tariff.Usage.{Usage}
+use Rattle.g_rules.specs.declared.rule.Standing.{Standing}
 use Rattle.g_io.specs.Streams.{HasPutPart, with_more}
 use Rattle.g_plain.specs.declared.faults.StoreFault.{StoreFault}
 use Rattle.g_plain.specs.declared.faults.StoreFault.TheVariants.{Stopped}
@@ -32,7 +33,7 @@ use Rattle.g_day.proofs.GrowLemmas.{grow_then}
 use Rattle.g_day.proofs.LabelLemmas.{same_then}
 use Rattle.g_day.proofs.PutLemmas.{grown_then, with_more-append}
 
--- TEXTS, one behind the other
+-- texts, one after another
 pub put_on : (before middle after : Option (List ℕ)) (a b : List ℕ) → middle ≡ with_more before a → HasPutPart middle b after → HasPutPart before (a ++ b) after
 put_on before middle after a b whole part = (
   length a + part.0,
@@ -109,7 +110,7 @@ module _ {F U : Type 0} (tariffs : Shared F (Bor Usage × Unit {0}) Charge) (tar
   dump_comes w old new next added may stands (inl n) = nothing_comes w old new next added stands n
   dump_comes w old new next added may stands (inr s) = step_comes w old new next added may s
 
-  -- behind it a turn may begin, or the tick is through
+  -- afterwards a turn may begin, or the tick is done
   may_turn : (w : World) (old : SystemFacts) (mid : StoreFacts) (next : World) (added : List ℕ) → MayTick w → DumpComes w old (Up mid) next added → MayTurn next
   may_turn w old mid next added may (inl n) =
       subst (λ (v : World). MayTurn v) (sym n.next_is)
@@ -153,7 +154,7 @@ module _ {F U : Type 0} (tariffs : Shared F (Bor Usage × Unit {0}) Charge) (tar
       numbers = λ e. turned.numbers e ∙ dumped.keeps.numbers refl;
     }
 
-    -- without a dump what the turn has to do is as it was before
+    -- without a dump the turn has as much to do as before
     both_fall : (failure : Option Failure) → Falls (some_job_steps (seen (Up mid) c1 count)) (seen (Up mid) c1 count) failure (seen new c2 count)
         → Falls (has_dump (Up old) || some_job_steps (seen (Up old) c count)) (seen (Up old) c count) failure (seen new c2 count)
     both_fall failure turned = λ e. by (has_dump (Up old)) refl e
@@ -180,7 +181,7 @@ module _ {F U : Type 0} (tariffs : Shared F (Bor Usage × Unit {0}) Charge) (tar
     grows = grown_then before middle after dumped.grows turned.grows;
   }
 
-  -- where the dump's step ends it: by a failure, or by a stop
+  -- if the dump's step ends it: by a failure, or by a stop
   pub dump_did : (old : StoreFacts) (c : CrewState) (count : ℕ) (new : SystemFacts) (c2 : CrewState) (failure : Option Failure) (before after : Option (List ℕ)) (faults faults2 : ℕ)
       → (failure ≡ None → (d : Devices) × (new ≡ Down d)) → DidDump (seen (Up old) c count) failure (seen new c2 count) before after faults faults2
       → DidTick tariffs tariff rules rule (seen (Up old) c count) failure (seen new c2 count) before after faults faults2

@@ -1,12 +1,13 @@
--- One tick, and the count behind it.
+-- One tick, and the count after it.
+-- serves: tick_on
 use Rattle.std.proofs.Common.{◌≡◌, ◌+◌, ◌≤◌, ◌++◌, ℕ, Bool, true, false, not, List, [], ◌∷◌, Option, Some, None, append-nil, refl, sym, ◌∙◌, ap, subst, inl, arith, if◌then◌else◌}
 use Rattle.std.specs.Prelude.{◌||◌}
 use Rattle.std.specs.Fn.{Shared}
 use Rattle.std.proofs.lemmas.Bool.{leb-false}
 use denote.Ref.{Bor}
-use Rattle.g_budget.specs.declared.tariff.Charge.{Charge}
-use Rattle.g_budget.specs.declared.tariff.Usage.{Usage}
-use Rattle.g_sched.specs.declared.rule.Standing.{Standing}
+use Rattle.g_rules.specs.declared.tariff.Charge.{Charge}
+use Rattle.g_rules.specs.declared.tariff.Usage.{Usage}
+use Rattle.g_rules.specs.declared.rule.Standing.{Standing}
 use Rattle.g_script.specs.declared.operator.Timed.{Timed}
 use Rattle.g_store_meaning.specs.StoreInvariant.{StoreFacts}
 use Rattle.g_run_model.specs.Moves.{Move, MovesCounted, Run, Ticked}
@@ -40,7 +41,7 @@ keeps_of old new failure faults faults' keeps = record {
 }
 
 module _ {F U : Type 0} (tariffs : Shared F (Bor Usage × Unit {0}) Charge) (tariff : F) (rules : Shared U (Bor Standing × Unit {0}) ℕ) (rule : U) where
-  -- some moves more, which arm nothing and change the count and the phase alone
+  -- some more moves, which arm nothing and change only the count and the phase
   leads_at : (w : World) (old new : SystemFacts) (moves more : List Move) (next : World) (added : List ℕ) (n : ℕ) (p : Phase) → Comes tariffs tariff rules rule w old new moves next added
       → (let after : World = record next { count = n; phase = p } in Run tariffs tariff rules rule w more after) → MovesCounted more [] [] (devices_in old) (devices_in new)
       → (let after : World = record next { count = n; phase = p } in Leads tariffs tariff rules rule w old new more after added)
@@ -85,7 +86,7 @@ module _ {F U : Type 0} (tariffs : Shared F (Bor Usage × Unit {0}) Charge) (tar
         → failure ≡ None → left (seen new c' count) + 1 ≤ left (seen (Up old) c count)
     fall failure falls none = subst (λ (b : Bool). left (seen new c' count) + (if b then 1 else 0) ≤ left (seen (Up old) c count)) steps (falls none)
 
-    -- the turn of the next line hasn't come
+    -- the turn of the next line isn't reached
     early : (turn : ℕ) → limit ≡ Some turn → count + 1 ≤ turn
     early turn is =
         let before : is_past (Some turn) count ≡ false = subst (λ (l : Option ℕ). is_past l count ≡ false) is undue in
@@ -124,7 +125,7 @@ module _ {F U : Type 0} (tariffs : Shared F (Bor Usage × Unit {0}) Charge) (tar
             let k = keeps_of (seen (Up old) c count) (seen new c' count) None faults faults' did.keeps in
             record { ready = k.ready; numbers = k.numbers; arms = k.arms; same = k.same; belongs = k.belongs; dumps = k.dumps; cause = k.cause }
 
-    -- the tick isn't over, and the count stands
+    -- the tick isn't over, and the count doesn't change
     module _ (count' : ℕ) where
       short_keeps : (failure : Failure) → KeepsRun (seen (Up old) c count) (Some failure) (seen new c' count) faults faults' → Keeps [] (seen (Up old) c count) (Some failure) (seen new c' count') faults faults'
       short_keeps failure keeps =
@@ -144,7 +145,7 @@ module _ {F U : Type 0} (tariffs : Shared F (Bor Usage × Unit {0}) Charge) (tar
               let (moves, next, added, comes, part) = did.goes w m (may_tick w m between (ap turn_of is ∙ at)) in
               record { moves = moves; next = next; added = added; leads = leads_of w (Up old) new moves next added comes; put = part }
 
-    -- BY HOW IT CAME OUT
+    -- BY ITS OUTCOME
     pub one_did : (failure : Option Failure) → DidTick tariffs tariff rules rule (seen (Up old) c count) failure (seen new c' count) before after faults faults' → (came : Option Failure) (n : ℕ)
         → came ≡ failure → (failure ≡ None → n ≡ count + 1) → DidOne tariffs tariff rules rule limit (seen (Up old) c count) came (seen new c' n) before after faults faults'
     one_did failure did came n is counts =
@@ -156,7 +157,7 @@ module _ {F U : Type 0} (tariffs : Shared F (Bor Usage × Unit {0}) Charge) (tar
             subst (λ (m : ℕ). DidOne tariffs tariff rules rule limit (seen (Up old) c count) None (seen new c' m) before after faults faults') (sym (more refl)) (ticked tick)
         by (Some fault) tick more = failed n fault tick
 
-  -- the same where the system was seen by the store that it has left
+  -- the same if the system was seen by the store that it has left
   pub one_here : (limit : Option ℕ) (old : StoreFacts) (c : CrewState) (count : ℕ) → old.spent ≡ false → IsReady (left_of old) c → is_past limit count ≡ false → steps_in (seen (Up old) c count) ≡ true
       → (new : SystemFacts) (c' : CrewState) (before after : Option (List ℕ)) (faults faults' : ℕ) (failure : Option Failure)
       → DidTick tariffs tariff rules rule (seen (Up old) c count) failure (seen new c' count) before after faults faults' → (n : ℕ) → (failure ≡ None → n ≡ count + 1)

@@ -1,4 +1,5 @@
--- A TURN, as moves of a run, from every world that is what is at hand; and what holds of every device.
+-- A TURN, as moves of a run, from every world that matches what is at hand; and what holds of every device.
+-- serves: end_shown, end_untold, KeptLemmas, TakenLemmas
 use Rattle.std.proofs.Common.{◌≡◌, ◌⊎◌, ◌<◌, ◌≤◌, ℕ, Bool, true, false, List, [], ◌++◌, map, Option, Some, None, slice_get, refl, sym, ◌∙◌, ap, subst, inl, inr, append-nil, arith}
 use Rattle.std.specs.Prelude.{◌↔◌, ◌&&◌, codes, not}
 use Rattle.std.specs.Fmt.{decimal}
@@ -7,10 +8,10 @@ use denote.Ref.{Bor}
 use Rattle.std.proofs.lemmas.Bool.{false≢true}
 use Rattle.std.proofs.lemmas.List.Elements.{All-nil}
 use Rattle.g_turn.specs.State.{Work}
-use Rattle.g_budget.specs.declared.tariff.Charge.{Charge}
-use Rattle.g_budget.specs.declared.tariff.Usage.{Usage}
-use Rattle.g_sched.specs.declared.rule.Standing.{Standing}
-use Rattle.g_sched.specs.Choice.{IsChosen}
+use Rattle.g_rules.specs.declared.tariff.Charge.{Charge}
+use Rattle.g_rules.specs.declared.tariff.Usage.{Usage}
+use Rattle.g_rules.specs.declared.rule.Standing.{Standing}
+use Rattle.g_rules.specs.Choice.{IsChosen}
 use Rattle.g_io.specs.Streams.{with_more}
 use Rattle.g_plain.specs.Programs.{Gives, RanInPart}
 use Rattle.g_job.specs.Beginning.{standing_of}
@@ -62,7 +63,7 @@ more_none : (before : Option (List ℕ)) → with_more before [] ≡ before
 more_none None = refl
 more_none (Some bytes) = ap (λ (l : List ℕ). let o : Option (List ℕ) = Some l in o) (append-nil bytes)
 
--- THE SYSTEM behind a turn
+-- the system after a turn
 abbrev pub down_of : StoreFacts → SystemFacts
 down_of s = Down (record { disc = s.online.disc; rack = s.rack })
 
@@ -91,7 +92,7 @@ unbroken turn s is isnt = by s.spent is
     by false is = refl
     by true is = absurd (isnt (is.0 refl))
 
--- by the turn, and where memory ran out
+-- by the turn, and if memory ran out
 turned_stands : (turn : Turn) (s : StoreFacts) (t : State) (job : JobState) (work : Work) (behind : JobState) (w : World) → (s.spent ≡ true) ↔ (turn ≡ turns.Broken) → StoreIsNow s t
     → StandsAs (turned_system turn s) (turned_world w job t work turn behind).store
 turned_stands turns.Broken s t job work behind w stopped now = down_stands s t (stopped.1 refl) now
@@ -107,7 +108,7 @@ left_stands : (s : StoreFacts) (system : SystemFacts) (t : State) → LeftBy s s
 left_stands s system t (inl (unspent, is)) now = subst (λ (x : SystemFacts). StandsAs x t) (sym is) (up_stands s t now)
 left_stands s system t (inr (spent, is)) now = subst (λ (x : SystemFacts). StandsAs x t) (sym is) (down_stands s t spent now)
 
--- where nobody can step, a dump has taken its step
+-- if no job can step, a dump has taken its step
 stepped_by : (w : World) → ((w.phase ≡ Between) × (is_dumping w ≡ false) × (nothing_steps w ≡ false)) ⊎ (w.phase ≡ Stepped) → has_none (able w) ≡ true → w.phase ≡ Stepped
 stepped_by w (inr stepped) nobody = stepped
 stepped_by w (inl (between, closed, some)) nobody =
@@ -121,7 +122,7 @@ module _ (number count : ℕ) (old new : StoreFacts) (c : CrewState) (job behind
   number_behind : behind.number ≡ number
   number_behind = numbers ∙ numbered_is number c.jobs job there
 
-  -- who is taken out is the job as it is behind the turn
+  -- the removed job is the job after the turn
   taken_is : (gone : JobState) → job_in number (with_job behind c.jobs) ≡ Some gone → gone ≡ behind
   taken_is gone found = found_same behind c.jobs gone (subst (λ (n : ℕ). job_in n (with_job behind c.jobs) ≡ Some gone) (sym number_behind) found)
 
@@ -141,7 +142,7 @@ module _ (number count : ℕ) (old new : StoreFacts) (c : CrewState) (job behind
     text_is (turns.Ran units money) ends = subst (λ (l : List ℕ). Puts failure l before after faults faults') (sym (append-nil (shown job behind))) ends.put
     text_is (turns.Ended units money) (gone, mid, out, on) = subst (λ (j : JobState). Puts failure (shown job behind ++ ended_file j) before after faults faults') (taken_is gone out.there) on.put
 
-    -- the crew that is left is that of the world behind
+    -- the remaining crew is that of the world afterwards
     crew_is : (turn : Turn) → EndsTurn count number new crew_behind (shown job behind) turn failure system c' before after faults faults' → failure ≡ None → (new.spent ≡ true) ↔ (turn ≡ turns.Broken)
         → (w : World) (t : State) (work : Work) → StandsForState new t → IsCrewOf w c → IsCrewOf (turned_world w job t work turn behind) c'
     crew_is turns.Broken ends none stopped w t work stands m = record {
@@ -188,7 +189,7 @@ module _ (number count : ℕ) (old new : StoreFacts) (c : CrewState) (job behind
     ready_is (turns.Ended units money) ends stopped size (unspent, low, high) =
         (unbroken (turns.Ended units money) new stopped (λ e. let no : ⊥ = cc in no), subst (λ (n : ℕ). 2177 < n) (sym size) low, subst (λ (n : ℕ). n ≤ 1048576) (sym size) high)
 
-    -- numbers go on
+    -- numbers continue
     pub numbers_are : (turn : Turn) → EndsTurn count number new crew_behind (shown job behind) turn failure system c' before after faults faults' → failure ≡ None → c'.next_job ≡ c.next_job
     numbers_are turns.Broken ends none = ap (λ (k : CrewState). k.next_job) ends.crew
     numbers_are (turns.Wants serial) ends none = ap (λ (k : CrewState). k.next_job) (ends.opens none).others
@@ -218,7 +219,7 @@ module _ {F U : Type 0} (tariffs : Shared F (Bor Usage × Unit {0}) Charge) (tar
   went None old new added before after does put = λ w m may. let d = does w m may in (d.moves, d.next, added, d.comes, d.matches refl, d.through refl, put)
   went (Some failure) old new added before after does put = λ w m may. let d = does w m may in (d.moves, d.next, added, d.comes, put)
 
-  -- where a turn may begin, one does
+  -- if a turn may begin, one does
   may_begin : (w : World) → MayTurn w → MayBegin tariffs tariff rules rule w
   may_begin w (idle, undue, inl (between, closed, some)) = inl (between, closed)
   may_begin w (idle, undue, inr stepped) = inr stepped
@@ -276,7 +277,7 @@ module _ {F U : Type 0} (tariffs : Shared F (Bor Usage × Unit {0}) Charge) (tar
             through = λ none. (refl, inl refl);
           }
 
-      -- A FRONT OF ONE
+      -- A PREFIX OF ONE
       part_does : (new : StoreFacts) (system : SystemFacts) (c' : CrewState) → RanInPart Answers job.user old (turn_work job) new → LeftBy new system
           → (w : World) → Matches w (seen (Up old) c count) → MayTurn w → Doing w (seen (Up old) c count) (Some Memory) (seen system c' count) []
       part_does new system c' ran left w m may =
@@ -311,7 +312,7 @@ module _ {F U : Type 0} (tariffs : Shared F (Bor Usage × Unit {0}) Charge) (tar
       part_goes system c' before new ran left =
           went (Some Memory) (seen (Up old) c count) (seen system c' count) [] before before (part_does new system c' ran left) (0, omega arith, sym (more_none before))
 
-    -- NOBODY CAN STEP
+    -- no job can step
     pub none_goes : ((u : State) → StandsForState old u → has_none (able_in u c.jobs) ≡ true) → (before : Option (List ℕ))
         → GoesBy tariffs tariff rules rule MayTurn IsThrough (seen (Up old) c count) None (seen (Up old) c count) before before
     none_goes none before =

@@ -1,11 +1,12 @@
--- Ticks, one behind the other, until a line is due or nothing steps.
+-- Ticks, one after another, until a line is due or nothing steps.
+-- serves: tick_on, tick_until_due, until_up, crates above
 use Rattle.std.proofs.Common.{◌≡◌, ◌⊎◌, ◌+◌, ◌<◌, ◌≤◌, ℕ, Bool, true, false, not, List, [], Option, Some, None, refl, sym, ◌∙◌, ap, subst, inl, inr, arith}
 use Rattle.std.specs.Fn.{Shared}
 use Rattle.std.proofs.lemmas.Bool.{leb-false}
 use denote.Ref.{Bor}
-use Rattle.g_budget.specs.declared.tariff.Charge.{Charge}
-use Rattle.g_budget.specs.declared.tariff.Usage.{Usage}
-use Rattle.g_sched.specs.declared.rule.Standing.{Standing}
+use Rattle.g_rules.specs.declared.tariff.Charge.{Charge}
+use Rattle.g_rules.specs.declared.tariff.Usage.{Usage}
+use Rattle.g_rules.specs.declared.rule.Standing.{Standing}
 use Rattle.g_script.specs.declared.operator.Timed.{Timed}
 use Rattle.g_run_model.specs.World.{World}
 use Rattle.g_job_table.specs.Crew.{CrewState}
@@ -24,7 +25,7 @@ use Rattle.g_day.proofs.BesideLemmas.{ready_beside}
 use Rattle.g_day.proofs.LabelLemmas.{same_itself}
 use Rattle.g_day.proofs.PutLemmas.{grown_then, same_grown}
 
--- THE COUNT HAS ROOM for a tick where there is one to be done
+-- THE COUNT HAS ROOM for a tick if there is one to do
 pub room_one : (limit : Option ℕ) (s : Seen) → HasRoom limit s → is_past limit s.count ≡ false → s.count < 18446744073709551615
 room_one None s room undue = omega (arith, room)
 room_one (Some turn) s room undue = let below = leb-false turn s.count undue in omega (arith, room, below)
@@ -32,12 +33,12 @@ room_one (Some turn) s room undue = let below = leb-false turn s.count undue in 
 room_by : (was now n m : ℕ) → was + n < 18446744073709551615 → now ≡ was + 1 → m + 1 ≤ n → now + m < 18446744073709551615
 room_by was now n m room counts falls = omega (arith, room, counts, falls)
 
--- and behind it
+-- and after it
 pub room_then : (limit : Option ℕ) (old new : Seen) → HasRoom limit old → new.count ≡ old.count + 1 → left new + 1 ≤ left old → HasRoom limit new
 room_then None old new room counts falls = room_by old.count new.count (left old) (left new) room counts falls
 room_then (Some turn) old new room counts falls = room
 
--- the count of one part and then another stays, or comes to the turn at most
+-- the count of two successive parts stays, or reaches at most the turn
 late_then : (turn old mid new : ℕ) → (mid ≤ turn) ⊎ (mid ≡ old) → (new ≤ turn) ⊎ (new ≡ mid) → (new ≤ turn) ⊎ (new ≡ old)
 late_then turn old mid new first (inl most) = inl most
 late_then turn old mid new (inl most) (inr same) = inl (omega (arith, most, same))
@@ -54,7 +55,7 @@ keeps_here s faults ready still = record {
   cause = refl;
 }
 
--- beside a new disc nothing steps that doesn't
+-- with a new disc nothing steps that doesn't otherwise
 ends_beside : (f : SystemFacts) (c : CrewState) (count : ℕ) (limit : Option ℕ) → (is_past limit count ≡ true) ⊎ (steps_in (seen f c count) ≡ false) → (is_past limit count ≡ true) ⊎ (steps_in (seen (beside_new f) c count) ≡ false)
 ends_beside (Up s) c count limit ends = ends
 ends_beside (Down d) c count limit ends = ends
@@ -126,7 +127,7 @@ module _ {F U : Type 0} (tariffs : Shared F (Bor Usage × Unit {0}) Charge) (tar
   }
   ticks_end s (Some failure) f c count before after faults faults' did ends = record { goes = did.goes; keeps = did.keeps; late = did.late; grows = did.grows; aside = did.aside }
 
--- what a loop over ticks has left to do
+-- what a loop of ticks has left to do
 abbrev pub ticks_left : Option Failure → ℕ → ℕ
 ticks_left None n = n + 1
 ticks_left (Some failure) n = 0

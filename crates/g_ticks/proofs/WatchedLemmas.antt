@@ -1,9 +1,10 @@
--- A turn over a store that remembers whether it was asked is one over the store; where it wasn't asked the store is as it was.
+-- A turn on a store that remembers whether it was used is one on the store; if it wasn't used the store is unchanged.
+-- serves: goes_on (goes), open_accounts (opens), put_file (goes), turn_of (turn), waits (goes)
 use Rattle.std.proofs.Common.{◌≡◌, ◌⊎◌, List, [], ◌∷◌, None, Option, Some, append-nil, arith, false, true, true≢false, inl, inr, refl, sym, ◌∙◌, ap, subst, ℕ}
 use Rattle.std.specs.Fn.{Shared}
 use denote.Ref.{Bor}
-use Rattle.g_budget.specs.declared.tariff.Charge.{Charge}
-use Rattle.g_budget.specs.declared.tariff.Usage.{Usage}
+use Rattle.g_rules.specs.declared.tariff.Charge.{Charge}
+use Rattle.g_rules.specs.declared.tariff.Usage.{Usage}
 use Rattle.g_entry.specs.declared.user_rec.UserRec.{UserRec}
 use Rattle.g_job.specs.State.{JobState}
 use Rattle.g_job.specs.declared.turn.Turn.{Turn}
@@ -61,7 +62,7 @@ module _ {F : Type 0} (tariffs : Shared F (Bor Usage × Unit {0}) Charge) (tarif
   pub takes_quiet : TakesTurn AnswersWatched tariffs tariff job old turn after new → new.asked ≡ false → new ≡ old
   takes_quiet takes quiet = ran_quiet job.user old new _ takes.told takes.work takes.ran quiet
 
--- behind a turn that asked nothing, and changed no account, each user has one still
+-- after a turn that made no call, and changed no account, each user still has one
 pub still_all : (old new : WatchedFacts) (c c' : CrewState) → c'.accounts ≡ c.accounts → (new.asked ≡ false → new ≡ old) → HaveAll old c → HaveAll new c'
 still_all old new c c' accounts same all quiet =
     let is : new ≡ old = same quiet in
@@ -69,20 +70,20 @@ still_all old new c c' accounts same all quiet =
     subst (λ (w : WatchedFacts). HaveAccounts w.running.online.contents.users c'.accounts) (sym is)
     ((λ user some. let has = before user some in rw (sym accounts) at has))
 
--- where each user has one, none opens
+-- if each user has one, none opens
 pub opens_none : (users : List UserRec) (c : CrewState) → HaveAccounts users c.accounts → Opens users c c
 opens_none users c all = record { accounts = λ s accounts rows are. none_opens s accounts c.accounts users all rows are; others = refl }
 
--- nothing was put
+-- nothing was printed
 pub nothing_more : (before : Option (List ℕ)) → before ≡ with_more before []
 nothing_more None = refl
 nothing_more (Some bytes) = ap (λ (l : List ℕ). let o : Option (List ℕ) = Some l in o) (sym (append-nil bytes))
 
--- the system behind the opening is the one before
+-- the system after the opening is the one before
 pub still_up : (s s' : StoreFacts) → s' ≡ s → s.spent ≡ false → left_of s' ≡ Up s
 still_up s s' same running = ap left_of same ∙ left_up s running
 
--- where memory ran out at the opening nothing was put
+-- if memory ran out at the opening nothing was printed
 pub goes_nowhere : (s s' : StoreFacts) (text : List ℕ) (c c' : CrewState) (before : Option (List ℕ)) (faults : ℕ) → s' ≡ s → s.spent ≡ false → GoesOn s text c (Some Memory) (left_of s') c' before before faults faults
 goes_nowhere s s' text c c' before faults same running = record {
   up = still_up s s' same running;

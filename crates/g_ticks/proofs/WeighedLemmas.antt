@@ -1,13 +1,14 @@
--- What jobs weigh behind a turn of one of them.
+-- The weights of jobs after a turn of one of them.
+-- serves: take_turn
 use Rattle.std.proofs.Common.{◌≡◌, ◌==◌, ◌<◌, ◌≤◌, ◌∙◌, ◌∷◌, [], ℕ, Bool, List, Option, Some, None, ap, arith, cond, false, inl, inr, length, map, not, refl, slice_get, sym, true, if◌then◌else◌}
 use Rattle.std.specs.Fn.{FnReturnsAt, Shared}
 use Rattle.std.specs.Option.{option_map}
 use denote.Ref.{Bor}
 use Rattle.std.proofs.lemmas.List.{length-map}
 use Rattle.std.proofs.lemmas.Option.{none-some, same_Some, slice_get-map}
-use Rattle.g_budget.specs.declared.tariff.Charge.{Charge}
-use Rattle.g_budget.specs.declared.tariff.Usage.{Usage}
-use Rattle.g_sched.specs.declared.rule.Standing.{Standing}
+use Rattle.g_rules.specs.declared.tariff.Charge.{Charge}
+use Rattle.g_rules.specs.declared.tariff.Usage.{Usage}
+use Rattle.g_rules.specs.declared.rule.Standing.{Standing}
 use Rattle.g_job.specs.State.{JobState}
 use Rattle.g_job.specs.declared.turn.Turn.{Turn}
 use Rattle.g_job.specs.declared.turn.Turn.TheVariants as turns
@@ -25,7 +26,7 @@ put_or : (b : Bool) (new k j : JobState) (number : ℕ) → new.number ≡ numbe
 put_or true new k j number named other is = absurd (other (ap (λ (x : JobState). x.number) (sym is) ∙ named))
 put_or false new k j number named other is = is
 
--- a job of another number stands where it stood
+-- a job of another number stays at its place
 other_stays : (new : JobState) (jobs : List JobState) (number p : ℕ) (j : JobState) → new.number ≡ number → slice_get (with_job new jobs) p ≡ Some j → (j.number ≡ number → ⊥) → slice_get jobs p ≡ Some j
 other_stays new jobs number p j named at other = by (slice_get jobs p) (sym (slice_get-map (λ (k : JobState). if k.number == new.number then new else k) jobs p) ∙ at)
   where

@@ -1,4 +1,4 @@
--- A STORE THAT REMEMBERS whether it was asked since its users were looked at, each of whom had an account then.
+-- A store that remembers whether it was used since its users were last checked, when each of them had an account.
 use Rattle.std.specs.Prelude.{◌≡◌, ℕ, Bool, true, false, List, Result}
 use Rattle.g_plain.specs.declared.calls.StoreCall.{StoreCall}
 use Rattle.g_plain.specs.declared.calls.StoreReply.{StoreReply}
@@ -8,14 +8,15 @@ use Rattle.g_store_meaning.specs.StoreInvariant.{StoreFacts}
 use Rattle.g_job_table.specs.Accounts.{HaveAccounts}
 use Rattle.g_job_table.specs.Crew.{CrewState}
 
+-- A store that is up, and whether it was used.
 pub record WatchedFacts : Type 0 where
   pub running : StoreFacts
   pub asked : Bool
 
--- it answers as the store does, and was asked then
+-- It answers as the store does, and counts as used afterwards.
 abbrev pub AnswersWatched : WatchedFacts → List ℕ → StoreCall → Result StoreReply StoreFault → WatchedFacts → Type 0
 AnswersWatched old who call answer new = Answers old.running who call answer new.running × (new.asked ≡ true)
 
--- where it wasn't asked since, each user has an account
+-- If it wasn't used since, each user has an account.
 abbrev pub HaveAll : WatchedFacts → CrewState → Type 0
 HaveAll w c = w.asked ≡ false → HaveAccounts w.running.online.contents.users c.accounts

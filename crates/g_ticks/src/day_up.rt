@@ -13,9 +13,9 @@ use g_disc::Disc;
 use g_job_table::Crew;
 use g_tape::Tapes;
 
-/// A day whose system was up as a tick began: its store, the crew and the count of ticks. A tick changes it where it lies. Where
-/// its store was stopped the system counts as down from then on (docs/DEFINITIONS.md, "The whole run"), and the devices are taken
-/// out of the store behind the last tick.
+/// A day whose system was up when a tick began: its store, the crew and the count of ticks. A tick changes it in place. If
+/// its store was stopped the system counts as down from then on (docs/DEFINITIONS.md, "g_day"), and the devices are
+/// taken out of the store after the last tick.
 #[derive(Drop)]
 pub(crate) struct DayUp<D: Disc, T: Tapes> {
     pub(crate) store: Watched<D, T>,
@@ -24,7 +24,7 @@ pub(crate) struct DayUp<D: Disc, T: Tapes> {
 }
 
 impl<D: Disc, T: Tapes> DayUp<D, T> {
-    /// The day behind its ticks, and why a run ends there, if it does.
+    /// The day after its ticks, and why a run ends there, if it does.
     pub(crate) fn ended(self, failure: Option<Failure>) -> Ended<D, T>
         ensures day { result.day ≡ seen (left_of self.store.running) self.crew self.count }
         ensures failure { result.failure ≡ failure }
@@ -39,7 +39,7 @@ impl<D: Disc, T: Tapes> DayUp<D, T> {
         Ended { day, failure }
     }
 
-    /// Opens accounts for users who have none, where there may be some: a call that was made may have brought them.
+    /// Opens accounts for users who have none, if there may be some: a call may have created them.
     pub(crate) fn open_accounts(&mut self) -> Result<(), NoMemory>
         requires running { self.old.store.running.spent ≡ false }
         requires accounts { HaveAll self.old.store self.old.crew }
@@ -55,7 +55,7 @@ impl<D: Disc, T: Tapes> DayUp<D, T> {
         }
     }
 
-    /// The same where there may be such users.
+    /// Does so if there may be such users.
     pub(crate) fn open_each(&mut self) -> Result<(), NoMemory>
         requires running { self.old.store.running.spent ≡ false }
         ensures opens { OnOk result (Opens self.old.store.running.online.contents.users self.old.crew self.new.crew) }

@@ -21,7 +21,7 @@ use g_plain::StoreFault;
 use g_tape::Tapes;
 use std::alloc::Global;
 
-/// A step of the open dump, if there is one, and what is told of it: nothing while it goes on.
+/// A step of the open dump, if there is one, and its report; nothing is printed while the dump continues.
 pub(crate) fn dump_step<K: Sink, D: Disc, T: Tapes>(
     alloc: Global,
     up: &mut DayUp<D, T>,
@@ -43,7 +43,7 @@ pub(crate) fn dump_step<K: Sink, D: Disc, T: Tapes>(
 }
 
 /// The step of the dump of this number.
-// A tick seldom comes to it: a function of its own keeps its room out of each.
+// This is rare: a function of its own keeps its stack space out of every tick.
 #[inline(never)]
 fn step<K: Sink, D: Disc, T: Tapes>(
     alloc: Global,
@@ -78,7 +78,7 @@ fn step<K: Sink, D: Disc, T: Tapes>(
     }
 }
 
-/// What is told of a dump that is given up.
+/// The text about a dump that is given up.
 fn lost(alloc: Global, number: u64, fault: &StoreFault) -> Result<Text, NoMemory>
     ensures { IfOk result (λ text. text ≡ dump_text number (codes "LOST " ++ fault_line fault.now)) }
 {

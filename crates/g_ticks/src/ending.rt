@@ -1,4 +1,4 @@
-//! What becomes of a job behind its turn, and what is told of it.
+//! What happens to a job after its turn, and what is printed for it.
 ghost use Rattle.std.specs.Prelude.{◌≡◌, ◌↔◌, ◌++◌, ℕ, List, Option, None, Some, [], IfOk, codes, true, false};
 ghost use Rattle.std.specs.Fmt.{decimal};
 ghost use Rattle.g_job_table.specs.Crew.{CrewState};
@@ -22,9 +22,9 @@ use g_plain::StoreFault;
 use g_tape::Tapes;
 use std::alloc::Global;
 
-/// The turn of the job of this number is over: what it has written on a terminal's file is put; a job that waits is told, one
-/// that has ended is taken out and its file put, and of a stop it is told that the system is down. Accounts open for users that the
-/// turn has made, unless it was stopped.
+/// The turn of the job of this number is over. What it has added to a terminal's file is written. A job that waits is
+/// reported, one that has ended is removed and its file written, and after a stop the system is reported down. Accounts
+/// open for users that the turn has created, unless it was stopped.
 pub(crate) fn end_turn<K: Sink, D: Disc, T: Tapes>(
     alloc: Global,
     up: &mut DayUp<D, T>,
@@ -47,8 +47,8 @@ pub(crate) fn end_turn<K: Sink, D: Disc, T: Tapes>(
     }
 }
 
-/// The turn of a job at no terminal is over. Nearly each turn ends as Ran: the functions of the other ends are cold, so that it is
-/// asked for first.
+/// The turn of a job at no terminal is over. Nearly each turn ends as Ran: the functions of the other ends are cold, so
+/// that this case is tested first.
 fn end_untold<K: Sink, D: Disc, T: Tapes>(
     alloc: Global,
     up: &mut DayUp<D, T>,
@@ -73,7 +73,7 @@ fn end_untold<K: Sink, D: Disc, T: Tapes>(
 }
 
 /// The system was stopped.
-// A tick seldom comes to it: a function of its own keeps its room out of each.
+// This is rare: a function of its own keeps its stack space out of every tick.
 #[cold]
 #[inline(never)]
 fn stops<K: Sink, D: Disc, T: Tapes>(
@@ -90,7 +90,7 @@ fn stops<K: Sink, D: Disc, T: Tapes>(
     tell_fault(alloc, &mut up.crew, up.count, &StoreFault::Stopped, out)
 }
 
-/// The job goes on.
+/// The job continues.
 fn goes_on<D: Disc, T: Tapes>(up: &mut DayUp<D, T>) -> Option<Failure>
     requires running { up.old.store.running.spent ≡ false }
     requires accounts { HaveAll up.old.store up.old.crew }
@@ -109,7 +109,7 @@ fn goes_on<D: Disc, T: Tapes>(up: &mut DayUp<D, T>) -> Option<Failure>
 }
 
 /// The job waits for this reel.
-// A tick seldom comes to it: a function of its own keeps its room out of each.
+// This is rare: a function of its own keeps its stack space out of every tick.
 #[cold]
 #[inline(never)]
 fn waits<K: Sink, D: Disc, T: Tapes>(
@@ -135,7 +135,7 @@ fn waits<K: Sink, D: Disc, T: Tapes>(
     }
 }
 
-/// What is told of a job that waits.
+/// The text about a job that waits.
 pub(crate) fn wants(alloc: Global, number: u64, serial: u32) -> Result<Text, NoMemory>
     ensures { IfOk result (λ text. text ≡ texts.job_text number (codes "WANTS TAPE " ++ decimal serial)) }
 {
@@ -145,8 +145,8 @@ pub(crate) fn wants(alloc: Global, number: u64, serial: u32) -> Result<Text, NoM
     job_text(alloc, number, how.as_slice())
 }
 
-/// The job of this number has ended: it is taken out, and its file put.
-// A tick seldom comes to it: a function of its own keeps its room out of each.
+/// The job of this number has ended: it is removed, and its file written.
+// This is rare: a function of its own keeps its stack space out of every tick.
 #[cold]
 #[inline(never)]
 fn ends<K: Sink, D: Disc, T: Tapes>(
@@ -168,7 +168,7 @@ fn ends<K: Sink, D: Disc, T: Tapes>(
     }
 }
 
-/// The file of a job that has ended is put.
+/// The file of a job that has ended is written.
 fn put_file<K: Sink, D: Disc, T: Tapes>(
     up: &mut DayUp<D, T>,
     job: &Job,

@@ -1,4 +1,5 @@
-//! Ticks: in each a block of the open dump goes to tape, and a job has its turn, as long as something can step and no line is due.
+//! Ticks: each writes a block of the open dump to tape and gives one job its turn, as long as something can step and no
+//! line is due.
 #![tactic(auto)]
 
 mod day_up;

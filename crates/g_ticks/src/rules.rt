@@ -1,8 +1,7 @@
 //! The rules of a run.
-use g_budget::Tariff;
-use g_sched::WeighRule;
+use g_rules::{Tariff, WeighRule};
 
-/// What turns cost, and which job goes next.
+/// The tariff of turns, and the rule that chooses the next job.
 #[derive(Drop)]
 pub struct Rules<'a, F, U> {
     pub tariff: &'a Tariff<F>,

@@ -1,5 +1,5 @@
-//! What becomes of a terminal's job behind its turn: what the turn has written on its file is put at once, in one text with what
-//! is told of it.
+//! What happens to a terminal's job after its turn: what the turn has added to its file is written at once, in one text
+//! with its report.
 ghost use Rattle.std.specs.Prelude.{◌≡◌, ◌↔◌, ◌++◌, ℕ, List, Option, Some, IfOk, codes, true, false};
 ghost use Rattle.std.specs.Fmt.{decimal};
 ghost use Rattle.g_job_table.specs.Crew.{CrewState};
@@ -31,7 +31,7 @@ pub(crate) struct Seated {
 }
 
 /// The turn of this terminal's job is over.
-// A tick seldom comes to it: a function of its own keeps its room out of each.
+// This is rare: a function of its own keeps its stack space out of every tick.
 #[inline(never)]
 pub(crate) fn end_shown<K: Sink, D: Disc, T: Tapes>(
     alloc: Global,
@@ -61,7 +61,7 @@ pub(crate) fn end_shown<K: Sink, D: Disc, T: Tapes>(
     }
 }
 
-/// What the turn has written on the file, as it is put.
+/// What the turn has added to the file, as it is printed.
 fn shown(alloc: Global, crew: &Crew, number: u64, before: usize) -> Result<Text, NoMemory>
     requires { (job : JobState) × (job_in number crew.now.jobs ≡ Some job) }
     ensures { IfOk result (λ text. (job : JobState) → job_in number crew.now.jobs ≡ Some job → text ≡ pushed_of job before) }
@@ -71,7 +71,7 @@ fn shown(alloc: Global, crew: &Crew, number: u64, before: usize) -> Result<Text,
     Ok(text)
 }
 
-/// The same, and that the job waits.
+/// The same, followed by the report that the job waits.
 fn wants_behind(
     alloc: Global,
     made: Result<Text, NoMemory>,
@@ -104,7 +104,7 @@ fn stops<K: Sink, D: Disc, T: Tapes>(
     stops_behind(&mut up.crew, up.count, made, out)
 }
 
-/// Accounts open for users that the turn has made, and a text is put.
+/// Accounts open for users that the turn has created, and a text is written.
 fn goes_on<K: Sink, D: Disc, T: Tapes>(
     up: &mut DayUp<D, T>,
     made: Result<Text, NoMemory>,
@@ -124,7 +124,7 @@ fn goes_on<K: Sink, D: Disc, T: Tapes>(
     }
 }
 
-/// The job of this number has ended: it is taken out, and the end of its file put.
+/// The job of this number has ended: it is removed, and the end of its file written.
 fn ends<K: Sink, D: Disc, T: Tapes>(
     up: &mut DayUp<D, T>,
     number: u64,

@@ -1,11 +1,11 @@
 //! A tick: a step of the open dump, and a turn of the next job.
 ghost use Rattle.std.specs.Prelude.{◌≡◌, None, false};
-ghost use Rattle.g_budget.specs.Tariff.{IsTariff};
+ghost use Rattle.g_rules.specs.Tariff.{IsTariff};
 ghost use Rattle.g_day.specs.Parts.{IsReady, seen};
 ghost use Rattle.g_day.specs.System as system;
 ghost use Rattle.g_job_table.specs.Numbers.{AreOpen};
 ghost use Rattle.g_job_table.specs.Weights.{AreWeights};
-ghost use Rattle.g_sched.specs.Rule.{IsWeighRule};
+ghost use Rattle.g_rules.specs.Rule.{IsWeighRule};
 ghost use Rattle.g_ticks.specs.Tick.{DidTick};
 ghost use Rattle.g_ticks.specs.Turning.{left_of};
 ghost use Rattle.g_ticks.specs.Watch.{HaveAll};
@@ -14,17 +14,16 @@ use crate::day_up::DayUp;
 use crate::dumping::dump_step;
 use crate::rules::Rules;
 use crate::turning::take_turn;
-use g_budget::{Charge, Usage};
 use g_day::Failure;
 use g_disc::Disc;
 use g_io::Sink;
 use g_job_table::Weights;
-use g_sched::Standing;
+use g_rules::{Charge, Standing, Usage};
 use g_tape::Tapes;
 use std::alloc::Global;
 
-/// A tick of a system that is up, where no line is due and something can step: a step of the open dump, if there is one; then, unless
-/// that stopped the system, a turn of the job that is chosen, if one can step. The count is the caller's, who raises it.
+/// A tick of a system that is up, when no line is due and something can step: a step of the open dump, if there is one;
+/// then, unless that stopped the system, a turn of the chosen job, if one can step. The caller raises the count.
 pub(crate) fn tick<K: Sink, D: Disc, T: Tapes, F: Fn(&Usage) -> Charge, U: Fn(&Standing) -> u64>(
     alloc: Global,
     up: &mut DayUp<D, T>,

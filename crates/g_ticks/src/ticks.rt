@@ -1,10 +1,10 @@
 //! Ticks, as long as something can step and no line is due.
 ghost use Rattle.std.specs.Prelude.{◌≡◌, ◌⊎◌, ◌+◌, ◌<◌, ℕ, None, is_some, true, false};
-ghost use Rattle.g_budget.specs.Tariff.{IsTariff};
+ghost use Rattle.g_rules.specs.Tariff.{IsTariff};
 ghost use Rattle.g_day.specs.Parts.{IsReady, seen};
 ghost use Rattle.g_day.specs.System as system;
 ghost use Rattle.g_job_table.specs.Numbers.{AreOpen};
-ghost use Rattle.g_sched.specs.Rule.{IsWeighRule};
+ghost use Rattle.g_rules.specs.Rule.{IsWeighRule};
 ghost use Rattle.g_ticks.specs.Tick.{some_job_steps};
 ghost use Rattle.g_ticks.specs.Parts.{DidTicks, HasRoom, IsAtRest, is_past, steps_in};
 ghost use Rattle.g_ticks.specs.Turning.{left_of};
@@ -13,16 +13,15 @@ use crate::day_up::DayUp;
 use crate::rules::Rules;
 use crate::ticking::tick;
 use crate::watched::Watched;
-use g_budget::{Charge, Usage};
 use g_day::{Day, Ended, Failure, System};
 use g_disc::Disc;
 use g_io::Sink;
 use g_job_table::{Crew, Weights};
-use g_sched::Standing;
+use g_rules::{Charge, Standing, Usage};
 use g_tape::Tapes;
 use std::alloc::Global;
 
-/// Ticks until nothing can step, or, where a turn is given at which the next line is due, until the count has come to it.
+/// Ticks until nothing can step, or, if the turn of the next line is given, until the count has reached it.
 pub fn tick_until_due<K: Sink, D: Disc, T: Tapes, F: Fn(&Usage) -> Charge, U: Fn(&Standing) -> u64>(
     alloc: Global,
     day: Day<D, T>,
@@ -62,7 +61,7 @@ pub fn tick_until_due<K: Sink, D: Disc, T: Tapes, F: Fn(&Usage) -> Charge, U: Fn
     }
 }
 
-/// The same of a system that is up. No job is weighed where there is no tick.
+/// Does so for a system that is up. No job is weighed if there is no tick.
 fn until_up<K: Sink, D: Disc, T: Tapes, F: Fn(&Usage) -> Charge, U: Fn(&Standing) -> u64>(
     alloc: Global,
     up: DayUp<D, T>,
@@ -86,7 +85,7 @@ fn until_up<K: Sink, D: Disc, T: Tapes, F: Fn(&Usage) -> Charge, U: Fn(&Standing
     }
 }
 
-/// Ticks as long as there is one to be done. What the jobs weigh is kept from one to the next.
+/// Ticks as long as there is something to do. The weights of the jobs are cached from one tick to the next.
 fn tick_on<K: Sink, D: Disc, T: Tapes, F: Fn(&Usage) -> Charge, U: Fn(&Standing) -> u64>(
     alloc: Global,
     up: DayUp<D, T>,
@@ -114,7 +113,7 @@ fn tick_on<K: Sink, D: Disc, T: Tapes, F: Fn(&Usage) -> Charge, U: Fn(&Standing)
     up.ended(failure)
 }
 
-/// Whether there is a tick to be done.
+/// Whether there is a tick to do.
 fn goes_on<D: Disc, T: Tapes>(
     up: &DayUp<D, T>,
     failure: Option<Failure>,
@@ -138,7 +137,7 @@ fn goes_on<D: Disc, T: Tapes>(
     }
 }
 
-/// Whether the count has come to the turn.
+/// Whether the count has reached the turn.
 fn is_past(limit: Option<u64>, count: u64) -> bool
     ensures { result ≡ is_past limit count }
 {
@@ -170,7 +169,7 @@ fn job_steps<D: Disc, T: Tapes>(store: &Watched<D, T>, crew: &Crew) -> bool
     crew.can_step(&|serial: u32| store.mounted(serial))
 }
 
-/// The count behind a tick: one more, and where the tick failed what it was.
+/// The count after a tick: one more, or unchanged if the tick failed.
 fn counted(count: u64, failure: Option<Failure>) -> u64
     requires room { count < 18446744073709551615 }
     ensures done { failure ≡ None → result ≡ count + 1 }
@@ -183,8 +182,8 @@ fn counted(count: u64, failure: Option<Failure>) -> u64
     }
 }
 
-/// The count behind a tick that failed.
-// It comes once in a run at most: a call in its place leaves one addition to each other tick.
+/// The count after a tick that failed.
+// This happens at most once in a run: a call in its place leaves one addition to each other tick.
 #[inline(never)]
 fn uncounted(count: u64) -> u64
     ensures { result ≡ count }

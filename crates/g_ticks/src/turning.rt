@@ -1,13 +1,13 @@
 //! A job's turn.
 ghost use Rattle.std.specs.Prelude.{◌≡◌, ℕ, None, Some, false, length};
-ghost use Rattle.g_budget.specs.Tariff.{IsTariff};
+ghost use Rattle.g_rules.specs.Tariff.{IsTariff};
 ghost use Rattle.g_day.specs.Parts.{IsReady, seen};
 ghost use Rattle.g_day.specs.System as system;
 ghost use Rattle.g_job_table.specs.Choice.{Chooses, able_in};
 ghost use Rattle.g_job_table.specs.Numbers.{AreJobs, AreOpen, job_in};
 ghost use Rattle.g_job_table.specs.Weights.{AreOthers, AreWeights};
 ghost use Rattle.g_job.specs.State.{JobState};
-ghost use Rattle.g_sched.specs.Rule.{IsWeighRule};
+ghost use Rattle.g_rules.specs.Rule.{IsWeighRule};
 ghost use Rattle.g_store_model.specs.State as state;
 ghost use Rattle.g_store_model.specs.State.{State};
 ghost use Rattle.g_tape.specs.Rack.{is_mounted, reel};
@@ -20,16 +20,15 @@ use crate::ending::end_turn;
 use crate::rules::Rules;
 use crate::watched::Watched;
 use g_base::NoMemory;
-use g_budget::{Charge, Tariff, Usage};
 use g_day::Failure;
 use g_disc::Disc;
 use g_io::Sink;
 use g_job_table::{Crew, Weights};
-use g_sched::{Standing, WeighRule};
+use g_rules::{Charge, Standing, Tariff, Usage, WeighRule};
 use g_tape::Tapes;
 use std::alloc::Global;
 
-/// A turn of the job that is chosen among those that can step, if one can.
+/// A turn of the job chosen among those that can step, if there is one.
 pub(crate) fn take_turn<
     K: Sink,
     D: Disc,
@@ -67,7 +66,7 @@ pub(crate) fn take_turn<
     }
 }
 
-/// What the jobs weigh behind the turn of the job of this number, unless the turn failed.
+/// The weights of the jobs after the turn of the job of this number, unless the turn failed.
 fn weigh_behind<U: Fn(&Standing) -> u64>(
     crew: &Crew,
     failure: Option<Failure>,
@@ -85,7 +84,7 @@ fn weigh_behind<U: Fn(&Standing) -> u64>(
     }
 }
 
-/// That the numbers of the jobs rise.
+/// The solver learns here that the numbers of the jobs rise.
 fn rises(crew: &Crew)
     ensures { AreJobs crew.now.jobs crew.now.next_job }
 {

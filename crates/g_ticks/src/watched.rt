@@ -1,4 +1,4 @@
-//! A store that remembers whether it was asked.
+//! A store that remembers whether it was used.
 ghost use Rattle.std.specs.Prelude.{◌≡◌, false, true, is_some, option_map};
 ghost use Rattle.g_tape.specs.Rack.{is_mounted, reel};
 ghost use Rattle.g_dumper.specs.Steps.{stepped_of};
@@ -14,8 +14,8 @@ use g_tape::Tapes;
 use std::alloc::Global;
 use std::marker::Model;
 
-/// A store that is up, and whether a call or a step of its dump was made since its users were last looked at, each of whom had
-/// an account then. Where none was, they needn't be looked at again.
+/// A store that is up, and whether a call or a dump step was made since its users were last checked, when each had an
+/// account. If none was made, they needn't be checked again.
 #[derive(Drop)]
 pub(crate) struct Watched<D: Disc, T: Tapes> {
     pub(crate) running: Running<D, T>,
@@ -31,7 +31,7 @@ impl<D: Disc, T: Tapes> Model for Watched<D, T> {
 }
 
 impl<D: Disc, T: Tapes> Watched<D, T> {
-    /// The store alone.
+    /// Returns the store.
     pub(crate) fn taken(self) -> Running<D, T>
         ensures { result ≡ self.running }
     {
@@ -45,35 +45,35 @@ impl<D: Disc, T: Tapes> Watched<D, T> {
         &self.running
     }
 
-    /// Whether it was asked since.
+    /// Whether it was used since.
     pub(crate) fn asked(&self) -> bool
         ensures { result ≡ self.now.asked }
     {
         self.asked
     }
 
-    /// Its users were looked at, and each has an account.
+    /// Notes that its users were checked and each has an account.
     pub(crate) fn looked(&mut self)
         ensures { self.new ≡ record self.old { asked = false } }
     {
         self.asked = false;
     }
 
-    /// Whether a stop has come.
+    /// Whether a call was stopped.
     pub(crate) fn spent(&self) -> bool
         ensures { result ≡ self.now.running.spent }
     {
         self.running.spent()
     }
 
-    /// The number of the open dump, None where none is open.
+    /// The number of the open dump, or None if none is open.
     pub(crate) fn dump_number(&self) -> Option<u64>
         ensures { result ≡ option_map (λ d. d.plan.number) self.now.running.dump }
     {
         self.running.dump_number()
     }
 
-    /// Whether the reel is there and mounted.
+    /// Whether the reel exists and is mounted.
     pub(crate) fn mounted(&self, serial: u32) -> bool
         ensures { result ≡ is_mounted (reel serial self.now.running.rack.reels) }
     {

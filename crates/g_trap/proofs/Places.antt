@@ -1,4 +1,5 @@
--- Where a user's pair stands among pairs in rising user number, and what it is to put or drop it there.
+-- The place of a user's pair among pairs sorted by user number, and the effect of inserting or removing it there.
+-- serves: give (full, kept, ok), is_rising, other_modes, place_of (absent, found)
 use Rattle.std.proofs.Common.{◌≡◌, ℕ, zero, suc, ◌+◌, ◌<◌, ◌≤◌, ◌==◌, Bool, true, false, cond, not, nat_lt, List, [], ◌∷◌, ◌++◌, take, drop, length, length-set, get_or, set, insert, remove, filter, None, Some, Result, Ok, Err, IfOk, IfErr, refl, sym, ap, subst, ◌∙◌, arith, T, inl, inr}
 use Rattle.std.specs.Ordering.{nat_cmp, ordering_index}
 use Rattle.std.proofs.Math.Seq.{take-length, drop-length}
@@ -73,7 +74,7 @@ stands_in vs es user k e at = subst (λ (xs : List (ℕ × ℕ)). StandsAt user 
 pub fits_in : (vs es : List (ℕ × ℕ)) (user k : ℕ) → vs ≡ es → FitsAt user vs k → FitsAt user es k
 fits_in vs es user k e at = subst (λ (xs : List (ℕ × ℕ)). FitsAt user xs k) e at
 
--- the pair stands there
+-- The pair is at the place.
 stands_later : (e : ℕ × ℕ) (es : List (ℕ × ℕ)) (user k : ℕ) → StandsAt user (e ∷ es) (suc k) → StandsAt user es k
 stands_later e es user k at = record { within = let w = at.within in omega arith; has = λ d. at.has d }
 
@@ -108,7 +109,7 @@ replaced (e ∷ es) user modes (suc k) s at =
     let below : e.0 < user = let w = at.within in subst (λ n. e.0 < n) (at.has e) (above_at e.0 es k e (rest_rises e es s).0 (omega arith)) in
     grind (arith, nat_tests)
 
--- no pair stands there, but would fit
+-- No pair is at the place, but one would fit.
 fits_later : (e : ℕ × ℕ) (es : List (ℕ × ℕ)) (user k : ℕ) → FitsAt user (e ∷ es) (suc k) → FitsAt user es k
 fits_later e es user k at = record {
   within = let w = at.within in omega arith;
@@ -149,7 +150,7 @@ placed (e ∷ es) user modes (suc k) at =
     let later = placed es user modes k (fits_later e es user k at) in
     grind (arith, nat_tests)
 
--- numbers rise where each is below the next
+-- Numbers are strictly increasing if each is less than the next.
 below_first : (x : ℕ) (e : ℕ × ℕ) (es : List (ℕ × ℕ)) → x < e.0 → list_all (λ pair. nat_lt e.0 pair.0) es ≡ true → list_all (λ pair. nat_lt x pair.0) es ≡ true
 below_first x e [] h b = refl
 below_first x e (f ∷ es) h b = let more = below_first x e es h in grind (arith, nat_tests)
@@ -196,7 +197,7 @@ are_sets-put : (user modes : ℕ) (es : List (ℕ × ℕ)) → modes < 32 → ar
 are_sets-put user modes [] m u = grind (arith, nat_tests)
 are_sets-put user modes (e ∷ es) m u = let more = are_sets-put user modes es m in grind (arith, nat_tests)
 
--- what stands there after a change can be a file's other users, where there are at most 8
+-- The pairs after a change are valid as a file's other users, if there are at most 8.
 pub with_other-IsOthers : (es fs : List (ℕ × ℕ)) (user modes : ℕ) → fs ≡ with_other es user modes → IsOthers es → modes < 32 → length fs ≤ 8 → IsOthers fs
 with_other-IsOthers es fs user modes e o below few = record {
   rising = rw e (elim (modes == 0) as (λ b. is_sorted nat_cmp (cond b (others_than user es) (put nat_cmp user modes es)) ≡ true) [
@@ -214,7 +215,7 @@ with_other-IsOthers es fs user modes e o below few = record {
   few = few;
 }
 
--- what each change comes to, by whether the new set is empty
+-- The result of each change, by whether the new set is empty.
 by_empty : (es : List (ℕ × ℕ)) (user modes : ℕ) (b : Bool) → b ≡ (modes == 0) → cond b (others_than user es) (put nat_cmp user modes es) ≡ with_other es user modes
 by_empty es user modes b e = ap (λ t. cond t (others_than user es) (put nat_cmp user modes es)) e
 
@@ -229,7 +230,7 @@ refill_same es ws e =
     ap (λ (n : ℕ). take (length es) (ws ++ drop n es)) e ∙ ap (λ (r : List (ℕ × ℕ)). take (length es) (ws ++ r)) (drop-length es)
     ∙ ap (λ (n : ℕ). take n (ws ++ [])) (sym e) ∙ ap (take (length ws)) (append-nil ws) ∙ take-length ws
 
--- a pair written over one that is there
+-- A pair that replaces an existing one.
 pub written_there : (es ws : List (ℕ × ℕ)) (user modes k : ℕ) (d : ℕ × ℕ) → is_sorted nat_cmp es ≡ true → StandsAt user es k → ws ≡ es → false ≡ (modes == 0)
     → refill (length es) es (set ws k ((get_or ws k d).0, modes)) ≡ with_other es user modes
 written_there es ws user modes k d s at e some =

@@ -1,4 +1,4 @@
--- What the contracts cite: modes as numbers, and a file's traps.
+-- The definitions of traps: modes as numbers, and the traps of a file.
 pub mod ModeSet
 pub mod Places
 pub mod TrapList

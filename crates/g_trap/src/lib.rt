@@ -1,4 +1,4 @@
-//! Traps: which users may use a file, and in which modes. Users go by their numbers here.
+//! Traps: which users may use a file, and in which modes. Users are represented by their numbers.
 #![tactic(auto)]
 
 mod mode_set;

@@ -4,7 +4,7 @@ ghost use Rattle.g_trap.specs.ModeSet.{mode_bit, allows};
 
 use std::marker::Model;
 
-/// A way of using a file. A closed mode is one that a user hasn't.
+/// A way of using a file. A mode is closed to a user who doesn't have it.
 #[derive(Clone, Copy, Debug, PartialEq, Eq, Hash)]
 pub enum Mode {
     Read,
@@ -68,7 +68,7 @@ impl Modes {
         self.bits
     }
 
-    /// No mode.
+    /// The empty set.
     pub fn none() -> Modes
         ensures { result ≡ 0 }
     {
@@ -82,7 +82,7 @@ impl Modes {
         Modes { bits: 31 }
     }
 
-    /// This mode alone.
+    /// The set of this mode only.
     pub fn only(mode: Mode) -> Modes
         ensures { result ≡ mode_bit mode }
     {
@@ -103,7 +103,7 @@ impl Modes {
         self.bits & mode.bit() != 0
     }
 
-    /// The modes that are in one of the sets.
+    /// The modes that are in at least one of the sets.
     pub fn union(self, other: Modes) -> Modes
         ensures { result ≡ bit_or self other }
     {

@@ -13,7 +13,7 @@ use arrayvec::ArrayVec;
 use std::marker::Model;
 use thiserror::Error;
 
-/// A ninth user beside the owner would be trapped on one file.
+/// A file can't trap a ninth user besides the owner.
 #[derive(Clone, Copy, Debug, PartialEq, Eq, Error)]
 #[error("traps full")]
 pub struct TrapsFull;
@@ -39,7 +39,7 @@ impl Model for Traps {
 }
 
 impl Traps {
-    /// The traps of a new file: all modes for the owner, and nobody else.
+    /// The traps of a new file: all modes for the owner, and none for other users.
     pub fn fresh() -> Traps
         ensures { result ≡ record { owner = 31; others = [] } }
     {
@@ -49,8 +49,8 @@ impl Traps {
         }
     }
 
-    /// The traps with these modes of the owner and these pairs of another user's number and modes.
-    /// None where there are more than 8 pairs, the numbers don't rise, or a pair has no mode.
+    /// The traps with these modes of the owner and these pairs of another user's number and modes. `None` if there are
+    /// more than 8 pairs, the numbers aren't strictly increasing, or a pair has no mode.
     pub fn of(owner: Modes, others: &[(u8, Modes)]) -> Option<Traps>
         ensures some { IsSome result ↔ IsOthers others.now }
         ensures value { IfSome result (λ traps. traps ≡ record { owner = owner; others = others.now }) }
@@ -85,7 +85,7 @@ impl Traps {
         self.others.as_slice()
     }
 
-    /// What the user may do with the file.
+    /// The modes that the user has.
     pub fn modes_of(&self, owner: u8, user: u8) -> Modes
         ensures { result ≡ modes_of self.now owner user }
     {
@@ -103,7 +103,7 @@ impl Traps {
         self.modes_of(owner, user).contains(mode)
     }
 
-    /// Opens the modes to the user, whose other modes stay.
+    /// Opens the modes to the user, whose other modes are unchanged.
     pub fn go(&mut self, owner: u8, user: u8, modes: Modes) -> Result<(), TrapsFull>
         ensures full { IsErr result ↔ ((not (user == owner) && is_ninth self.old.others user modes) ≡ true) }
         ensures ok { OnOk result (self.new ≡ with_modes self.old owner user (bit_or (modes_of self.old owner user) modes)) }
@@ -117,7 +117,7 @@ impl Traps {
         give(&mut self.others, user, modes)
     }
 
-    /// Closes the modes to the user, whose other modes stay.
+    /// Closes the modes to the user, whose other modes are unchanged.
     pub fn stop(&mut self, owner: u8, user: u8, modes: Modes)
         ensures { let had = modes_of self.old owner user in self.new ≡ with_modes self.old owner user (had - bit_and had modes) }
     {
@@ -130,28 +130,28 @@ impl Traps {
     }
 }
 
-/// Whether these can be a file's other users with their modes.
+/// Whether the pairs are valid as a file's other users with their modes.
 fn is_others(others: &[(u8, Modes)]) -> bool
     ensures { IsTrue result ↔ IsOthers others.now }
 {
     others.len() <= 8 && is_rising(others) && is_used(others) && are_sets(others)
 }
 
-/// Whether the user numbers rise.
+/// Whether the user numbers are strictly increasing.
 fn is_rising(others: &[(u8, Modes)]) -> bool
     ensures { result ≡ is_sorted nat_cmp others.now }
 {
     others.is_sorted_by(|one, next| one.0 < next.0)
 }
 
-/// Whether each pair has a mode.
+/// Whether each pair has at least one mode.
 fn is_used(others: &[(u8, Modes)]) -> bool
     ensures { result ≡ list_all (λ pair. not (pair.1 == 0)) others.now }
 {
     others.iter().all(|pair| !pair.1.is_empty())
 }
 
-/// Whether the modes are sets, as all that a program makes are: who reads the contract learns it from here.
+/// Whether the modes are sets. Every value of the type is; this call exists so that its contract states it.
 fn are_sets(others: &[(u8, Modes)]) -> bool
     ensures { result ≡ list_all (λ pair. nat_lt pair.1 32) others.now }
 {
@@ -169,7 +169,7 @@ fn other_modes(others: &[(u8, Modes)], user: u8) -> Modes
     }
 }
 
-/// Where the user's pair stands among pairs in rising user number, or would stand.
+/// The place of the user's pair among pairs sorted by user number, or the place where it would fit.
 fn place_of(others: &[(u8, Modes)], user: u8) -> Result<usize, usize>
     requires { is_sorted nat_cmp others.now ≡ true }
     ensures found { IfOk result (StandsAt user others.now) }
@@ -178,7 +178,7 @@ fn place_of(others: &[(u8, Modes)], user: u8) -> Result<usize, usize>
     others.binary_search_by_key(&user, |pair| pair.0)
 }
 
-/// Another user gets exactly these modes, and stands there no more without any.
+/// Gives another user exactly these modes. A user without modes has no pair.
 fn give(others: &mut ArrayVec<(u8, Modes), 8>, user: u8, modes: Modes) -> Result<(), TrapsFull>
     requires { IsOthers others.old.items }
     ensures full { IsErr result ↔ (is_ninth others.old.items user modes ≡ true) }

@@ -1,4 +1,5 @@
 -- What a path names, among records and in the tree.
+-- serves: find (number, there), input (named, there), input_name (some), modes_of, output (named, there)
 use Rattle.std.proofs.Common.{◌≡◌, ◌≢◌, ℕ, ◌+◌, ◌<◌, ◌==◌, Bool, true, false, ◌&&◌, List, [], Option, Some, None, is_some, is_none, unwrap_or, refl, sym, ap, subst, ◌∙◌, arith}
 use Rattle.std.specs.Option.{option_map}
 use Rattle.std.proofs.lemmas.Bool.Decides.{nat_tests}
@@ -47,7 +48,7 @@ module _ (users : List UserRec) (files : List FileRec) (bytes : FileRec → List
       ∙ ap (named who path) (newest_there ∙ ap (λ f. newest_of users f files) is ∙ sym (newest_is users files bytes next who path rules))
       ∙ ap (λ o. named who path (unwrap_or o (newest tree who path))) (sym none)
 
-  -- where there is no user of the name
+  -- If there is no user of that name.
   pub nobodys_number : (full : Full) → IsRecords users files → full.user ≡ [] → number_of users files full ≡ None
   nobodys_number full rules none = ap (option_map (λ r. r.number)) (nobodys users files full rules none)
 
@@ -97,7 +98,7 @@ module _ (users : List UserRec) (files : List FileRec) (bytes : FileRec → List
       output_found (with_generation full (n + 1)) output found (output_newest full n rules is none top)
       (ap (λ o. is_none o && (newest tree who path == 4095)) none ∙ ap (λ m. m == 4095) (sym same) ∙ not_same n 4095 below)
 
-  -- one behind the newest, which isn't there
+  -- The generation after the newest, which doesn't exist.
   below_next : (full : Full) (n : ℕ) → n ≡ newest_of users full files → newest_of users (with_generation full (n + 1)) files < n + 1
   below_next full n top = subst (λ m. m < n + 1) top (omega arith)
 

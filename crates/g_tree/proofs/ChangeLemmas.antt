@@ -1,4 +1,5 @@
 -- How records and the tree change together.
+-- serves: erase (records), lower (newest), newest_but (generation), rename, take_later (topped), take_out (index, newest), CountLemmas, EntryLemmas, LawLemmas
 use Rattle.std.proofs.Common.{◌≡◌, ◌≢◌, ℕ, suc, ◌+◌, ◌<◌, ◌≤◌, ◌==◌, true, false, cond, not, List, [], ◌∷◌, ◌++◌, length, map, filter, take, drop, get_or, Some, None, sym, ap, ◌∙◌, arith}
 use Rattle.std.specs.List.{All, remove as remove_at}
 use Rattle.std.proofs.lemmas.Bool.Decides.{nat_tests}
@@ -52,7 +53,7 @@ index_more users files i r full old new is within here named before more =
     ∙ sym (ap (λ es. from_entries {R = full_cmp} es) (map_more entry files i r within ∙ ap (λ s. map entry (take i files) ++ entry s ∷ []) (sym here))
     ∙ from_entries_push full_total full_exact (map entry (take i files)) (full_of users r) r.number none)
 
--- an element is none of those behind it
+-- An element differs from those after it.
 pub behind_apart : {A K : Type 0} (key : A → K) (xs : List A) (i : ℕ) (d : A) → AreApart key xs → i < length xs → All (λ y. key (get_or xs i d) ≢ key y) (drop (suc i) xs)
 behind_apart key xs i d apart within = λ k e behind same.
     let len = length-drop (suc i) xs in
@@ -131,7 +132,7 @@ module _ (users : List UserRec) (files : List FileRec) (is : IsRecords users fil
     removed_tree bytes next d =
         ap (λ m. record (tree_of users files bytes next) { files = m }) (removed_map (file_row_of users bytes) d ∙ sym (without_is d (tree_of users files bytes next).files))
 
--- where the file of a number and a full name stands, and the files without it
+-- The place of the file with a number and a full name, and the files without it.
 pub record IsPlaced (users : List UserRec) (files : List FileRec) (number : ℕ) (full : Full) (place : ℕ) : Type 0 where
   pub within : place < length files
   pub named : (d : FileRec) → full ≡ full_of users (get_or files place d)

@@ -1,4 +1,5 @@
 -- What is remembered of files: the greatest generations by name, and the blocks by owner.
+-- serves: counts_of, erase, lower (newest), newest_but (generation), put, rename, renew, take_later (topped), take_out (newest, topped), used (few), and 1 more
 use Rattle.std.proofs.Common.{◌≡◌, ◌≢◌, ℕ, zero, suc, ◌+◌, ◌-◌, ◌<◌, ◌≤◌, ◌==◌, Bool, true, false, cond, List, [], ◌∷◌, ◌++◌, length, max, take, drop, get_or, replicate, Option, Some, None, is_some, inl, inr, refl, sym, ap, subst, ◌∙◌, arith, true≢false}
 use Rattle.std.proofs.Math.ListN.{set}
 use Rattle.std.specs.List.{All, Contains}
@@ -52,7 +53,7 @@ module _ {A : Type 0} (p : A → Bool) (f : A → ℕ) where
         | false ↦ λ _ le. rest le
       ] refl
 
-  -- one that is there is at most the greatest
+  -- An element of the list is at most the greatest.
   pub greatest_holds : (xs : List A) (k : ℕ) (d : A) → k < length xs → p (get_or xs k d) ≡ true → f (get_or xs k d) ≤ greatest p f xs
   greatest_holds [] k d within e = absurd (omega arith)
   greatest_holds (x ∷ xs) zero d within e = subst (λ t. f x ≤ cond t (max (f x) (greatest p f xs)) (greatest p f xs)) (sym e) (omega arith)
@@ -237,7 +238,7 @@ module _ (users : List UserRec) (files : List FileRec) (is : IsRecords users fil
   pub owner_at : (place : ℕ) (r : FileRec) → place < length files → r ≡ get_or files place r → r.owner < 63
   owner_at place r within here = owner_few r.owner (subst (λ s. s.owner < length users) (sym here) (is.among_files.owners place r within))
 
--- no version is there behind the newest
+-- No version after the newest exists.
 pub nothing_newer : (users : List UserRec) (files : List FileRec) (full : Full) → IsRecords users files → newest_of users full files < full.generation → number_of users files full ≡ None
 nothing_newer users files full is newer =
     elim (number_of users files full) as (λ o. number_of users files full ≡ o → o ≡ None) [
@@ -294,7 +295,7 @@ module _ (users : List UserRec) (files : List FileRec) (is : IsRecords users fil
         let known = are full in
         omega (arith, with_it, one, known)
 
-    -- where it isn't the newest
+    -- If the removed version isn't the newest.
     pub newest_kept : (n : ℕ) → n ≡ newest_of users full files → n ≢ full.generation → n ≡ newest_of users full (list.remove files place)
     newest_kept n newest other =
         let with_it = newest_with users files place r within here full named in
@@ -311,7 +312,7 @@ module _ (users : List UserRec) (files : List FileRec) (is : IsRecords users fil
         All-append (λ x. is_version_of full (full_of users x) ≡ true → x.generation ≢ r.generation) (take place files) (drop (suc place) files)
         (all (take place files) (before_apart (full_of users) files place r apart within)) (all (drop (suc place) files) (behind_apart (full_of users) files place r apart within))
 
-    -- where it is
+    -- If it is.
     pub newest_less : newest_of users full files ≡ full.generation → newest_of users full (list.remove files place) < full.generation
     newest_less newest =
         let p = λ (s : FileRec). is_version_of full (full_of users s) in
@@ -330,7 +331,7 @@ module _ (users : List UserRec) (files : List FileRec) (is : IsRecords users fil
         let less = newest_less (omega (arith, with_it, same, e)) in
         omega (arith, less, e)
 
-    -- a version that is there is among the others
+    -- An existing version is among the others.
     pub newest_holds : (before : Full) (number : ℕ) → is_version_of full before ≡ true → before.generation ≢ full.generation → number_of users files before ≡ Some number
         → before.generation ≤ newest_of users full (list.remove files place)
     newest_holds before number version other found =
@@ -363,7 +364,7 @@ module _ (users : List UserRec) (files : List FileRec) (is : IsRecords users fil
     newest_before n (Some number) newest next is some =
         newest_next n newest next (newest_holds (at_generation full n) number (version_itself full) (λ same. omega (arith, same, next)) (sym is))
 
-    -- where none is left the first isn't there
+    -- If no version is left, the name of generation 1 has no number.
     pub none_first : (entries : FinMap full_cmp NameEntry) → AreIndexed users files entries → full.generation ≢ 1 → 0 ≡ newest_of users full (list.remove files place) → number_in entries (versions_of full) ≡ None
     none_first entries are behind none =
         elim (number_of users files (versions_of full)) as (λ o. number_of users files (versions_of full) ≡ o → number_in entries (versions_of full) ≡ None) [
@@ -443,7 +444,7 @@ module _ (users : List UserRec) (files : List FileRec) (i : ℕ) (r : FileRec) (
         subst (λ s. s.len ≤ 65536) (sym here) (is.each_file i r within).len,
       )
 
--- what is put in the place of another
+-- One file replaces another.
 
 module _ (users : List UserRec) (files : List FileRec) (is : IsRecords users files) (place : ℕ) (r : FileRec) (within : place < length files) (here : r ≡ get_or files place r) where
   pub rest_used : (blocks next : List ℕ) (owner : ℕ) → AreUsed files blocks → next ≡ set blocks r.owner (get_or blocks r.owner 0 - blocks_for r.len) → get_or next owner 0 ≤ 131072

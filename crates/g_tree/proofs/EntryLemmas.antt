@@ -1,4 +1,5 @@
 -- What is known by full name, and how it changes.
+-- serves: close (entries), counts_of, fall (entries), lower (newest, numbers, topped), newest (generation, number), and 14 more
 use Rattle.std.proofs.Common.{◌≡◌, ◌≢◌, ℕ, suc, ◌+◌, ◌<◌, ◌≤◌, ◌==◌, Bool, true, false, cond, ◌&&◌, List, [], length, max, take, drop, nat_lt, get_or, Option, Some, None, is_some, inl, inr, refl, sym, ap, subst, ◌∙◌, arith, true≢false}
 use Rattle.std.proofs.Math.ListN.{set}
 use Rattle.std.specs.List as list
@@ -122,7 +123,7 @@ two_newest e two = nat_two e.newest (both_true (e.newest == 2) (is_some e.number
 pub two_number : (e : NameEntry) → is_first_of_two e ≡ true → is_some e.number ≡ true
 two_number e two = (both_true (e.newest == 2) (is_some e.number) two).1
 
--- generations behind the first
+-- Generations greater than 1.
 
 lt_is : (m n : ℕ) → nat_lt m n ≡ true → m < n
 lt_is m n e = grind (arith, nat_tests)
@@ -194,7 +195,7 @@ module _ (m : FinMap full_cmp NameEntry) (full : Full) where
   numbers_removed = λ q.
       ap (λ o. number_at o) (get-remove full_total m full q) ∙ number_cond (eq_by_cmp full_cmp q full) None (get m q)
 
-  -- where the name has that number
+  -- If the name already has that number.
   pub numbers_kept : (e : NameEntry) → number_in m full ≡ e.number → HasNumbers m (insert m full e)
   numbers_kept e same = λ q.
       numbers_inserted e q
@@ -203,7 +204,7 @@ module _ (m : FinMap full_cmp NameEntry) (full : Full) where
         | false ↦ λ _. refl
       ] refl
 
-  -- where it has none
+  -- If it has none.
   pub numbers_left : number_in m full ≡ None → HasNumbers m (remove m full)
   numbers_left none = λ q.
       numbers_removed q
@@ -284,7 +285,7 @@ module _ (m : FinMap full_cmp NameEntry) (full : Full) where
   raised_absent n k none =
       elim (get m full) as (λ o. is_some o ≡ false → raised_at m full n k o ≡ m) [ Some e ↦ λ s. absurd (true≢false s) | None ↦ λ _. refl ] none
 
-  -- where nothing is known under the name
+  -- If the index doesn't have the name.
   module _ (mid new : FinMap full_cmp NameEntry) (n k : ℕ) (none : is_some (get m full) ≡ false) (stays : mid ≡ raised m full n k) (is : new ≡ insert mid full (unnumbered n k)) where
     new_is : new ≡ insert m full (unnumbered n k)
     new_is = is ∙ ap (λ j. insert j full (unnumbered n k)) (stays ∙ raised_absent n k none)
@@ -328,7 +329,7 @@ module _ (m : FinMap full_cmp NameEntry) (full : Full) where
   pub top_fallen_two : (e : NameEntry) → full.generation ≡ 1 → get m full ≡ Some e → is_first_of_two e ≡ true → HasTop m (fallen m full) full e.number
   top_fallen_two e first is two = λ q. ap (λ k. top_in k q) (fallen_two e is two) ∙ top_inserted first (record e { newest = 1; top = e.number }) q
 
-  -- what is there is put in once more
+  -- Inserting an existing entry again changes nothing.
   pub insert_same : (e : NameEntry) → get m full ≡ Some e → insert m full e ≡ m
   insert_same e is =
       same_map full_total full_exact _ _
@@ -432,9 +433,9 @@ module _ (m : FinMap full_cmp NameEntry) (full : Full) where
               ] refl
         ] refl
 
--- a name that is put in
+-- Inserting a name.
 
--- what was just put in is there
+-- An inserted name is in the index.
 pub there_inserted : (old new : FinMap full_cmp NameEntry) (full again : Full) (e : NameEntry) → new ≡ insert old full e → again ≡ full → is_some (get new again) ≡ true
 there_inserted old new full again e is same =
     ap (λ m. is_some (get m again)) is ∙ ap (λ f. is_some (get (insert old full e) f)) same ∙ ap is_some (here full_total full_exact old full e)
@@ -450,12 +451,12 @@ pub top_put : (old new : FinMap full_cmp NameEntry) (full : Full) (e : NameEntry
 top_put old new full e k first is same = λ q.
     ap (λ m. top_in m q) is ∙ top_inserted old full first e q ∙ ap (λ o. cond (is_version_of q full) o (top_in old q)) same
 
--- one that is there already
+-- Inserting a name that is already in the index.
 pub put_twice : (old mid new : FinMap full_cmp NameEntry) (full again named : Full) (e f : NameEntry) → mid ≡ insert old full e → new ≡ insert mid again f → full ≡ named → again ≡ named → new ≡ insert old named f
 put_twice old mid new full again named e f before is is_named again_named =
     is ∙ (λ i. insert (before i) (again_named i) f) ∙ ap (λ k. insert (insert old k e) named f) is_named ∙ insert_twice old named e f
 
--- one behind the first, once the greatest generation is known
+-- A generation greater than 1, once the greatest generation is recorded.
 pub number_behind : (old mid new : FinMap full_cmp NameEntry) (full : Full) (e : NameEntry) → HasNumbers old mid → new ≡ insert mid full e → HasNumber old new full e.number
 number_behind old mid new full e same is = λ q.
     ap (λ m. number_in m q) is ∙ numbers_inserted mid full e q ∙ ap (λ o. cond (eq_by_cmp full_cmp q full) e.number o) (same q)
@@ -494,7 +495,7 @@ other_generation : (q full : Full) (n : ℕ) → n ≢ full.generation → eq_by
 other_generation q full n apart = apart_is full_total full_exact (at_generation q n) full (λ e. apart (ap (λ f. f.generation) e))
 
 module _ (old new : FinMap full_cmp NameEntry) (full : Full) (topped : IsTopped old) where
-  -- where another is the newest of the same names
+  -- If the newest version changes, and the names stay the same.
   pub topped_by : (n : ℕ) (k : Option ℕ) → HasNumbers old new → HasNewest old new full n → HasTop old new full k → k ≡ number_in old (at_generation full n) → IsTopped new
   topped_by n k numbers newest top is = λ q.
       elim (is_version_of q full) as (λ t. is_version_of q full ≡ t → top_in new q ≡ number_in new (at_generation q (newest_in new q))) [
@@ -507,7 +508,7 @@ module _ (old new : FinMap full_cmp NameEntry) (full : Full) (topped : IsTopped 
             top q ∙ ap (λ b. cond b k (top_in old q)) t ∙ topped q ∙ sym (numbers (at_generation q (newest_in old q))) ∙ ap (λ j. number_in new (at_generation q j)) (sym there)
       ] refl
 
-  -- where a name has another number, or none
+  -- If a name gets another number, or none.
   module _ (k : Option ℕ) (numbers : HasNumber old new full k) where
     elsewhere : (q : Full) (n : ℕ) → eq_by_cmp full_cmp (at_generation q n) full ≡ false → number_in old (at_generation q n) ≡ number_in new (at_generation q n)
     elsewhere q n apart = sym (numbers (at_generation q n) ∙ ap (λ b. cond b k (number_in old (at_generation q n))) apart)

@@ -1,4 +1,5 @@
--- Why a call is refused, where only the bytes of files differ.
+-- Why a call is refused doesn't depend on the bytes of files.
+-- serves: refusals_go_by_length, GrantLemmas
 use Rattle.std.proofs.Common.{◌≡◌, ℕ, cond, List, length, get_or, Option, Some, None, unwrap_or, refl, sym, ap, ◌∙◌}
 use Rattle.std.specs.Option.{option_map}
 use Rattle.std.specs.FinMap.{get, len, get-from_entries}

@@ -1,4 +1,5 @@
 -- The tree of a new filestore.
+-- serves: new (tree)
 use Rattle.std.proofs.Common.{◌≡◌, ℕ, Bool, true, false, cond, List, [], Option, Some, Result, Ok, Err, IfOk, refl, sym, ap, ◌∙◌, codes}
 use Rattle.std.specs.Ordering.{eq_by_cmp}
 use Rattle.std.specs.FinMap.{FinMap, get, insert, empty, same_map, get-insert}

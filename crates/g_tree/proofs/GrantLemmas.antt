@@ -1,4 +1,5 @@
 -- What a call is granted, by the name that the plain step's look-up gives.
+-- serves: refusal_of (granted, refused)
 use Rattle.std.proofs.Common.{◌≡◌, ℕ, ◌+◌, true, false, not, List, ◌∷◌, Option, Some, None, Result, Ok, Err, unwrap_or, refl, sym, ap, subst, ◌∙◌}
 use Rattle.std.specs.Result.{result_err}
 use Rattle.std.specs.List.{AllByRecursion}
@@ -36,7 +37,7 @@ none_is None v x e = refl
 input_is : (a b : Full) → name.Input a ≡ name.Input b → a ≡ b
 input_is a b e = cc
 
--- a file that a granted call names for input is there
+-- A file that a granted call names for input exists.
 input_there : (t : Tree) (who : List ℕ) (call : StoreCall) (full : Full) → AllByRecursion (λ c. c.0 ≡ false) ((not (has_user t who), NoUser) ∷ checks t who call) → name.Input full ≡ name_in t who call
     → has_file t full ≡ true
 input_there t who (NewUser user space time money) full p e = absurd cc

@@ -1,4 +1,5 @@
--- The index of names, whose look-ups go by equality, as a map in their order.
+-- The index of names, which is searched by equality, as an ordered map.
+-- serves: close (entries), fall (entries, was), find, insert (entries, was), raise (entries, there), remove (entries), replace (entries), settle (entries)
 use Rattle.std.proofs.Common.{◌≡◌, Bool, cond, List, [], ◌∷◌, Option, Some, None, IsSome, refl, sym, ap, subst, ◌∙◌, is_some, true, false, true≢false}
 use Rattle.std.specs.Map.{lookup, lookup_key}
 use Rattle.std.specs.BTreeMap.{is_at}

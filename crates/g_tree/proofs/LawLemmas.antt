@@ -1,4 +1,5 @@
 -- How the tree changes with its records, and what users' numbers are.
+-- serves: bytes_go_by_record, erase (tree), is_superior, put (tree), records_change_the_tree, space_left, user_number (named), users_go_by_name, crates above
 use Rattle.std.proofs.Common.{◌≡◌, ◌≢◌, ℕ, ◌<◌, ◌==◌, true, false, cond, List, length, get_or, Option, Some, None, unwrap_or, not, refl, sym, ap, subst, ◌∙◌, arith, inl, inr, true≢false}
 use Rattle.std.specs.List.{Contains}
 use Rattle.std.specs.Option.{option_map}
@@ -27,7 +28,7 @@ use Rattle.g_tree.proofs.PlaceLemmas.{no_file, place_for, fits_none}
 use Rattle.g_tree.proofs.ChangeLemmas.{other_number, removed_list, removed_tree}
 use Rattle.g_tree.proofs.PutLemmas.{with_new, with_other, tree_new, tree_other, named_found, number_found}
 
--- the tree with a file put, and with one taken out
+-- The tree with a file added, and with one removed.
 
 module _ (users : List UserRec) (files : List FileRec) (bytes : FileRec → List ℕ) (next : ℕ) (is : IsRecords users files) where
   abbrev tree : Tree

@@ -1,4 +1,5 @@
--- Lists: what holds of pairs, what is kept and mapped, and the greatest of what is kept.
+-- Lists: pairs of elements, filtering and mapping, and the greatest of the filtered elements.
+-- serves: ChangeLemmas, CountLemmas, FaultLemmas, InUserLemmas, LawLemmas, MapLemmas, PlaceLemmas, PutLemmas, RecordLemmas, RuleLemmas, TrapLemmas, and 2 more
 use Rattle.std.proofs.Common.{◌≡◌, ℕ, zero, suc, ◌+◌, ◌<◌, ◌≤◌, Bool, true, false, cond, ◌&&◌, List, [], ◌∷◌, ◌++◌, length, map, filter, fold, max, sum_by, take, drop, get_or, refl, sym, ap, ◌∙◌, arith, ◌⊎◌, inl, inr, true≢false}
 use Rattle.std.specs.List.{AllPairs, All, AllByRecursion, Contains}
 use Rattle.std.proofs.Math.Seq.{drop-cons}
@@ -37,13 +38,13 @@ module _ {A : Type 0} where
       ∙ (λ i. All-head (λ y. f y ≡ g y) x xs all i + sum_same_on f g xs (All-tail (λ y. f y ≡ g y) x xs all) i)
       ∙ sym (sum_by-cons g x xs)
 
-  -- what is kept nowhere
+  -- A filter that selects no element.
   pub filter_none : (p : A → Bool) (xs : List A) → All (λ x. p x ≡ false) xs → filter p xs ≡ []
   filter_none p [] all = refl
   filter_none p (x ∷ xs) all =
       ap (λ b. cond b (x ∷ filter p xs) (filter p xs)) (All-head (λ x. p x ≡ false) x xs all) ∙ filter_none p xs (All-tail (λ x. p x ≡ false) x xs all)
 
-  -- what a test keeps whole
+  -- A filter that selects every element.
   pub filter_whole : (p : A → Bool) (xs : List A) → All (λ x. p x ≡ true) xs → filter p xs ≡ xs
   filter_whole p [] all = refl
   filter_whole p (x ∷ xs) all =
@@ -54,7 +55,7 @@ module _ {A : Type 0} where
   pub around : (xs : List A) (n : ℕ) (d : A) → n < length xs → xs ≡ take n xs ++ get_or xs n d ∷ drop (suc n) xs
   around xs n d within = sym (take-append-drop n xs) ∙ ap (λ ys. take n xs ++ ys) (drop-cons xs n d within)
 
-  -- the greatest number of the elements that are kept
+  -- The greatest number of the selected elements.
   abbrev pub greatest : (A → Bool) → (A → ℕ) → List A → ℕ
   greatest p f [] = 0
   greatest p f (x ∷ xs) = cond (p x) (max (f x) (greatest p f xs)) (greatest p f xs)

@@ -1,4 +1,5 @@
 -- Finite maps made of lists of entries: parts of lists, values that are changed, and the entries in order.
+-- serves: find_user (there, value), rows_are_of_records, ChangeLemmas, EntryLemmas, FaultLemmas, LawLemmas, NamedLemmas, PlaceLemmas, PutLemmas, and 6 more
 use Rattle.std.proofs.Common.{◌≡◌, ◌≢◌, ℕ, Bool, true, false, cond, List, [], ◌∷◌, ◌++◌, length, map, filter, max, Option, Some, None, refl, sym, ap, subst, ◌∙◌, is_some, arith, true≢false, inl, inr}
 use Rattle.std.specs.List.{AllPairs, All, Contains}
 use Rattle.std.specs.List.Sorted.{IsPermutation}
@@ -14,7 +15,7 @@ use Rattle.std.proofs.lemmas.List.Elements.{All-head, All-tail, All-contains}
 use Rattle.g_plain.proofs.Found.{tied_are, apart_is, same_some}
 use Rattle.g_tree.proofs.ListLemmas.{pairs_first, pairs_rest, contains_first, contains_more, contains_cases, greatest}
 
--- the first of two that is there
+-- The first of two options that isn't None.
 abbrev pub or_else : {X : Type 0} → Option X → Option X → Option X
 or_else None p = p
 or_else (Some x) p = Some x
@@ -39,13 +40,13 @@ module _ {K X : Type 0} (R : K → K → Ordering) where
   find_append q (e ∷ xs) ys =
       elim (eq_by_cmp R q e.0) as (λ t. cond t (Some e.1) (find R q (xs ++ ys)) ≡ or_else (cond t (Some e.1) (find R q xs)) (find R q ys)) [ true ↦ refl | false ↦ find_append q xs ys ]
 
-  -- no key stands twice
+  -- No key occurs twice.
   abbrev pub Apart : List (K × X) → Type 0
   Apart [] = Unit {0}
   Apart (e ∷ es) = (find R e.0 es ≡ None) × Apart es
 
 module _ {K X : Type 0} {R : K → K → Ordering} (o : IsTotalOrder R) (same : IsAntisymmetric R) where
-  -- an entry in the middle whose key doesn't stand before it is inserted
+  -- An entry whose key doesn't occur before it is inserted in the middle.
   pub made_middle : (xs ys : List (K × X)) (k : K) (v : X) → find R k xs ≡ None → from_entries {R = R} (xs ++ (k, v) ∷ ys) ≡ insert (from_entries (xs ++ ys)) k v
   made_middle xs ys k v none =
       same_map o same _ _
@@ -138,7 +139,7 @@ module _ {K A X : Type 0} (R : K → K → Ordering) (g : A → X) where
         entries-insert o (from_entries (map with_value es)) e.0 (g e.1) ∙ ap (put R e.0 (g e.1)) (entries_valued es) ∙ put_valued e.0 e.1 (entries (from_entries es))
         ∙ ap (map with_value) (sym (entries-insert o (from_entries es) e.0 e.1))
 
--- the entries of some keys alone
+-- The entries of some keys only.
 module _ {K X : Type 0} {R : K → K → Ordering} (o : IsTotalOrder R) (same : IsAntisymmetric R) (p : K → Bool) where
   pub entries_kept : (es : List (K × X)) → entries (from_entries {R = R} (filter (λ e. p e.0) es)) ≡ filter (λ e. p e.0) (entries (from_entries {R = R} es))
   entries_kept es =

@@ -1,4 +1,5 @@
 -- The rows of users and files by their names and by their numbers.
+-- serves: is_ninth, len (len), modes_of, number, number_of (named), space_left, FaultLemmas, GrantLemmas, crates above
 use Rattle.std.proofs.Common.{◌≡◌, ℕ, true, List, Option, Some, None, IfSome, is_some, unwrap_or, refl, sym, ap, ◌∙◌, true≢false}
 use Rattle.std.proofs.lemmas.List.{length-replicate}
 use Rattle.std.specs.Option.{option_map}
@@ -19,7 +20,7 @@ pub none_mapped : {A B : Type 0} (f : A → B) (o : Option A) → option_map f o
 none_mapped f None e = refl
 none_mapped f (Some x) e = absurd (true≢false (ap is_some e))
 
--- a row is that of the record, where there is one
+-- A row is that of the record, if there is one.
 module _ (users : List UserRec) (files : List FileRec) (bytes : FileRec → List ℕ) (next : ℕ) where
   abbrev tree : Tree
   tree = tree_of users files bytes next
@@ -37,7 +38,7 @@ name_found users files full number is e =
     ap (option_map (full_of users)) (numbered_is users files full number is e ∙ got)
     ∙ ap Some (found_one full_total full_exact (full_of users) full files r (sym (get-from_entries full_total (keyed (full_of users) files) full) ∙ got)).1
 
--- and is there by its number
+-- And it is found by its number.
 pub number_there : (users : List UserRec) (files : List FileRec) (full : Full) (number : ℕ) → name_of_file users files number ≡ Some full → is_some (get (by_number files) number) ≡ true
 number_there users files full number e = let (r, got, same) = made_of (full_of users) (get (by_number files) number) full e in ap is_some got
 

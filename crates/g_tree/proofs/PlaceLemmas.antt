@@ -1,4 +1,5 @@
--- Where a number stands among files in order of number, or would stand, and what is found there.
+-- The place of a number among files sorted by number, and what is found there.
+-- serves: erase (records), file_at (value), free_file (least, unused), lower (newest), newest_but (generation), put (same_name), rename, renew, and 7 more
 use Rattle.std.proofs.Common.{◌≡◌, ℕ, zero, suc, ◌<◌, ◌≤◌, ◌⊎◌, List, [], ◌∷◌, cond, length, get_or, Some, None, is_some, false, refl, sym, ap, subst, ◌∙◌, arith, inl, inr, true≢false}
 use Rattle.std.specs.List.{AllWithin}
 use Rattle.std.specs.Option.{option_map}
@@ -22,7 +23,7 @@ use Rattle.g_tree.proofs.MapLemmas.{keyed, AreApart, found_itself, none_found}
 pub no_file : FileRec
 no_file = record { number = 0; owner = 0; local = []; generation = 0; lang = []; stamp = 0; len = 0; traps = record { owner = 0; others = [] }; tape = None }
 
--- where a number stands, or would stand
+-- The place of a number, or the place where it would fit.
 
 below_more : (s : FileRec) (files : List FileRec) (number n : ℕ) → s.number < number → AllWithin (λ r. r.number < number) files 0 n
     → (k : ℕ) (d : FileRec) → 0 ≤ k → k < suc n → (get_or (s ∷ files) k d).number < number
@@ -95,7 +96,7 @@ rec_by (r ∷ files) number =
 pub rec_found : (files : List FileRec) (number : ℕ) → get (by_number files) number ≡ rec_at files number
 rec_found files number = get-from_entries nat_cmp_total (keyed (λ r. r.number) files) number ∙ rec_by files number
 
--- a file of a number, where it stands
+-- The file with a number, at its place.
 pub record IsThere (files : List FileRec) (number : ℕ) (r : FileRec) (place : ℕ) : Type 0 where
   pub at : StandsAt files number place
   pub here : r ≡ get_or files place r

@@ -1,4 +1,5 @@
--- How a changed record changes the maps that records stand for.
+-- How a changed record changes the maps that records represent.
+-- serves: put (same_name), rename, renew, replace (same_name), CountLemmas, EntryLemmas, LawLemmas, UserLemmas, crates above
 use Rattle.std.proofs.Common.{◌≡◌, ◌≢◌, ℕ, suc, ◌+◌, ◌<◌, ◌≤◌, Bool, true, false, cond, List, [], ◌∷◌, ◌++◌, length, map, filter, take, drop, nat_eq, nat_lt, ◌&&◌, get_or, Option, Some, None, refl, sym, ap, subst, ◌∙◌, arith, is_some, true≢false, ◌⊎◌, inl, inr, not}
 use Rattle.std.proofs.Math.ListN.{set}
 use Rattle.std.specs.List.{All, AllWithin, Contains}
@@ -76,7 +77,7 @@ module _ (r : FileRec) where
   all_greater : (ys : List FileRec) → All (λ s. r.number < s.number) ys → filter is_greater ys ≡ ys
   all_greater ys above = filter_whole is_greater ys (All-weaker (λ s. r.number < s.number) (λ s. is_greater s ≡ true) (λ s lt. lt-ltb r.number s.number lt) ys above)
 
-  -- where no file has its number
+  -- If no file has its number.
   pub with_new : (files : List FileRec) (place : ℕ) → FitsAt files r.number place → with_file r files ≡ list.insert files place r
   with_new files place fits =
       let above = all_behind (λ s. r.number < s.number) files place fits.above in
@@ -84,7 +85,7 @@ module _ (r : FileRec) where
       ∙ with_parts (take place files) (drop place files) (drop place files) (all_before (λ s. s.number < r.number) files place fits.within fits.below) (none_lower (drop place files) above)
       (all_greater (drop place files) above)
 
-  -- where one has it
+  -- If a file has it.
   pub with_other : (files : List FileRec) (place : ℕ) → AreNumbered files → StandsAt files r.number place → with_file r files ≡ set files place r
   with_other files place is at =
       let old = get_or files place r in
@@ -205,7 +206,7 @@ module _ (users : List UserRec) (files : List FileRec) (place : ℕ) (r file : F
   by_names : not same ≡ not (full_eq (full_of users r) (full_of users file))
   by_names = ap not (told ∙ same_parts users files r file is (subst (λ s. s.owner < length users) (sym here) (is.among_files.owners place r at.within)))
 
-  -- the file that stands there has the name, whatever stands for none
+  -- The file at the place has the name, for any default value.
   pub stands_named : same ≡ true → (d : FileRec) → full_of users (get_or files place d) ≡ full_of users file
   stands_named named d =
       ap (full_of users) (get_or_default files place d r at.within ∙ sym here) ∙ names_agree (full_of users r) (full_of users file) (not same) by_names (ap not named)
@@ -222,7 +223,7 @@ still_room users files full number spare room apart = elim room as (λ _. 1 ≤ 
 abbrev without_found : List UserRec → FinMap full_cmp FileRow → Option FileRec → FinMap full_cmp FileRow
 without_found users rows found = elim found [ Some r ↦ remove rows (full_of users r) | None ↦ rows ]
 
--- the tree after a file is put
+-- The tree after a file was added.
 
 module _ (users : List UserRec) (bytes : FileRec → List ℕ) (next : ℕ) where
   abbrev with_row : Tree → FileRec → List UserRec → List FileRec → Tree
@@ -252,7 +253,7 @@ pub file_ruled : (users : List UserRec) (files : List FileRec) (file : FileRec) 
 file_ruled users files file is =
     All-contains IsFile (with_file file files) file is.each_file (Contains-append_right (filter (is_lower file) files) (file ∷ filter (is_greater file) files) file (contains_first file (filter (is_greater file) files)))
 
--- an owner of a file among others is there
+-- The owner of a file exists.
 pub owner_there : (users : List UserRec) (files : List FileRec) (file : FileRec) → IsRecords users (with_file file files) → file.owner < length users
 owner_there users files file is =
     All-contains (λ r. r.owner < length users) (with_file file files) file is.among_files.owners

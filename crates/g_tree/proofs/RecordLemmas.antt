@@ -1,4 +1,5 @@
 -- From numbered records to the tree of names.
+-- serves: by_number, find (there), find_user (there), input (there), len (len), listing, newest_file (few), number, and 18 more
 use Rattle.std.proofs.Common.{◌≡◌, ◌≢◌, ◌⊎◌, ℕ, zero, suc, ◌<◌, ◌≤◌, ◌==◌, true, false, cond, ◌&&◌, List, [], ◌∷◌, length, map, filter, fold, max, sum_by, Option, Some, None, is_some, unwrap_or, refl, sym, ap, ◌∙◌, arith, inl, inr, true≢false, get_or}
 use Rattle.std.specs.List.{All, AllPairs}
 use Rattle.std.specs.Option.{option_map}
@@ -65,7 +66,7 @@ same_itself a = texts_ties a a ∙ (eq_by_cmp_equiv text_total).refl a
 text_apart : (a b : List ℕ) → a ≢ b → same_text a b ≡ false
 text_apart a b apart = texts_ties a b ∙ apart_is text_total text_exact a b apart
 
--- a user's name is another's exactly where the number is, even where one of both isn't used
+-- Users' names are equal if and only if their numbers are, even if one of the numbers is unused.
 pub same_user : (users : List UserRec) (i j : ℕ) → All (IsUser Two) users → AllPairs (λ u v. u.user ≢ v.user) users
     → (i < length users) ⊎ (j < length users) → same_text (name_of users i) (name_of users j) ≡ (i == j)
 same_user users i j all pairs used =
@@ -192,7 +193,7 @@ listed_is users files bytes next owner is =
     ∙ sym (map_of_map (λ e. unwrap_or (number_of users files e.0) 0) (with_value full_cmp row) (filter (λ e. p e.0) named))
     ∙ ap (map (λ e. unwrap_or (number_of users files e.0) 0)) (sym (filter_of_map (λ e. p e.0) (with_value full_cmp row) named) ∙ ap (filter (λ e. p e.0)) (sym (file_entries users files row)))
 
--- where there is no such user
+-- If there is no such user.
 
 pub nobodys : (users : List UserRec) (files : List FileRec) (full : Full) → IsRecords users files → full.user ≡ [] → get (by_name users files) full ≡ None
 nobodys users files full is none =

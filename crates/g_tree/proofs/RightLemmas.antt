@@ -1,4 +1,5 @@
 -- The row of the file of a number, and what users may do with it.
+-- serves: erase, full_name (number, there), is_ninth, len_of (few, len), modes_of, replace, users_go_by_name, crates above
 use Rattle.std.proofs.Common.{◌≡◌, ℕ, ◌<◌, ◌==◌, cond, bit_or, codes, List, length, Some, IfSome, unwrap_or, is_some, true, sym, ap, subst, ◌∙◌, arith, inr}
 use Rattle.std.specs.List.{Contains}
 use Rattle.std.specs.Option.{option_map}
@@ -28,7 +29,7 @@ module _ (users : List UserRec) (files : List FileRec) (is : IsRecords users fil
   pub owner_used : (r : FileRec) → Contains files r → r.owner < length users
   owner_used r there = All-contains (λ s. s.owner < length users) files r is.among_files.owners there
 
-  -- also of a file that was found by its number, among the users as they are handed out
+  -- The same for a file that was found by its number, among the users that a call returns.
   pub owner_within : (us : List UserRec) (number : ℕ) (r : FileRec) → us ≡ users → get (by_number files) number ≡ Some r → r.owner < length us
   owner_within us number r same got = subst (λ xs. r.owner < length xs) (sym same) (owner_used r (numbered_there number r got).0)
 

@@ -1,4 +1,5 @@
--- Boxes for files to come.
+-- Boxes for later files.
+-- serves: make_room (ok), put_new
 use Rattle.std.proofs.Common.{◌≡◌, ◌≤◌, Option, Some, None, is_some, true, subst, sym, arith, true≢false}
 use Rattle.g_entry.specs.declared.file_rec.FileRec.{FileRec}
 use Rattle.g_tree.specs.State.{room_of}

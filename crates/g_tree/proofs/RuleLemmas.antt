@@ -1,4 +1,5 @@
--- Records that keep their rules stand for a tree that keeps its own.
+-- Records that satisfy their rules represent a tree that satisfies its rules.
+-- serves: files, records_make_a_tree, rows_are_of_records, users, FaultLemmas, LawLemmas, NamedLemmas, crates above
 use Rattle.std.proofs.Common.{◌≡◌, ℕ, zero, suc, ◌^◌, ◌<◌, ◌≤◌, ◌==◌, true, false, cond, not, nat_lt, codes, List, [], ◌∷◌, length, map, get_or, Option, Some, None, is_some, unwrap_or, refl, sym, ap, subst, ◌∙◌, arith, true≢false}
 use Rattle.std.specs.List.{All, Contains, list_all}
 use Rattle.std.specs.Option.{option_map}
@@ -43,7 +44,7 @@ below_set n e = grind (arith, nat_tests)
 own_number : (n : ℕ) → (n == n) ≡ true
 own_number n = grind (arith, nat_tests)
 
--- what stands behind a value that was made of another
+-- The value from which another was made.
 pub made_of : {A B : Type 0} (g : A → B) (o : Option A) (y : B) → option_map g o ≡ Some y → (x : A) × (o ≡ Some x) × (g x ≡ y)
 made_of g None y e = absurd (true≢false (sym (ap is_some e)))
 made_of g (Some x) y e = (x, refl, same_some (g x) y e)

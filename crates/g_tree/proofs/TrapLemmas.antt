@@ -1,4 +1,5 @@
 -- Traps by the numbers of users against traps by their names.
+-- serves: is_ninth, traps_go_by_name, RightLemmas, RuleLemmas, crates above
 use Rattle.std.proofs.Common.{◌≡◌, ◌≢◌, ℕ, suc, ◌+◌, ◌<◌, ◌==◌, Bool, true, false, cond, not, ◌&&◌, List, [], ◌∷◌, length, map, filter, Option, Some, None, unwrap_or, refl, sym, ap, ◌∙◌, is_none, nat_le, arith, inr, true≢false}
 use Rattle.std.specs.List.{All, AllPairs, Contains}
 use Rattle.std.specs.Ordering.{nat_cmp, eq_by_cmp, is_eq, is_lt}
@@ -35,7 +36,7 @@ swapped false b x y z apart = refl
 above_apart : (u p : ℕ) → nat_cmp u p ≡ Greater → p ≢ u
 above_apart u p e s = grind (arith, nat_tests)
 
--- the users of a file's traps, by number: each is there, and the owner is none of the others
+-- The users in a file's traps, by number: each exists, and the owner isn't among the others.
 pub record AreTrapped (users : List UserRec) (owner : ℕ) (traps : TrapList) : Type 0 where
   pub each_user : All (IsUser Two) users
   pub names : AllPairs (λ u v. u.user ≢ v.user) users
@@ -56,7 +57,7 @@ neither true = refl
 neither false = refl
 
 module _ (users : List UserRec) (all : All (IsUser Two) users) (pairs : AllPairs (λ u v. u.user ≢ v.user) users) where
-  -- a name ties with that of a user exactly where the number does
+  -- A name compares equal to that of a user if and only if the numbers are equal.
   name_ties : (i j : ℕ) → j < length users → eq_by_cmp text_cmp (name_of users i) (name_of users j) ≡ eq_by_cmp nat_cmp i j
   name_ties i j within = sym (texts_ties (name_of users i) (name_of users j)) ∙ same_user users i j all pairs (inr within) ∙ unsigned_ties i j
 
@@ -117,7 +118,7 @@ module _ (users : List UserRec) (owner : ℕ) (traps : TrapList) (is : AreTrappe
       (sym (texts_ties (name_of users u) (name_of users owner)) ∙ same_user users u owner is.each_user is.names (inr is.owner_there))
       ∙ ap (cond (u == owner) (Some traps.owner)) (find_named users is.each_user is.names u traps.others is.others_there)
 
-  -- and so are the modes
+  -- The same for the modes.
   pub modes_found : (u : ℕ) → unwrap_or (get (traps_named users owner traps) (name_of users u)) 0 ≡ modes_of traps owner u
   modes_found u =
       ap (λ o. unwrap_or o 0) (trap_found u)
@@ -172,7 +173,7 @@ module _ (users : List UserRec) (owner : ℕ) (traps : TrapList) (is : AreTrappe
         | false ↦ λ t. other u m within t
       ] refl
 
--- how many stand in the traps
+-- The number of users in the traps.
 
 one_more : (n : ℕ) → nat_le 9 (n + 1) ≡ nat_le 8 n
 one_more n = grind (arith, nat_tests)

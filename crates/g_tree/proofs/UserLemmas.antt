@@ -1,4 +1,5 @@
--- How a changed or a new user changes the tree that records stand for.
+-- How a changed or a new user changes the tree that records represent.
+-- serves: add_user (tree), records_change_the_tree, set_user (tree), LawLemmas, RuleLemmas, crates above
 use Rattle.std.proofs.Common.{◌≡◌, ◌≢◌, ℕ, suc, ◌+◌, ◌<◌, ◌≤◌, List, [], ◌∷◌, ◌++◌, length, map, filter, fold, max, take, drop, get_or, Some, None, slice_get, refl, sym, ap, subst, ◌∙◌, arith, inl, inr}
 use Rattle.std.proofs.Math.ListN.{set}
 use Rattle.std.specs.List.{All, slice_index_or}
@@ -28,7 +29,7 @@ pub map_same_on : {A B : Type 0} (f g : A → B) (xs : List A) → All (λ x. f 
 map_same_on f g [] all = refl
 map_same_on f g (x ∷ xs) all = λ i. All-head (λ y. f y ≡ g y) x xs all i ∷ map_same_on f g xs (All-tail (λ y. f y ≡ g y) x xs all) i
 
--- what records say by the names of users
+-- The parts of the tree that depend on users' names.
 
 abbrev names : List UserRec → List (List ℕ)
 names users = map (λ u. u.user) users
@@ -124,7 +125,7 @@ module _ (users : List UserRec) (files : List FileRec) (n : ℕ) (u : UserRec) (
       ap (λ ns. tree_by ns (set users n u) files bytes next) names_kept
       ∙ ap (λ m. record (tree_of users files bytes next) { users = m }) (users_other (user_row_of users) users n u within same rules.among_users.names)
 
--- a user behind the others
+-- A user appended to the others.
 
 pub superior_there : (us : List UserRec) (n : ℕ) → AreUsers us → 2 ≤ n → length us ≤ n + 1 → All (λ v. v.superior < n) us
 superior_there us n is both few = λ k d within.

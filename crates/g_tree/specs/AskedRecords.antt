@@ -1,4 +1,4 @@
--- Records of which is asked whether a call is refused, and what they grant.
+-- Queries on records about whether a call is refused, and what the records grant.
 use Rattle.std.specs.Prelude.{◌≡◌, ℕ, List, Some, replicate}
 use Rattle.g_entry.specs.declared.file_rec.FileRec.{FileRec}
 use Rattle.g_entry.specs.declared.user_rec.UserRec.{UserRec}
@@ -8,11 +8,12 @@ use Rattle.g_tree.specs.Records.{number_of}
 use Rattle.g_tree.specs.declared.asked.Granted.{Granted}
 use Rattle.g_tree.specs.declared.asked.Granted.TheVariants.{Nothing, Input, Output}
 
--- as many zeros as a file has bytes: no fault goes by the bytes themselves
+-- As many zeros as a file has bytes. No fault depends on the bytes themselves.
 abbrev pub zeros : FileRec → List ℕ
 zeros r = replicate r.len 0
 
--- WHAT IS GRANTED to a call that gives this name: the file that has it, for input; for output that file, if there is one; and nothing to a call that gives none
+-- What is granted to a call with this name: for input, the file that has it; for output, that file, if there is one; and nothing if the call names no
+-- file.
 abbrev pub IsGranted : List UserRec → List FileRec → CallName → Granted → Type 0
 IsGranted users files name.Nothing Nothing = Unit {0}
 IsGranted users files (name.Input called) (Input number full) = (full ≡ called) × (number_of users files called ≡ Some number)

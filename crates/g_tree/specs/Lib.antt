@@ -1,4 +1,4 @@
--- Users and files as numbered records, and the tree by names that they stand for.
+-- Users and files as numbered records, and the tree of names that they represent.
 pub mod Records
 pub mod State
 pub mod Codes

@@ -1,4 +1,4 @@
--- The names of one user's files: full names without the user. And files of one full name.
+-- The names of one user's files, which are full names without the user; and files with the same full name.
 use Rattle.std.specs.Prelude.{Bool, ◌==◌, ◌&&◌, nat_eq}
 use Rattle.std.specs.Ordering.{ordering_then, nat_cmp}
 use Rattle.std.specs.declared.cmp.Ordering.{Ordering}
@@ -6,14 +6,14 @@ use Rattle.g_name.specs.Order.{text_cmp, same_text}
 use Rattle.g_entry.specs.declared.file_rec.FileRec.{FileRec}
 use Rattle.g_tree.specs.declared.sorted.LocalName.{LocalName}
 
--- by local name, generation, language
+-- The order of names: by local name, generation and language.
 abbrev pub name_cmp : LocalName → LocalName → Ordering
 name_cmp a b = ordering_then (text_cmp a.local b.local) (ordering_then (nat_cmp a.generation b.generation) (text_cmp a.lang b.lang))
 
--- two files have the same full name, where different users have different names
+-- The two files have the same full name, since different users have different names.
 abbrev pub same_name : FileRec → FileRec → Bool
 same_name a b = (a.owner == b.owner) && (same_text a.local b.local && (nat_eq a.generation b.generation && same_text a.lang b.lang))
 
--- the name of a file without its user
+-- The name of a file without its user.
 abbrev pub name_in : FileRec → LocalName
 name_in r = record { local = r.local; generation = r.generation; lang = r.lang }

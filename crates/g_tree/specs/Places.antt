@@ -1,14 +1,14 @@
--- Where a number stands among files in order of number, or would stand.
+-- The place of a number among files sorted by number.
 use Rattle.std.specs.Prelude.{◌≡◌, ℕ, ◌<◌, ◌≤◌, List, length}
 use Rattle.std.specs.List.{HoldsAt, AllWithin}
 use Rattle.g_entry.specs.declared.file_rec.FileRec.{FileRec}
 
--- the file at the place has the number
+-- The file at the place has the number.
 pub record StandsAt (files : List FileRec) (number place : ℕ) : Type 0 where
   pub within : place < length files
   pub has : HoldsAt (λ r. r.number ≡ number) files place
 
--- lower numbers stand before the place, and greater ones from it on
+-- The place is where the number would fit: the numbers before it are lower, and those from it on greater.
 pub record FitsAt (files : List FileRec) (number place : ℕ) : Type 0 where
   pub within : place ≤ length files
   pub below : AllWithin (λ r. r.number < number) files 0 place

@@ -1,4 +1,4 @@
--- From numbered records to the tree by names.
+-- The tree of names that numbered records represent.
 use Rattle.std.specs.Prelude.{◌≡◌, ℕ, [], ◌∷◌, List, map, length, All, Contains, Option, IfSome, slice_index_or}
 use Rattle.std.specs.Option.{option_map}
 use Rattle.std.specs.Ordering.{nat_cmp}
@@ -14,7 +14,8 @@ use Rattle.g_entry.specs.FileFields.{IsFile}
 use Rattle.g_entry.specs.Rules.{AreUsers, AreNumbered, AreFiles}
 use Rattle.g_plain.specs.PlainTree.{UserRow, FileRow, Tree, file_row}
 
--- THE RULES OF RECORDS: those of each record, and those among records that concern neither the next stamp nor the disc
+-- The rules of records: those of each record, and those that the records satisfy together, apart from rules about the
+-- next stamp and the disc.
 pub record IsRecords (users : List UserRec) (files : List FileRec) : Type 0 where
   pub each_user : All (IsUser Two) users
   pub among_users : AreUsers users
@@ -22,26 +23,27 @@ pub record IsRecords (users : List UserRec) (files : List FileRec) : Type 0 wher
   pub numbers : AreNumbered files
   pub among_files : AreFiles (length users) files
 
--- the name of the user of a number, empty where there is none
+-- The name of the user with this number; empty if there is none.
 abbrev pub name_of : List UserRec → ℕ → List ℕ
 name_of users number = slice_index_or (map (λ u. u.user) users) number []
 
--- the full name of a file
+-- The full name of a file.
 abbrev pub full_of : List UserRec → FileRec → Full
 full_of users r = record { user = name_of users r.owner; local = r.local; generation = r.generation; lang = r.lang }
 
--- a file's traps by the names of users, the owner among them
+-- The traps of a file by users' names, including the owner's.
 abbrev pub traps_named : List UserRec → ℕ → TrapList → FinMap text_cmp ℕ
 traps_named users owner traps = from_entries ((name_of users owner, traps.owner) ∷ map (λ pair. (name_of users pair.0, pair.1)) traps.others)
 
--- the row of a user, and that of a file with these bytes
+-- The row of a user.
 abbrev pub user_row_of : List UserRec → UserRec → UserRow
 user_row_of users u = record { superior = name_of users u.superior; space = u.space; time = u.time; money = u.money }
 
+-- The row of a file, with these bytes.
 abbrev pub file_row_of : List UserRec → (FileRec → List ℕ) → FileRec → FileRow
 file_row_of users bytes r = record { traps = traps_named users r.owner r.traps; bytes = bytes r; stamp = r.stamp }
 
--- THE TREE that records stand for, where each file has these bytes
+-- The tree that the records represent, if each file has these bytes.
 abbrev pub tree_of : List UserRec → List FileRec → (FileRec → List ℕ) → ℕ → Tree
 tree_of users files bytes next = record {
   users = from_entries (map (λ u. (u.user, user_row_of users u)) users);
@@ -49,35 +51,38 @@ tree_of users files bytes next = record {
   next = next;
 }
 
--- each file has as many bytes as its record says
+-- Each file has as many bytes as its record says.
 abbrev pub HasLengths : List FileRec → (FileRec → List ℕ) → Type 0
 HasLengths files bytes = (r : FileRec) → Contains files r → length (bytes r) ≡ r.len
 
--- what is so of the tree, whatever the bytes and the next stamp are
+-- The tree of these records has the property, for any bytes and any next stamp.
 abbrev pub ForTree : List UserRec → List FileRec → (Tree → Type 0) → Type 0
 ForTree users files P = (bytes : FileRec → List ℕ) (next : ℕ) → P (tree_of users files bytes next)
 
--- the records of users and of files by name, and those of files by number
+-- The records of users by name.
 abbrev pub users_by_name : List UserRec → FinMap text_cmp UserRec
 users_by_name users = from_entries (map (λ u. (u.user, u)) users)
 
+-- The records of files by full name.
 abbrev pub by_name : List UserRec → List FileRec → FinMap full_cmp FileRec
 by_name users files = from_entries (map (λ r. (full_of users r, r)) files)
 
+-- The records of files by number.
 abbrev pub by_number : List FileRec → FinMap nat_cmp FileRec
 by_number files = from_entries (map (λ r. (r.number, r)) files)
 
--- the number of the user of a name, and that of the file of a full name
+-- The number of the user with this name.
 abbrev pub user_number : List UserRec → List ℕ → Option ℕ
 user_number users name = option_map (λ u. u.number) (get (users_by_name users) name)
 
+-- The number of the file with this full name.
 abbrev pub number_of : List UserRec → List FileRec → Full → Option ℕ
 number_of users files full = option_map (λ r. r.number) (get (by_name users files) full)
 
--- the full name of the file of a number
+-- The full name of the file with this number.
 abbrev pub name_of_file : List UserRec → List FileRec → ℕ → Option Full
 name_of_file users files number = option_map (full_of users) (get (by_number files) number)
 
--- what is so of the row and the full name of the file of a number, whatever the bytes and the next stamp are
+-- The row and the full name of the file with this number have the property, for any bytes and any next stamp.
 abbrev pub ForFile : List UserRec → List FileRec → ℕ → (FileRow → Full → Type 0) → Type 0
 ForFile users files number P = ForTree users files (λ t. IfSome (name_of_file users files number) (λ full. P (file_row t full) full))

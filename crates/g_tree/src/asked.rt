@@ -1,4 +1,4 @@
-//! Whether a call is refused, asked of records: by their numbers, and by no byte of a file.
+//! Decides whether a call is refused, from records: by their numbers, and independent of the bytes of files.
 ghost use Rattle.std.specs.Prelude.{◌≡◌, ◌≤◌, ℕ, List, Some, length, is_some, IfOk, true};
 ghost use Rattle.std.specs.Result.{result_err};
 ghost use Rattle.g_name.specs.declared.full.Full.{Full};
@@ -17,15 +17,15 @@ use g_plain::{
 };
 use g_trap::Modes;
 
-/// What a call is granted that isn't refused: the file that its path names.
+/// What a granted call gets: the file that its path names.
 #[derive(Drop)]
 pub enum Granted {
     /// The call names no file.
     Nothing,
-    /// The number of the file that the path names for input, which is there, and its full name.
+    /// The number and the full name of the file that the path names for input, which exists.
     Input { number: u16, full: Full },
-    /// The full name that the path of `Put` gives for output, and the number of the file of that
-    /// name, if there is one.
+    /// The full name that the path of `Put` gives for output, and the number of the file with that name, if there is
+    /// one.
     Output { number: Option<u16>, full: Full },
 }
 
@@ -37,7 +37,7 @@ struct Records<'a> {
 }
 
 impl<'a> Records<'a> {
-    /// The file of a full name, in one look-up.
+    /// The file with a full name, found by one look-up.
     fn find(&self, full: Full) -> NamedFile
         ensures named { let s = self.now.tree.now in
             result ≡ file_named (number_of s.users s.files) full }
@@ -50,7 +50,7 @@ impl<'a> Records<'a> {
         NamedFile { full, number }
     }
 
-    /// The number of a file that is there.
+    /// The number of an existing file.
     fn number(&self, file: &NamedFile) -> u16
         requires there { let s = self.now.tree.now in
             has_file (tree_of s.users s.files zeros self.now.next) file.now.full ≡ true }
@@ -59,7 +59,7 @@ impl<'a> Records<'a> {
         ensures { let s = self.now.tree.now in
             name_of_file s.users s.files result ≡ Some file.now.full }
     {
-        // That the records keep their rules is known from here.
+        // This call makes the rules of the records known.
         let _users = self.tree.users();
         match file.number {
             Some(number) => number,
@@ -67,7 +67,7 @@ impl<'a> Records<'a> {
         }
     }
 
-    /// The bytes of a file, 0 where there is none.
+    /// The length of a file in bytes; 0 if there is none.
     fn len(&self, file: &NamedFile) -> u32
         requires { let s = self.now.tree.now in
             file.now.number ≡ number_of s.users s.files file.now.full }
@@ -76,7 +76,7 @@ impl<'a> Records<'a> {
             result ≡ length (file_row t file.now.full).bytes }
         ensures few { result ≤ 65536 }
     {
-        // That the records keep their rules is known from here.
+        // This call makes the rules of the records known.
         let _users = self.tree.users();
         match file.number {
             Some(number) => self.tree.len_of(number),
@@ -142,7 +142,7 @@ impl<'a> Questions for Records<'a> {
             None => {
                 let full = named(who, path, 1);
                 let newest = self.tree.newest_by(&full);
-                // No version is there behind the newest.
+                // No version after the newest exists.
                 NamedFile {
                     full: Full {
                         generation: newest + 1,
@@ -186,9 +186,9 @@ impl<'a> Questions for Records<'a> {
     }
 }
 
-/// What a call is granted, or why it is refused: the fault that the plain step answers on the tree
-/// that the records stand for, whatever bytes of these lengths its files have. `next` is the stamp
-/// of the next version. The path is looked up once, by the plain step's rules for input and output.
+/// What a call is granted, or why it is refused: the fault of the plain step on the tree that the records represent,
+/// for any bytes of these lengths. `next` is the stamp of the next version. The path is looked up once, by the plain
+/// step's rules for input and output.
 pub fn refusal_of(
     tree: &Tree,
     next: u64,
@@ -201,7 +201,7 @@ pub fn refusal_of(
     ensures granted { IfOk result (λ granted. ForTree tree.now.users tree.now.files
         (λ t. IsGranted tree.now.users tree.now.files (name_in t who.now call.now) granted)) }
 {
-    // That the records keep their rules is known from here.
+    // This call makes the rules of the records known.
     let _users = tree.users();
     match granted_name(&Records { tree, next }, who, call) {
         Ok(granted) => Ok(by_number(tree, granted)),
@@ -209,7 +209,7 @@ pub fn refusal_of(
     }
 }
 
-/// The file of the name that a call is granted, which is there for input.
+/// The file with the name that a call is granted, which exists for input.
 fn by_number(tree: &Tree, granted: GrantedName) -> Granted
     requires numbered { granted.number
         ≡ number_in (number_of tree.now.users tree.now.files) granted.name }

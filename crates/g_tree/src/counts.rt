@@ -1,4 +1,4 @@
-//! What is remembered of files beside their records, so that no call walks over all of them.
+//! Data derived from the records of files, so that no call scans all of them.
 ghost use Rattle.std.specs.Prelude.{◌≡◌, ◌≢◌, ℕ, ◌+◌, ◌-◌, ◌*◌, ◌<◌, ◌≤◌, true, length, max, replicate, OnOk, IfOk, Some, None, is_some, slice_index_or, slice_set};
 ghost use Rattle.std.specs.FinMap as finmap;
 ghost use Rattle.g_base.specs.Block.{blocks_for};
@@ -14,16 +14,16 @@ use g_name::Full;
 use g_table::FileTable;
 use std::alloc::Global;
 
-/// What is known of files by full name, and the blocks of 512 bytes of each owner's files, by the
-/// owner's number. What is known of all versions of a file stands under the name of the first, so that
-/// the look-up of that name says which is the newest.
+/// The index of files by full name, and the number of blocks of 512 bytes of each owner's files, by the owner's number.
+/// The index has the data of all versions of a file under the name of generation 1, so that one look-up of that name
+/// finds the newest.
 #[derive(Drop)]
 pub(crate) struct Counts {
     names: Index,
     blocks: Vec<u32>,
 }
 
-/// A file by its number among the others, and the users who own them.
+/// A file among the others, by its number, and the users who own them.
 #[derive(Drop)]
 pub(crate) struct Standing<'a> {
     pub users: &'a [UserRec],
@@ -32,7 +32,7 @@ pub(crate) struct Standing<'a> {
 }
 
 impl Counts {
-    /// No file.
+    /// Data of no files.
     pub fn new(alloc: Global) -> Result<Counts, NoMemory>
         ensures names { IfOk result (λ c. c.names.entries ≡ finmap.empty) }
         ensures blocks { IfOk result (λ c. c.blocks.items ≡ replicate 63 0) }
@@ -43,8 +43,8 @@ impl Counts {
         })
     }
 
-    /// Makes room for the names of so many more files, two of each: its own, and that of the first of
-    /// its versions. Without memory the room stays at least what it was.
+    /// Reserves memory for the names of `more` files, two for each: its own, and that of its generation 1. If memory
+    /// runs out, at least the earlier reserve remains.
     pub fn reserve(&mut self, more: usize) -> Result<(), NoMemory>
         requires { more ≤ 1024 }
         ensures entries { self.new.names.entries ≡ self.old.names.entries }
@@ -55,7 +55,7 @@ impl Counts {
         self.names.reserve(2 * more)
     }
 
-    /// The number of the file of this full name.
+    /// The number of the file with this full name.
     pub fn find(&self, full: &Full) -> Option<u16>
         ensures { result ≡ number_in self.now.names.entries full.now }
     {
@@ -65,7 +65,7 @@ impl Counts {
         }
     }
 
-    /// The newest of the versions of the file whose first has this name.
+    /// The newest version of the file whose generation 1 has this name.
     pub fn newest(&self, first: &Full) -> Newest
         requires { first.now.generation ≡ 1 }
         ensures generation { result.generation ≡ newest_in self.now.names.entries first.now }
@@ -83,7 +83,7 @@ impl Counts {
         }
     }
 
-    /// A file more, for whose names there is room.
+    /// Adds a file, for whose names memory is reserved.
     pub fn put(&mut self, users: &[UserRec], file: &FileRec)
         requires owner { file.now.owner < length users.now }
         requires room { 2 ≤ self.old.names.spare }
@@ -106,7 +106,7 @@ impl Counts {
         }
     }
 
-    /// A first generation more.
+    /// Adds a generation 1.
     fn put_first(&mut self, users: &[UserRec], file: &FileRec)
         requires owner { file.now.owner < length users.now }
         requires first { file.now.generation ≡ 1 }
@@ -130,7 +130,7 @@ impl Counts {
             top: number,
         };
         match self.names.insert(full_of(users, file), entry) {
-            // Others had outlived the one before.
+            // Later generations had outlived an earlier generation 1.
             Some(was) => {
                 let there = NameEntry { number, ..was };
                 let full = full_of(users, file);
@@ -140,7 +140,7 @@ impl Counts {
         }
     }
 
-    /// A generation behind the first more.
+    /// Adds a generation greater than 1.
     fn put_later(&mut self, users: &[UserRec], file: &FileRec)
         requires owner { file.now.owner < length users.now }
         requires behind { file.now.generation ≢ 1 }
@@ -175,8 +175,8 @@ impl Counts {
         self.names.insert(full, entry);
     }
 
-    /// The greatest generation of the versions of the file whose first has this name is at least this,
-    /// which has this number.
+    /// Raises the newest version of the file whose generation 1 has this name to at least this generation, which has
+    /// this number.
     fn rise(&mut self, first: &Full, newest: u16, number: u16)
         requires first { first.now.generation ≡ 1 }
         requires room { 1 ≤ self.old.names.spare }
@@ -200,7 +200,7 @@ impl Counts {
         self.names.insert(first.copy(), entry);
     }
 
-    /// A file fewer: that of this number.
+    /// Removes the file of this number.
     pub fn take_out(&mut self, at: Standing, full: Full)
         requires records { IsRecords at.users.now at.files.now }
         requires index { AreIndexed at.users.now at.files.now self.old.names.entries }
@@ -222,7 +222,7 @@ impl Counts {
         }
     }
 
-    /// A first generation fewer. While others are there its name is.
+    /// Removes a generation 1. Its name remains while there are other generations.
     fn take_first(&mut self, full: &Full)
         requires { full.now.generation ≡ 1 }
         ensures numbers { HasNumber self.old.names.entries self.new.names.entries full.now None }
@@ -237,7 +237,7 @@ impl Counts {
         self.names.close(full);
     }
 
-    /// A generation behind the first fewer: that of the file of this number.
+    /// Removes a generation greater than 1: that of the file of this number.
     fn take_later(&mut self, at: Standing, full: Full)
         requires records { IsRecords at.users.now at.files.now }
         requires index { AreIndexed at.users.now at.files.now self.old.names.entries }
@@ -266,8 +266,8 @@ impl Counts {
         self.names.remove(&full);
     }
 
-    /// The newest of the versions of the file whose first has this name is this now; where none is left
-    /// nothing is known of the name.
+    /// Sets the newest version of the file whose generation 1 has this name. If no version is left, the name is
+    /// removed.
     fn settle(&mut self, first: &Full, newest: Newest)
         requires first { first.now.generation ≡ 1 }
         requires there { is_some (finmap.get self.old.names.entries first.now) ≡ true }
@@ -287,8 +287,8 @@ impl Counts {
         }
     }
 
-    /// The version of this generation, behind the first, whose name this is, goes: that of the file of
-    /// this number.
+    /// Lowers the newest version, given the name of generation 1, when the file of this number, with this generation
+    /// greater than 1, is removed.
     fn lower(&mut self, at: Standing, first: &Full, generation: u16)
         requires records { IsRecords at.users.now at.files.now }
         requires index { AreIndexed at.users.now at.files.now self.old.names.entries }
@@ -310,7 +310,7 @@ impl Counts {
         let Some(entry) = self.names.fall(first) else {
             unreachable!()
         };
-        // Most often it was the second of two.
+        // In most cases the removed version was the second of two.
         if is_first_of_two(entry) {
             return;
         }
@@ -318,8 +318,8 @@ impl Counts {
         self.settle(first, newest);
     }
 
-    /// The newest of the versions of the file of this number but itself, which has this generation and the
-    /// first of them this name, where this is known under it.
+    /// The newest version besides the file of this number, which has this generation. `first` is the name of its
+    /// generation 1, and `entry` what the index has for that name.
     fn newest_but(&self, at: Standing, entry: NameEntry, first: &Full, generation: u16) -> Newest
         requires records { IsRecords at.users.now at.files.now }
         requires index { AreIndexed at.users.now at.files.now self.now.names.entries }
@@ -341,7 +341,7 @@ impl Counts {
                 number: entry.top,
             };
         }
-        // Most often the version before is there.
+        // In most cases the previous generation exists.
         let number = self.number_before(entry, first, generation);
         if number.is_some() {
             return Newest {
@@ -360,8 +360,8 @@ impl Counts {
         }
     }
 
-    /// The number of the version before this generation, where the first has this name and this is
-    /// known under it.
+    /// The number of the version with the previous generation. `first` is the name of generation 1, and `entry` what
+    /// the index has for that name.
     fn number_before(&self, entry: NameEntry, first: &Full, generation: u16) -> Option<u16>
         requires entry { finmap.get self.now.names.entries first.now ≡ Some entry }
         requires first { first.now.generation ≡ 1 }
@@ -380,7 +380,7 @@ impl Counts {
         self.find(&full)
     }
 
-    /// The blocks of the files of the owner of this number, 0 where there is no such user.
+    /// The number of blocks of the files of the owner of this number; 0 if there is no such user.
     pub fn used(&self, owner: u8) -> u32
         ensures { result ≡ slice_index_or self.now.blocks.items owner 0 }
     {
@@ -390,7 +390,7 @@ impl Counts {
         }
     }
 
-    /// A file of so many bytes more.
+    /// Adds the blocks of a file of `len` bytes.
     pub fn take(&mut self, owner: u8, len: u32)
         requires there { owner < length self.old.blocks.items }
         requires used { slice_index_or self.old.blocks.items owner 0 ≤ 131072 }
@@ -402,7 +402,7 @@ impl Counts {
         self.blocks[owner as usize] += blocks_for(len);
     }
 
-    /// A file of so many bytes fewer.
+    /// Subtracts the blocks of a file of `len` bytes.
     pub fn give(&mut self, owner: u8, len: u32)
         requires there { owner < length self.old.blocks.items }
         requires used { blocks_for len ≤ slice_index_or self.old.blocks.items owner 0 }
@@ -414,7 +414,7 @@ impl Counts {
     }
 }
 
-/// What all versions of a file are found by: the name of the first.
+/// The name under which all versions of a file are found: that of generation 1.
 pub(crate) fn versions_of(full: &Full) -> Full
     ensures { result ≡ versions_of full.now }
 {

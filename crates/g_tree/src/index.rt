@@ -1,4 +1,4 @@
-//! What is known of files by full name.
+//! An index of files by full name.
 ghost use Rattle.std.specs.Prelude.{◌≡◌, ℕ, ◌+◌, ◌≤◌, OnOk, is_some, true};
 ghost use Rattle.std.specs.FinMap as finmap;
 ghost use Rattle.g_tree.specs.State.{closed, fallen, is_first_of_two, lifted, raised, settled};
@@ -9,9 +9,9 @@ use indexmap::IndexMap;
 use std::alloc::Global;
 use std::marker::Model;
 
-/// What is known under a full name: the number of its file, and, under the name of a first generation,
-/// the greatest generation of the file's versions, which is 0 under every other name. Where the first
-/// is gone and others are there, its name has no number.
+/// What the index has for a full name: the number of its file, and, under the name of a generation 1, the greatest
+/// generation of the file's versions, which is 0 under every other name. If generation 1 was removed and others exist,
+/// its name has no number.
 #[derive(Clone, Copy)]
 pub(crate) struct NameEntry {
     pub number: Option<u16>,
@@ -20,14 +20,14 @@ pub(crate) struct NameEntry {
     pub top: Option<u16>,
 }
 
-/// The newest of a file's versions: its generation and number, or 0 and None where there is none.
+/// The newest version of a file: its generation and number, or 0 and `None` if there is none.
 #[derive(Clone, Copy)]
 pub(crate) struct Newest {
     pub generation: u16,
     pub number: Option<u16>,
 }
 
-/// The newest of what is known is at least this generation, which has this number.
+/// The entry with its newest version raised to at least this generation, which has this number.
 pub(crate) fn lifted(entry: NameEntry, newest: u16, number: u16) -> NameEntry
     ensures { result ≡ lifted entry newest number }
 {
@@ -41,15 +41,14 @@ pub(crate) fn lifted(entry: NameEntry, newest: u16, number: u16) -> NameEntry
     }
 }
 
-/// Whether there are two versions, the first and the second.
+/// Whether there are exactly the generations 1 and 2.
 pub(crate) fn is_first_of_two(entry: NameEntry) -> bool
     ensures { result ≡ is_first_of_two entry }
 {
     entry.newest == 2 && entry.number.is_some()
 }
 
-/// A map from full names to what is known under them. Contracts see it beside how many more names fit
-/// without taking memory.
+/// A map from full names to entries. Contracts also see how many more names can be added without allocating.
 #[derive(Drop)]
 pub(crate) struct Index {
     names: IndexMap<Full, NameEntry>,
@@ -72,7 +71,7 @@ impl Model for Index {
 }
 
 impl Index {
-    /// No name, which takes no memory yet.
+    /// The empty index. It allocates nothing.
     pub fn new(alloc: Global) -> Index
         ensures { result.entries ≡ finmap.empty }
     {
@@ -87,7 +86,7 @@ impl Index {
         self.names.get(full).copied()
     }
 
-    /// Makes room for so many more names; without memory the room stays at least what it was.
+    /// Reserves memory for `more` names. If memory runs out, at least the earlier reserve remains.
     pub fn reserve(&mut self, more: usize) -> Result<(), NoMemory>
         ensures entries { self.new.entries ≡ self.old.entries }
         ensures ok { OnOk result (more ≤ self.new.spare) }
@@ -97,7 +96,7 @@ impl Index {
         Ok(())
     }
 
-    /// Sets what is known under a name, for which there is room, and gives back what was.
+    /// Sets the entry of a name, for which memory is reserved, and returns the earlier one.
     pub fn insert(&mut self, full: Full, entry: NameEntry) -> Option<NameEntry>
         requires { 1 ≤ self.old.spare }
         ensures was { result ≡ finmap.get self.old.entries full }
@@ -110,7 +109,7 @@ impl Index {
         }
     }
 
-    /// Sets what is known under a name that is there, which takes no room.
+    /// Replaces the entry of an existing name, without allocating.
     pub fn replace(&mut self, full: &Full, entry: NameEntry)
         requires { is_some (finmap.get self.old.entries full.now) ≡ true }
         ensures entries { self.new.entries ≡ finmap.insert self.old.entries full.now entry }
@@ -122,8 +121,8 @@ impl Index {
         }
     }
 
-    /// Raises the greatest generation under a name to this one, which has this number, where the name is
-    /// there, and tells whether it is.
+    /// Raises the newest version under a name to at least this generation, which has this number, if the name exists.
+    /// Returns whether it exists.
     pub fn raise(&mut self, full: &Full, newest: u16, number: u16) -> bool
         ensures there { result ≡ is_some (finmap.get self.old.entries full.now) }
         ensures entries { self.new.entries ≡ raised self.old.entries full.now newest number }
@@ -136,8 +135,8 @@ impl Index {
         true
     }
 
-    /// Where the greatest generation under the name of a first that is there is 2, it is 1 now. What was
-    /// known under the name.
+    /// If the newest version under the name of an existing generation 1 is generation 2, sets it to generation 1.
+    /// Returns the earlier entry of the name.
     pub fn fall(&mut self, full: &Full) -> Option<NameEntry>
         ensures was { result ≡ finmap.get self.old.entries full.now }
         ensures entries { self.new.entries ≡ fallen self.old.entries full.now }
@@ -158,7 +157,7 @@ impl Index {
         Some(was)
     }
 
-    /// Sets the newest under a name that is there.
+    /// Sets the newest version under an existing name.
     pub fn settle(&mut self, full: &Full, newest: Newest)
         requires { is_some (finmap.get self.old.entries full.now) ≡ true }
         ensures entries { self.new.entries
@@ -178,8 +177,8 @@ impl Index {
         }
     }
 
-    /// Takes the name of a first generation out by one look-up; where the greatest generation under it
-    /// is behind the first it stays without a number.
+    /// Removes the name of a generation 1 by one look-up. If the newest version under it has a greater generation, the
+    /// name remains, without a number.
     pub fn close(&mut self, full: &Full)
         ensures entries { self.new.entries ≡ closed self.old.entries full.now }
         ensures spare { self.old.spare ≤ self.new.spare }

@@ -1,4 +1,4 @@
-//! Laws of records, which hold wherever they stand: in memory, on a disc and in a dump.
+//! Laws of records, which hold for records in memory, on a disc and in a dump.
 ghost use Rattle.std.specs.Prelude.{◌≡◌, ◌≢◌, ◌+◌, ◌^◌, ◌<◌, ◌≤◌, ◌==◌, ◌&&◌, not, nat_le, is_none, ℕ, List, [], ◌∷◌, ◌++◌, Contains, Some, None, length, slice_set, unwrap_or};
 ghost use Rattle.std.specs.Option.{option_map};
 ghost use Rattle.std.specs.FinMap.{get, insert, len};
@@ -15,7 +15,7 @@ ghost use Rattle.g_plain.specs.Rules.{IsTree};
 ghost use Rattle.g_tree.specs.Records.{IsRecords, HasLengths, name_of, full_of, traps_named, user_row_of, file_row_of, tree_of, users_by_name, by_name, by_number, number_of, user_number};
 ghost use Rattle.g_tree.specs.State.{with_file, without_file, without_number};
 
-/// Records that keep their rules stand for a tree that keeps its own, with as many users and files.
+/// Records that satisfy their rules represent a tree that satisfies its rules, with as many users and files.
 pub fn records_make_a_tree()
     ensures rules { (users : List UserRec) (files : List FileRec) (bytes : FileRec → List ℕ)
         (next : ℕ)
@@ -29,7 +29,7 @@ pub fn records_make_a_tree()
         → IsRecords users files → len (tree_of users files bytes next).files ≡ length files }
 {}
 
-/// The rows of the tree are those of the records, whichever way these are found.
+/// The rows of the tree are those of the records, for each way of finding these.
 pub fn rows_are_of_records()
     ensures users { (users : List UserRec) (files : List FileRec) (bytes : FileRec → List ℕ)
         (next : ℕ) (name : List ℕ)
@@ -46,7 +46,7 @@ pub fn rows_are_of_records()
         → get (by_number files) number ≡ get (by_name users files) full }
 {}
 
-/// A user's number and name, a file's owner and a user's superior go by number as they go by name.
+/// Looking up by number and by name agree, for users, owners of files and superiors.
 pub fn users_go_by_name()
     ensures same { (users : List UserRec) (files : List FileRec) (i j : ℕ)
         → IsRecords users files → j < length users
@@ -64,7 +64,7 @@ pub fn users_go_by_name()
         ≡ (u.superior == who) }
 {}
 
-/// A file's traps by the numbers of users are those by their names.
+/// The traps of a file by users' numbers agree with those by users' names.
 pub fn traps_go_by_name()
     ensures modes { (users : List UserRec) (files : List FileRec) (r : FileRec) (user : ℕ)
         → IsRecords users files → Contains files r
@@ -123,7 +123,7 @@ pub fn records_change_the_tree()
         ≡ record t { files = without_number users files number t.files } }
 {}
 
-/// The tree depends on the bytes of its records alone.
+/// Of the bytes of files, the tree depends only on those of its records.
 pub fn bytes_go_by_record()
     ensures same_bytes { (users : List UserRec) (files : List FileRec) (old new : FileRec → List ℕ)
         (next : ℕ)
@@ -140,7 +140,7 @@ pub fn bytes_go_by_record()
         } }
 {}
 
-/// Whether a call is refused, and why, goes by the lengths of files and by no byte of theirs.
+/// Whether and why a call is refused depends on the lengths of files, but not on their bytes.
 pub fn refusals_go_by_length()
     ensures { (users : List UserRec) (files : List FileRec) (bytes other : FileRec → List ℕ)
         (next : ℕ) (who : List ℕ) (call : StoreCall)

@@ -1,5 +1,5 @@
-//! The users and files of a filestore in memory, as numbered records without bytes. Its calls are
-//! those of the plain directory tree that the records stand for.
+//! The users and files of a filestore in memory, as numbered records without bytes. Its calls are those of the plain
+//! directory tree that the records represent.
 #![tactic(auto)]
 
 mod asked;

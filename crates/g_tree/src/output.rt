@@ -1,7 +1,7 @@
 //! What a path for output names.
 
-/// What a path for output names: a file that is there, by its number; a new one with this
-/// generation; or none, where no generation is given and 4,095 is there.
+/// The file that a path names for output: an existing one, by its number; a new one with this generation; or none, if
+/// the path has no generation and 4,095 exists.
 #[derive(Clone, Copy, PartialEq, Eq)]
 pub enum Output {
     Replace(u16),

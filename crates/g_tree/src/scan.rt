@@ -1,4 +1,4 @@
-//! What is read off the records of users and files, one after another.
+//! Functions that scan the records of users and files.
 ghost use Rattle.std.specs.Prelude.{◌≡◌, ◌<◌, ◌==◌, ◌&&◌, map, filter, length, All, IfOk};
 ghost use Rattle.std.specs.FinMap as finmap;
 ghost use Rattle.g_plain.specs.PlainTree.{is_version_of};
@@ -14,7 +14,7 @@ use g_name::Full;
 use g_table::FileTable;
 use std::alloc::Global;
 
-/// The full name of a file whose owner is there.
+/// The full name of a file whose owner exists.
 pub fn full_of(users: &[UserRec], file: &FileRec) -> Full
     requires { file.now.owner < length users.now }
     ensures { result ≡ full_of users.now file.now }
@@ -27,14 +27,14 @@ pub fn full_of(users: &[UserRec], file: &FileRec) -> Full
     }
 }
 
-/// Whether two files have the same full name. No name of a user is looked at.
+/// Whether two files have the same full name. It compares no names of users.
 pub(crate) fn has_same_name(a: &FileRec, b: &FileRec) -> bool
     ensures { result ≡ same_name a.now b.now }
 {
     a.owner == b.owner && a.local == b.local && a.generation == b.generation && a.lang == b.lang
 }
 
-/// Whether a file whose owner is there has this full name, but for the generation.
+/// Whether a file whose owner exists has this full name, apart from the generation.
 fn is_version_of(users: &[UserRec], name: &Full, file: &FileRec) -> bool
     requires { file.now.owner < length users.now }
     ensures { result ≡ is_version_of name.now (full_of users.now file.now) }
@@ -45,7 +45,7 @@ fn is_version_of(users: &[UserRec], name: &Full, file: &FileRec) -> bool
         && name.user == users[file.owner as usize].user
 }
 
-/// The greatest generation of the versions of a file among the files but the one of this number.
+/// The greatest generation of the versions of a file, not counting the file of this number.
 pub(crate) fn newest_besides(users: &[UserRec], name: &Full, files: &FileTable, number: u16) -> u16
     requires { All (λ r. r.owner < length users.now) files.now }
     ensures { result ≡ newest_of users.now name.now (without_file number files.now) }

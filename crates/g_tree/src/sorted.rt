@@ -12,8 +12,8 @@ use std::alloc::Global;
 use std::collections::BTreeMap;
 use std::marker::Model;
 
-/// A full name without the user. The order is by local name, generation and language, which is that of the full names of
-/// one user's files.
+/// A full name without the user. Names are ordered by local name, generation and language, which is the order of the
+/// full names of one user's files.
 #[derive(Drop, PartialEq, Eq, PartialOrd, Ord)]
 pub(crate) struct LocalName {
     pub(crate) local: Local,
@@ -32,7 +32,7 @@ pub(crate) fn name_in(file: &FileRec) -> LocalName
     }
 }
 
-/// Numbers of one user's files by name, in order.
+/// The numbers of one user's files, in the order of their names.
 #[derive(Drop)]
 pub(crate) struct Sorted {
     numbers: BTreeMap<LocalName, u16>,
@@ -52,7 +52,7 @@ impl Model for Sorted {
 }
 
 impl Sorted {
-    /// No name, which takes no memory yet.
+    /// The empty map. It allocates nothing.
     pub fn new(alloc: Global) -> Sorted
         ensures { result ≡ finmap.empty }
     {

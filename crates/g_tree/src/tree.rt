@@ -1,4 +1,4 @@
-//! The users and files of a filestore, and what is asked of them.
+//! The users and files of a filestore, and queries about them.
 ghost use Rattle.std.specs.Prelude.{◌≡◌, ℕ, ◌≤◌, ◌*◌, List, IfOk, IfSome, IfNone, is_some, slice_get, []};
 ghost use Rattle.std.specs.Option.{option_copied};
 ghost use Rattle.std.specs.FinMap as finmap;
@@ -21,17 +21,16 @@ use g_table::FileTable;
 use std::alloc::Global;
 use std::marker::Model;
 
-/// Users in order of number, at most 63, and files by number, at most 1,024. A user's number is the
-/// place among users; the first two are `MASTER` and `MACROS`. Contracts see the records, and
-/// beside them how many more users and files fit without taking memory. The rules of records are those
-/// of docs/FORMATS.md.
+/// Users in order of number, at most 63, and files by number, at most 1,024. A user's number is its position; the first
+/// two are `MASTER` and `MACROS`. Contracts see the records, and how many more users and files can be added without
+/// allocating. The rules of records are those of docs/FORMATS.md.
 #[derive(Drop)]
 pub struct Tree {
     users: Vec<UserRec>,
     files: FileTable,
     counts: Counts,
 
-    // A box for the next file, so that putting it in takes no memory.
+    // A box for the next file, so that adding it doesn't allocate.
     room: Option<BoxedRec>,
     alloc: Global,
 }
@@ -55,7 +54,7 @@ impl Model for Tree {
 }
 
 impl Tree {
-    /// The users of a new filestore, and no file.
+    /// The users of a new filestore, and no files.
     pub fn new(alloc: Global) -> Result<Tree, NoMemory>
         ensures users { IfOk result (λ t. t.users ≡ first_users) }
         ensures files { IfOk result (λ t. t.files ≡ []) }
@@ -81,7 +80,7 @@ impl Tree {
         }
     }
 
-    /// The record of the user of this name, where it stands.
+    /// The record of the user of this name, by reference.
     pub(crate) fn find_user(&self, name: &User) -> Option<&UserRec>
         ensures value { option_copied result ≡ finmap.get (users_by_name self.now.users) name.now }
         ensures there { ForTree self.now.users self.now.files
@@ -131,8 +130,8 @@ impl Tree {
         &self.files
     }
 
-    /// The number of the file that a path names for input, where an absent user is the owner of this
-    /// number. None also where there is no such user.
+    /// The number of the file that a path names for input. An absent user means the owner of this number. `None` also
+    /// if there is no such user.
     pub fn find(&self, owner: u8, path: &Path) -> Option<u16>
         ensures number { ForTree self.now.users self.now.files
             (λ t. result ≡ number_of self.now.users self.now.files
@@ -147,7 +146,7 @@ impl Tree {
         }
     }
 
-    /// The number of the file of this full name, in one look-up.
+    /// The number of the file of this full name, found by one look-up.
     pub fn number_of(&self, full: &Full) -> Option<u16>
         ensures number { result ≡ number_of self.now.users self.now.files full.now }
         ensures named { IfSome result (λ number. name_of_file self.now.users self.now.files number
@@ -159,8 +158,8 @@ impl Tree {
         self.counts.find(full)
     }
 
-    /// What a path names for output, where an absent user is the owner of this number. Where there is
-    /// no such user no file is there, so this is the first generation, or the one that is given.
+    /// The file that a path names for output. An absent user means the owner of this number. If there is no such user,
+    /// there is no such file, so it is a new one with generation 1 or the given one.
     pub fn output(&self, owner: u8, path: &Path) -> Output
         ensures { ForTree self.now.users self.now.files
             (λ t. IsOutput self.now.users self.now.files
@@ -185,7 +184,7 @@ impl Tree {
         }
     }
 
-    /// The blocks of 512 bytes of the files of the owner of this number.
+    /// The number of blocks of 512 bytes of the files of the owner of this number.
     pub fn used(&self, owner: u8) -> u32
         ensures used { (bytes : FileRec → List ℕ) (next : ℕ) → HasLengths self.now.files bytes
             → result ≡ tree.used_blocks (tree_of self.now.users self.now.files bytes next)
@@ -204,8 +203,8 @@ impl Tree {
         sorted.numbers(alloc)
     }
 
-    /// The user whom a path names, or the owner of this number. None where a user is wanted whose
-    /// number isn't used.
+    /// The user whom a path names, or the owner of this number. `None` if the path names no user and no user has this
+    /// number.
     fn user_of(&self, owner: u8, path: &Path) -> Option<User>
         ensures some { IfSome result (λ user. user
             ≡ tree.owner_of (name_of self.now.users owner) path.now) }
@@ -222,7 +221,7 @@ impl Tree {
         }
     }
 
-    /// The full name that a path gives with generation 1, by which all versions are found.
+    /// The full name of a path with generation 1, under which all versions are found.
     fn named(&self, owner: u8, path: &Path) -> Option<Full>
         ensures some { IfSome result (λ full. full
             ≡ tree.named (name_of self.now.users owner) path.now 1) }
@@ -244,7 +243,7 @@ impl Tree {
         })
     }
 
-    /// The full name that a path gives for input.
+    /// The full name of a path for input.
     fn input_name(&self, owner: u8, path: &Path) -> Option<Full>
         ensures some { IfSome result (λ full. ForTree self.now.users self.now.files
             (λ t. full ≡ tree.input_name t (name_of self.now.users owner) path.now)) }
@@ -275,7 +274,7 @@ impl Tree {
         }
     }
 
-    /// The greatest generation of the files of this user, local name and language, or 0.
+    /// The greatest generation of the files with this user, local name and language, or 0.
     pub fn newest(&self, name: &Full) -> u16
         ensures newest { result ≡ newest_of self.now.users name.now self.now.files }
         ensures few { result ≤ 4095 }
@@ -284,7 +283,7 @@ impl Tree {
         self.newest_by(&versions_of(name))
     }
 
-    /// The greatest generation of the versions of the file whose first has this name, or 0.
+    /// The greatest generation of the versions of the file whose generation 1 has this name, or 0.
     pub(crate) fn newest_by(&self, first: &Full) -> u16
         requires { first.now.generation ≡ 1 }
         ensures newest { result ≡ newest_of self.now.users first.now self.now.files }
@@ -294,7 +293,7 @@ impl Tree {
         self.newest_file(first).generation
     }
 
-    /// The newest of the versions of the file whose first has this name, in one look-up.
+    /// The newest version of the file whose generation 1 has this name, found by one look-up.
     pub(crate) fn newest_file(&self, first: &Full) -> Newest
         requires { first.now.generation ≡ 1 }
         ensures newest { result.generation ≡ newest_of self.now.users first.now self.now.files }

@@ -1,4 +1,5 @@
--- Works within limits, and programs that keep them: what is made of others.
+-- Works within limits, and programs that keep to them: closure under the ways to build them.
+-- serves: CommandBounds, DocumentLemmas, KeptLemmas, RunBounds, UnitsLemmas, VerbBounds, crates above
 use Rattle.std.proofs.Common.{◌≡◌, ℕ, ◌+◌, ◌≤◌, Bool, true, false, List, [], ◌∷◌, ◌++◌, length, length-append, nat_lt, Option, Some, None, Err, IfSome, is_some, if◌then◌else◌, refl, sym, subst, le_trans, arith}
 use Rattle.std.proofs.lemmas.Bool.{ltb-false}
 use Rattle.g_base.specs.Block.{blocks_for}
@@ -17,12 +18,12 @@ use Rattle.g_plain.specs.declared.calls.StoreCall.{StoreCall}
 use Rattle.g_plain.specs.declared.faults.StoreFault.{StoreFault}
 use Rattle.g_plain.specs.declared.faults.StoreFault.TheVariants as fault
 
--- so much text, so many orders, so many blocks, 16 outputs; and what was kept and what is gone on with are as they should
+-- at most this much text, this many orders and blocks, 16 outputs; and what was stored and what the turn resumes with are well-formed
 abbrev pub Good : ℕ → ℕ → ℕ → Work → Type 0
 Good room runs most w =
     (length w.text ≤ room) × (w.orders ≤ runs) × (w.blocks ≤ most) × (length w.desk.units.writers ≤ 16) × IfSome w.again (IsKeptWithin room) × HasMore w.stop w.again
 
--- something is there to go on with
+-- there is something to resume with
 abbrev pub There : Work → Type 0
 There w = is_some w.again ≡ true
 
@@ -40,7 +41,7 @@ pub if_there : (b : Bool) (x y : Work) → There x → There y → There (if b t
 if_there true x y tx ty = tx
 if_there false x y tx ty = ty
 
--- a line is said
+-- a line is printed
 said_by : (room runs most : ℕ) (line : List ℕ) (w : Work) (b : Bool) → nat_lt room (length w.text + length (ended line)) ≡ b → Good room runs most w
     → Good room runs most (if b then stopped Full w else record w { text = w.text ++ ended line })
 said_by room runs most line w true is g = (g.0, g.1, g.2, g.3, g.4, tt)
@@ -64,14 +65,14 @@ say_all_good room runs most (line ∷ lines) w g =
 pub error_good : (room runs most : ℕ) (error : CommandError) (w : Work) → Good room runs most w → Good room runs most (in_error room error w)
 error_good room runs most error w g = say_good room runs most (marked mark.Error (error_line error)) (set_outcome true note.None w) g
 
--- a call was refused, which waits only where it may and where something is there to go on with
+-- a refused call waits only if it may, and only if there is something to resume with
 pub refused_good : (room runs most : ℕ) (asked : StoreCall) (refusal : StoreFault) (w : Work) → MayAnswer asked (Err refusal) → (may_wait asked ≡ true → There w)
     → Good room runs most w → Good room runs most (refused room refusal w)
 refused_good room runs most asked (fault.WaitTape serial) w may there g = (g.0, g.1, g.2, g.3, g.4, there may)
 refused_good room runs most asked fault.Stopped w may there g = (g.0, g.1, g.2, g.3, g.4, tt)
 refused_good room runs most asked refusal w may there g = say_good room runs most (marked mark.Error (fault_line refusal)) (set_outcome true note.None w) g
 
--- a file's bytes are 128 blocks at most
+-- the bytes of a file take at most 128 blocks
 pub few_blocks : (n : ℕ) → n ≤ 65536 → blocks_for n ≤ 128
 few_blocks n most = omega (arith, most)
 
@@ -81,7 +82,7 @@ bytes_good room runs most bytes w short g =
     let before : w.blocks ≤ most = g.2 in
     (g.0, g.1, omega (arith, few, before), g.3, g.4, g.5)
 
--- something to go on with is enough for any stop
+-- something to resume with satisfies every way to stop
 pub more_some : (stop : Option Stop) (pending : Pending) → HasMore stop (Some pending)
 more_some None pending = tt
 more_some (Some Full) pending = tt
@@ -89,7 +90,7 @@ more_some (Some (Waits serial)) pending = refl
 more_some (Some Broken) pending = tt
 more_some (Some Done) pending = tt
 
--- what programs give
+-- what programs return
 module _ (P Q : Work → Type 0) where
   pub gives_more : ((w : Work) → P w → Q w) → (p : Asks Work) → AlwaysGives P p → AlwaysGives Q p
   gives_more weaker (Gives w) g = weaker w g

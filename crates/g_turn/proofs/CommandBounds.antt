@@ -1,4 +1,5 @@
--- The programs of commands, lines and turns keep the limits.
+-- The programs of commands, lines and turns stay within the limits.
+-- serves: crates above
 use Rattle.std.proofs.Common.{ℕ, ◌+◌, ◌≤◌, Bool, true, false, List, Option, Some, None, Result, Ok, Err, codes, refl, le_refl, lit≤, arith}
 use Rattle.g_turn.specs.Bounds.{AlwaysGives}
 use Rattle.g_turn.specs.Commands.{acted, command, done_if, gone, kept, passes_document}
@@ -24,7 +25,7 @@ use Rattle.g_verbs.specs.VerbReader.{action_read}
 use Rattle.g_verbs.specs.declared.action.Action.{Action}
 
 module _ (room : ℕ) (who : List ℕ) where
-  -- what was within less is within more
+  -- a smaller limit implies a larger one
   more : (most most' : ℕ) (w : Work) → most ≤ most' → In room most w → In room most' w
   more most most' w less g = good_more room 64 64 most most' w (le_refl 64) less g
 
@@ -57,7 +58,7 @@ module _ (room : ℕ) (who : List ℕ) where
   if_said_gives by most None w there g = more most (most + 2048) w (omega arith) g
   if_said_gives by most (Some said) w there g = command_gives by most said w there g
 
-  -- the WHENEVER: what was kept of the line before it is within what a line uses
+  -- the WHENEVER: what was stored of the line before it is within the limits of a line
   read_gives : (r : Reading) (w : Work) → There w → In room 2048 w → AlwaysGives (In room 4096) (does_read room who r w)
   read_gives (Err place) w there g = more 2048 4096 w (lit≤ tt) g
   read_gives (Ok said) w there g = if_said_gives true 2048 said.command w there g
@@ -89,7 +90,7 @@ module _ (room : ℕ) (who : List ℕ) where
       then_gives (In room 2048) (In room 4096) (does_line room who (reading text) w) (may_fire room who) (does_line_gives (reading text) w there g)
       (λ v h over. more 2048 4096 v (lit≤ tt) h) (λ v h on. may_fire_gives v h)
 
-  -- a work with something to go on with
+  -- a work with something to resume with
   abbrev pub Held : ℕ → Work → Type 0
   Held most w = There w × In room most w
 
@@ -116,7 +117,7 @@ module _ (room : ℕ) (who : List ℕ) where
   takes_gives (Line text) w g = line_gives text w g
   takes_gives (TooLong front) w g = long_line_gives front w g
 
-  -- a run that goes on
+  -- a run that continues
   unless_gives : (by : Bool) (w : Work) → In room 0 w → AlwaysGives (In room 4096) (fires_unless room who by w)
   unless_gives by w g = if_gives (In room 4096) by (Gives w) (may_fire room who w) (more 0 4096 w (lit≤ tt) g) (may_fire_gives w (more 0 2048 w (lit≤ tt) g))
 

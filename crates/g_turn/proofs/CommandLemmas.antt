@@ -1,4 +1,5 @@
 -- The programs of commands, of lines and of turns are honest.
+-- serves: crates above
 use Rattle.std.proofs.Common.{ℕ, Bool, true, false, List, Option, Some, None, Result, Ok, Err, codes}
 use Rattle.g_turn.specs.Causes.{GoesOn, IsHonest}
 use Rattle.g_turn.specs.Commands.{acted, command, done_if, gone, kept, passes_document}

@@ -1,4 +1,5 @@
--- No turn changes the lines of a job's document, or whether it is held open; a turn may drop the document, once that isn't held.
+-- No turn changes the lines of a job's document, or whether it is held open. A turn may drop the document once it isn't held open.
+-- serves: crates above
 use Rattle.std.proofs.Common.{◌≡◌, ◌⊎◌, ℕ, ◌<◌, Bool, true, false, List, [], ◌∷◌, length, nat_le, Option, Some, None, Result, Ok, Err, IfSome, is_some, refl, sym, ◌∙◌, ap, subst, inl, inr, if◌then◌else◌, ◌||◌, ◌&&◌, take, arith}
 use Rattle.std.proofs.lemmas.Bool.{false≢true}
 use Rattle.g_turn.specs.Bounds.{AlwaysGives}
@@ -24,18 +25,18 @@ use Rattle.g_monitor.specs.declared.errors.CommandError.TheVariants as errors
 use Rattle.g_monitor.specs.declared.job_lines.Mark.TheVariants as mark
 use Rattle.g_plain.specs.Programs.{Asks, Gives}
 
--- the document is there, with these lines
+-- the document is the last level, with these lines
 abbrev pub Document : List (List ℕ) → List Level → Type 0
 Document lines levels = (0 < length levels) × ((document_level levels).lines ≡ lines)
 
--- or no level is there
+-- the document is the last level, or there is no level
 abbrev pub SameOrNone : List (List ℕ) → List Level → Type 0
 SameOrNone lines levels = (levels ≡ []) ⊎ ((document_level levels).lines ≡ lines)
 
 no_level : {P : Type 0} → 0 < 0 → P
 no_level less = absurd (let no : ⊥ = omega (arith, less) in no)
 
--- the current level is another of the same lines
+-- the current level is replaced by another with the same lines
 change_lines : (change : Level → Level) → KeepsLines change → (level : Level) (below : List Level) → (document_level (change level ∷ below)).lines ≡ (document_level (level ∷ below)).lines
 change_lines change same level [] = same level
 change_lines change same level (other ∷ below) = refl
@@ -44,12 +45,12 @@ change_document : (change : Level → Level) → KeepsLines change → (lines : 
 change_document change same lines [] d = d
 change_document change same lines (level ∷ below) d = (omega arith, change_lines change same level below ∙ d.1)
 
--- a macro's level comes on top
+-- a macro's level is pushed
 call_document : (level : Level) (lines : List (List ℕ)) (levels : List Level) → Document lines levels → Document lines (level ∷ levels)
 call_document level lines [] d = no_level d.0
 call_document level lines (other ∷ below) d = (omega arith, d.1)
 
--- the levels above that of a WHENEVER go
+-- the levels above that of a WHENEVER are dropped
 abbrev FiresIn : List Level → Option (List ℕ × List Level) → Type 0
 FiresIn levels found = IfSome found (λ x. (0 < length x.1) × ((document_level x.1).lines ≡ (document_level levels).lines))
 
@@ -69,7 +70,7 @@ fired_document outcome (level ∷ below) = by (entry_that_holds level outcome) (
     by (Some entry) rest = (omega arith, refl)
     by None rest = fires_below level below (fired outcome below) rest (fired_none outcome below)
 
--- the levels without a line go
+-- the levels without a line are dropped
 live_document : (held : Bool) (lines : List (List ℕ)) (levels : List Level) → SameOrNone lines levels → SameOrNone lines (live held levels)
 live_document held lines [] h = inl refl
 live_document held lines (level ∷ []) h = by (has_line level || (held && true))
@@ -103,7 +104,7 @@ module _ (held : Bool) (lines : List (List ℕ)) where
   abbrev pub HasIt : Work → Type 0
   HasIt w = Has w.desk.levels
 
-  -- and what a turn is gone on with has a level
+  -- and if the turn has something to resume with, it has a level
   abbrev pub GoesOnWell : Option Pending → List Level → Type 0
   GoesOnWell again levels = is_some again ≡ true → 0 < length levels
 
@@ -176,7 +177,7 @@ module _ (held : Bool) (lines : List (List ℕ)) where
     end_leaves : (w : Work) → w.again ≡ None → Left w.desk.levels → AlwaysGives LeavesIt (end_job room w)
     end_leaves w none h = gives_more (Keeps w.again Left) LeavesIt (λ v k. left_none w v none k) (end_job room w) (end_keeps w.again Left room w (refl, h))
 
-    -- what is taken of the levels
+    -- what is taken from the levels
     as_taken_leaves : (text : List ℕ) (w : Work) → HasIt w → AlwaysGives LeavesIt (takes room who (as_taken text) w)
     as_taken_leaves text w h = by (nat_le (length text) 240)
       where
@@ -203,7 +204,7 @@ module _ (held : Bool) (lines : List (List ℕ)) where
         by true = as_taken_leaves text (with_levels one w) (is, (omega arith, change_lines line_taken (λ l. refl) level below ∙ same))
         by false = end_leaves (with_levels still w) none (is, inr same)
 
-    -- a run that goes on
+    -- a run that continues
     fires_leaves : (levels : List Level) (w : Work) → w.desk.levels.levels ≡ levels → LeavesIt w → AlwaysGives LeavesIt (may_fire room who w)
     fires_leaves [] w is h =
         let none : fired w.desk.outcome w.desk.levels.levels ≡ None = fired_none w.desk.outcome w.desk.levels.levels is in

@@ -1,4 +1,5 @@
 -- A line that is a GOTO.
+-- serves: run_document_line (err, ok)
 use Rattle.std.proofs.Common.{Bool, Err, List, Ok, Option, Result, Some, ap, false, refl, subst, sym, ℕ, ◌∙◌, ◌≡◌}
 use Rattle.g_lang.specs.LineReader.{reading}
 use Rattle.g_lang.specs.Lines.{Reading, Said}
@@ -16,7 +17,7 @@ use Rattle.g_turn.specs.Steps.{RanWell}
 use Rattle.g_turn.proofs.WellThen.{part_then, well_then}
 
 module _ (room : ℕ) (who : List ℕ) where
-  -- what is done of it, and of the WHENEVER behind
+  -- the work of the line, and of the WHENEVER after it
   abbrev pub Goes : List ℕ → Work → Asks Work
   Goes label w = and_then is_over (Gives (gone room (line_of_label label (current w.desk.levels).lines) w)) (may_fire room who)
 
@@ -31,7 +32,7 @@ module _ (room : ℕ) (who : List ℕ) where
       ∙ ap (λ (p : Asks Work). and_then is_over p (may_fire room who)) (does read label w is)
 
   module _ {S : Type 0} (answers : S → List ℕ → StoreCall → Answer → S → Type 0) (is_spent : S → Bool) (can_wait : S → ℕ → Bool) where
-    -- the line was done
+    -- the line was executed
     pub goes : (text label : List ℕ) (read : Result Line LangFault) (w v given : Work) (old new : S) → v ≡ says_line room text w → is_over v ≡ false
         → reading text ≡ read_as read → SaysGoto read label → RanWell answers is_spent can_wait who old (Goes label v) given new
         → RanWell answers is_spent can_wait who old (line room who text w) given new
@@ -39,7 +40,7 @@ module _ (room : ℕ) (who : List ℕ) where
         well_then answers is_spent can_wait who (Gives (says_line room text w)) (behind_echo room who text) old old new v given (said, refl) over
         (subst (λ (p : Asks Work). RanWell answers is_spent can_wait who old p given new) (sym (echoed text label read v same is)) did)
 
-    -- and where memory was wanting on its way
+    -- the line ran out of memory on its way
     pub goes_part : (text label : List ℕ) (read : Result Line LangFault) (w v : Work) (old new : S) → v ≡ says_line room text w → is_over v ≡ false
         → reading text ≡ read_as read → SaysGoto read label → RanInPart answers who old (Goes label v) new → RanInPart answers who old (line room who text w) new
     goes_part text label read w v old new said over same is did =

@@ -1,4 +1,5 @@
--- Works that go on, and programs that are honest: what is made of others.
+-- Works that continue, and honest programs: closure under the ways to build them.
+-- serves: CommandLemmas, RunLemmas, VerbLemmas
 use Rattle.std.proofs.Common.{◌≡◌, ℕ, Bool, true, false, List, [], ◌∷◌, ◌++◌, ◌+◌, length, nat_lt, Option, Some, None, Err, is_some, if◌then◌else◌, refl, sym, ap, subst}
 use Rattle.g_turn.specs.Causes.{GoesOn, IsHonest, IsOther, StopsAt}
 use Rattle.g_turn.specs.Outcomes.{set_outcome, in_error, is_over, refused, say, say_all, stopped}
@@ -13,7 +14,7 @@ use Rattle.g_plain.specs.Programs.{Asks, Call, Gives, and_then}
 use Rattle.g_plain.specs.declared.faults.StoreFault.{StoreFault}
 use Rattle.g_plain.specs.declared.faults.StoreFault.TheVariants as fault
 
--- either of two works goes on
+-- if either of two works continues, so does the chosen one
 pub if_goes : (b : Bool) (x y : Work) → GoesOn x.stop → GoesOn y.stop → GoesOn (if b then x else y).stop
 if_goes true x y gx gy = gx
 if_goes false x y gx gy = gy
@@ -48,7 +49,7 @@ none_goes (Some stop) is = absurd cc
 pub not_over_goes : (w : Work) → is_over w ≡ false → GoesOn w.stop
 not_over_goes w is = none_goes w.stop is
 
--- what comes behind an honest program keeps it honest
+-- an honest program followed by another is honest
 stops_then : (stop : Stop) (p : Asks Work) (next : Work → Asks Work) → StopsAt stop p → StopsAt stop (and_then is_over p next)
 stops_then stop (Gives x) next s =
     let over : is_over x ≡ true = ap (λ (o : Option Stop). is_some o) s in

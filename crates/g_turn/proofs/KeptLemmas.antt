@@ -1,5 +1,6 @@
--- No verb and no command changes what a turn is gone on with, and each keeps what is so of the levels, whatever that be, where it goes on with
--- another current level of the same lines and with a macro's level on top.
+-- No verb and no command changes what a turn resumes with. Each preserves any property of the levels that is preserved by replacing the current level
+-- by one with the same lines and by pushing a macro's level.
+-- serves: DocumentLemmas, ReadyLemmas
 use Rattle.std.proofs.Common.{◌≡◌, ℕ, suc, zero, ◌+◌, ◌-◌, Bool, true, false, List, [], ◌∷◌, ◌++◌, length, nat_lt, Option, Some, None, Result, Ok, Err, unwrap_or, codes, if◌then◌else◌, refl}
 use Rattle.g_turn.specs.Actions.{act}
 use Rattle.g_turn.specs.Asking.{append, append_told, by_answer, one_call, put, put_told}
@@ -49,12 +50,12 @@ use Rattle.g_verbs.specs.VerbReader.{action_read}
 use Rattle.g_verbs.specs.declared.action.Action.{Action}
 use Rattle.g_verbs.specs.declared.action.Action.TheVariants as action
 
--- another level of the same lines
+-- a level with the same lines
 abbrev pub KeepsLines : (Level → Level) → Type 0
 KeepsLines change = (level : Level) → (change level).lines ≡ level.lines
 
 module _ (again : Option Pending) (G : Stack → Type 0) where
-  -- the turn is gone on with this, and this is so of the levels
+  -- the turn resumes with this, and the levels have the property
   abbrev pub Keeps : Work → Type 0
   Keeps w = (w.again ≡ again) × G w.desk.levels
 
@@ -204,7 +205,7 @@ module _ (again : Option Pending) (G : Stack → Type 0) where
         then_gives Keeps Keeps (release_all room (done (dropped w))) (deleted room) (all_released_keeps (done (dropped w)) h) (λ v hv over. hv)
         (λ v hv on. say_keeps room (job_line line.Deleted) v hv)
 
-    -- where commands change the levels
+    -- commands that change the levels
     module _ (on_change : (change : Level → Level) → KeepsLines change → (s : Stack) → G s → G (with_current change s))
         (on_call : (lines params : List (List ℕ)) (s : Stack) → G s → G (called lines params s)) where
       called_keeps : (params : List (List ℕ)) (bytes : List ℕ) (w : Work) → Keeps w → Keeps (macro_called room params bytes w)
@@ -278,7 +279,7 @@ module _ (again : Option Pending) (G : Stack → Type 0) where
       command_keeps who by (SaidWhenever cond text) w h = kept_keeps cond text w h
       command_keeps who by (SaidVerb verb params rest) w h = acted_keeps who by verb (action_read verb params rest) w h
 
-      -- WHATEVER A COMMAND DOES
+      -- ANY COMMAND
       pub said_keeps : (who : List ℕ) (by : Bool) (said : Option Said) (w : Work) → Keeps w → AlwaysGives Keeps (done_if room who by said w)
       said_keeps who by None w h = h
       said_keeps who by (Some said) w h = command_keeps who by said w h

@@ -1,4 +1,5 @@
 -- A run of the program, order by order.
+-- serves: go_on (ok), step (ok), PlainLemmas
 use Rattle.std.proofs.Common.{◌≡◌, ◌+◌, ◌-◌, ◌<◌, ◌≤◌, ℕ, suc, Bool, true, false, List, Option, Some, None, if◌then◌else◌, length, nat_lt, refl, sym, ap, ◌∙◌, subst, arith}
 use Rattle.g_turn.specs.Runs.{Ends, Goes, behind_event, behind_order, by_event, goes_on, next_order, order_of, run_orders}
 use Rattle.g_turn.specs.Outcomes.{is_over, say}
@@ -13,7 +14,7 @@ use Rattle.g_peri.specs.OneOrder.{order_with}
 use Rattle.g_peri.specs.declared.ordered.OrderEvent.{OrderEvent}
 use Rattle.g_peri.specs.declared.ordered.OrderEvent.TheVariants as came
 
--- a line counts as no order
+-- printing a line counts no order
 if_orders : (b : Bool) (x y : Work) (n : ℕ) → x.orders ≡ n → y.orders ≡ n → (if b then x else y).orders ≡ n
 if_orders true x y n ex ey = ex
 if_orders false x y n ex ey = ey
@@ -21,7 +22,7 @@ if_orders false x y n ex ey = ey
 say_orders : (room : ℕ) (text : List ℕ) (w : Work) → (say room text w).orders ≡ w.orders
 say_orders room text w = if_orders (nat_lt room (length w.text + length (ended text))) _ _ w.orders refl refl
 
--- an order that goes on counts as one
+-- an order after which the run continues counts as one
 event_orders : (room : ℕ) (event : OrderEvent) (w v : Work) → by_event room event w ≡ Goes v → v.orders ≡ w.orders
 event_orders room came.Ran w v is = let same : w ≡ v = cc in ap (λ (x : Work). x.orders) (sym same)
 event_orders room (came.Displayed text) w v is =
@@ -55,17 +56,17 @@ goes_nowhere room w many =
     let is : 64 - w.orders ≡ 0 = omega (arith, many) in
     subst (λ (n : ℕ). run_orders room n w ≡ w) (sym is) refl
 
--- the run is over behind the next order
+-- the run is over after the next order
 pub run_ends : (room : ℕ) (w v : Work) → w.orders < 64 → next_order room w.desk.program w ≡ Ends v → goes_on room w ≡ v
 run_ends room w v few is = run_next room w few ∙ order_ends room (run_orders room (63 - w.orders)) w.desk.program w v is
 
--- the work is over behind the next order
+-- the work is over after the next order
 pub run_stops : (room : ℕ) (w v : Work) → w.orders < 64 → next_order room w.desk.program w ≡ Goes v → is_over v ≡ true → goes_on room w ≡ v
 run_stops room w v few is over =
     run_next room w few ∙ order_goes room (run_orders room (63 - w.orders)) w.desk.program w v is
     ∙ ap (λ (b : Bool). if b then v else run_orders room (63 - w.orders) v) over
 
--- the run goes on behind the next order, which counts as one
+-- the run continues after the next order, which counts as one
 pub run_on : (room : ℕ) (w v : Work) → w.orders < 64 → next_order room w.desk.program w ≡ Goes v → is_over v ≡ false → goes_on room w ≡ goes_on room v
 run_on room w v few is over =
     let one : v.orders ≡ w.orders + 1 = next_orders room w.desk.program w v is in
@@ -73,7 +74,7 @@ run_on room w v few is over =
     run_next room w few ∙ order_goes room (run_orders room (63 - w.orders)) w.desk.program w v is
     ∙ ap (λ (b : Bool). if b then v else run_orders room (63 - w.orders) v) over ∙ ap (λ (n : ℕ). run_orders room n v) left
 
--- the next order of the program was done
+-- the next order of the program was executed
 pub stepped : (w old : Work) (p p' : Machine) (units' : Held) (event : OrderEvent) → w ≡ old → w.desk.program ≡ Some p
     → order_with w.desk.units p ≡ record { units = units'; machine = p'; event = event }
     → Stepped (Some event) old (record w { orders = w.orders + 1; desk = record w.desk { units = units'; program = Some p' } })

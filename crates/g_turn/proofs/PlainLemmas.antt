@@ -1,4 +1,5 @@
--- Orders that tell no more than that they were done, many at once: a run goes on behind them as behind each of them.
+-- Orders whose event is Ran, many at once: a run continues after them as after each of them.
+-- serves: run_plain (same)
 use Rattle.std.proofs.Common.{◌≡◌, ◌+◌, ◌<◌, ◌≤◌, ℕ, zero, suc, Bool, true, false, Option, Some, None, refl, sym, ap, ◌∙◌, arith}
 use Rattle.g_turn.specs.Runs.{Goes, behind_order, by_event, goes_on, next_order}
 use Rattle.g_turn.specs.Outcomes.{is_over}
@@ -13,11 +14,11 @@ use Rattle.g_peri.specs.JobUnits.{Held}
 use Rattle.g_peri.specs.OneOrder.{Ordered, order_with, ordered_by}
 use Rattle.g_peri.specs.declared.ordered.OrderEvent.TheVariants as came
 
--- behind so many orders that left this program
+-- after this many orders that left this program
 abbrev pub behind_plain : ℕ → Machine → Work → Work
 behind_plain count p w = record w { orders = w.orders + count; desk = record w.desk { program = Some p } }
 
--- an order that tells no more leaves the units
+-- an order whose event is Ran leaves the units unchanged
 order_plain : (units : Held) (p : Machine) → (order p).1 ≡ event.Ran → order_with units p ≡ record { units = units; machine = (order p).0; event = came.Ran }
 order_plain units p ran = ap (λ (told : Event). ordered_by units (order p).0 told) ran
 
@@ -42,7 +43,7 @@ many_plain room (suc count) w p p' few there over runs =
     ∙ many_plain room count (behind_plain 1 (order p).0 w) (order p).0 p' (omega (arith, few)) refl over runs.1
     ∙ ap (λ (orders : ℕ). goes_on room (record w { orders = orders; desk = record w.desk { program = Some p' } })) (omega arith)
 
--- the same behind what a run of orders of a program leaves
+-- the same after a run of a program's orders
 pub run_plainly : (room count : ℕ) (w old : Work) (p p' : Machine) → w ≡ old → w.orders + count ≤ 64 → w.desk.program ≡ Some p → is_over old ≡ false → RunsTo count p p'
     → goes_on room (behind_plain count p' w) ≡ goes_on room old
 run_plainly room count w old p p' same few there over runs =

@@ -1,4 +1,5 @@
--- What the code of a line keeps: what the turn is gone on with, and its level.
+-- Invariants of the code of a line: what the turn resumes with, and its level.
+-- serves: append, behind_echo (err), drop_again, drop_program (err), fire_first (err, ok), fires (err), goes (err, ready), long_line (err), put, and 11 more
 use Rattle.std.proofs.Common.{◌≡◌, ℕ, ◌<◌, ◌≤◌, Bool, true, false, List, [], ◌∷◌, length, Option, Some, None, Result, Ok, Err, IfSome, OnErr, is_some, refl, sym, ap, ◌∙◌, subst, arith}
 use Rattle.std.proofs.lemmas.Bool.{false≢true}
 use Rattle.g_base.specs.declared.memory.NoMemory.{NoMemory}
@@ -23,17 +24,17 @@ use Rattle.g_plain.specs.Programs.{Answer, Asks, Gives, RanInPart}
 use Rattle.g_plain.specs.declared.calls.StoreCall.{StoreCall}
 use Rattle.std.specs.Prelude.{nat_lt, if◌then◌else◌, ◌++◌, ◌+◌}
 
--- what is so behind an error whatever came of it
+-- a property that holds after an error, for any outcome
 pub on_err : {T E P : Type 0} (r : Result T E) → P → OnErr r P
 on_err (Ok x) p = tt
 on_err (Err e) p = p
 
--- where it isn't said that there is something, there is nothing
+-- an option that isn't known to have a value has none
 pub nothing : {A : Type 0} (o : Option A) → is_some o ≡ false → o ≡ None
 nothing None is = refl
 nothing (Some x) is = absurd (false≢true (sym is))
 
--- there are so many levels, also with another current one, and with a macro's on top
+-- there are at least this many levels, also after replacing the current one or pushing a macro's
 abbrev AtLeast : ℕ → Stack → Type 0
 AtLeast n s = n ≤ length s.levels
 
@@ -47,21 +48,21 @@ on_change n change same s h = many n change s.levels h
 on_call : (n : ℕ) (lines params : List (List ℕ)) (s : Stack) → AtLeast n s → AtLeast n (called lines params s)
 on_call n lines params s h = let more : n ≤ length s.levels = h in omega (arith, more)
 
--- nothing was asked before memory was wanting
+-- no call was made before memory ran out
 pub err_none : {S : Type 0} (answers : S → List ℕ → StoreCall → Answer → S → Type 0) (who : List ℕ) (p : Asks Work) (old : S) (r : Result (Unit {0}) NoMemory)
     → OnErr r (RanInPart answers who old p old)
 err_none answers who p old (Ok x) = tt
 err_none answers who p old (Err e) = RanInPart-none answers who p old
 
 module _ {S : Type 0} (answers : S → List ℕ → StoreCall → Answer → S → Type 0) (is_spent : S → Bool) (can_wait : S → ℕ → Bool) (who : List ℕ) where
-  -- behind a command
+  -- after a command
   pub said_ready : (room : ℕ) (by : Bool) (said : Option Said) (w v : Work) (old new : S) → IsReady w → 0 < length w.desk.levels.levels
       → RanWell answers is_spent can_wait who old (done_if room who by said w) v new → IsReady v
   said_ready room by said w v old new ready level r =
       let k : Keeps w.again (AtLeast 1) v = well_gives answers is_spent can_wait who (Keeps w.again (AtLeast 1)) (done_if room who by said w) old v new (said_keeps w.again (AtLeast 1) room (on_change 1) (on_call 1) who by said w (refl, level)) r in
       record { command = subst (λ (a : Option Pending). IfSome a IsAgain) (sym k.0) ready.command; level = λ there. k.1 }
 
-  -- where no WHENEVER fires nothing is done
+  -- if no WHENEVER fires, nothing is done
   pub none_fires : (room : ℕ) (w : Work) (s : S) → fired w.desk.outcome w.desk.levels.levels ≡ None → RanWell answers is_spent can_wait who s (may_fire room who w) w s
   none_fires room w s none =
       subst (λ (o : Option (List ℕ × List Level)). RanWell answers is_spent can_wait who s (if w.sets then fires room who o w else Gives w) w s) (sym none) (by w.sets)
@@ -70,7 +71,7 @@ module _ {S : Type 0} (answers : S → List ℕ → StoreCall → Answer → S �
       by true = (refl, refl)
       by false = (refl, refl)
 
-  -- behind the release of all units at the job's end
+  -- after the release of all units at the job's end
   pub end_ready : (room : ℕ) (w v : Work) (old new : S) → w.again ≡ None → RanWell answers is_spent can_wait who old (end_job room w) v new → IsReady v
   end_ready room w v old new none r =
       let k : Keeps w.again (AtLeast 0) v = well_gives answers is_spent can_wait who (Keeps w.again (AtLeast 0)) (end_job room w) old v new (end_keeps w.again (AtLeast 0) room w (refl, omega arith)) r in
@@ -80,18 +81,18 @@ module _ {S : Type 0} (answers : S → List ℕ → StoreCall → Answer → S �
         level = λ there. absurd (false≢true (ap (λ (a : Option Pending). is_some a) (sym still) ∙ there));
       }
 
--- a work with nothing to go on with is ready
+-- a work with nothing to resume with is ready
 pub none_ready : (w : Work) → w.again ≡ None → IsReady w
 none_ready w none = record {
   command = subst (λ (a : Option Pending). IfSome a IsAgain) (sym none) tt;
   level = λ there. absurd (false≢true (ap (λ (a : Option Pending). is_some a) (sym none) ∙ there));
 }
 
--- behind a run of the program
+-- after a run of the program
 pub run_ready : (room : ℕ) (w v : Work) → w.again ≡ None → v ≡ goes_on room w → v.again ≡ None
 run_ready room w v none is = ap (λ (x : Work). x.again) is ∙ (goes_on_keeps w.again (AtLeast 0) room w (refl, omega arith)).0 ∙ none
 
--- the levels of a WHENEVER that fires have its own
+-- the levels of a WHENEVER that fires include its own
 abbrev pub levels_in : Option (List ℕ × List Level) → List Level
 levels_in None = []
 levels_in (Some both) = both.1
@@ -117,7 +118,7 @@ fired_ready text old new f ready = record {
   level = λ there. fired_level text old new f;
 }
 
--- how the levels tell which WHENEVER fires
+-- the levels determine which WHENEVER fires
 pub fired_as : (w : Work) (levels : Stack) (text : Option (List ℕ)) → Fires w.desk.outcome w.desk.levels levels (Ok text) → IfSome text IsCommandText → FiredAs text w (with_levels levels w)
 fired_as w levels None f command = (f.0, ap (λ (l : Stack). with_levels l w) f.1)
 fired_as w levels (Some text) f command = (
@@ -127,7 +128,7 @@ fired_as w levels (Some text) f command = (
   command,
 )
 
--- what a turn is gone on with may be noted before its line is said or behind it
+-- what a turn resumes with may be noted before or after its line is printed
 noted : (b : Bool) (again : Option Pending) (text : List ℕ) (w : Work)
     → record (if b then stopped Full w else record w { text = w.text ++ ended text }) { again = again }
     ≡ (if b then stopped Full (record w { again = again }) else record w { text = w.text ++ ended text; again = again })

@@ -1,4 +1,5 @@
--- What is done behind the release of all units.
+-- What follows the release of all units.
+-- serves: drop_program (err, ok), end_job (err, ok)
 use Rattle.std.proofs.Common.{◌≡◌, ℕ, Bool, true, false, List, subst}
 use Rattle.g_turn.specs.Releases.{release_all}
 use Rattle.g_turn.specs.Outcomes.{is_over}

@@ -1,4 +1,5 @@
--- A run of the program keeps its orders and all other limits.
+-- A run of the program stays within its orders and all other limits.
+-- serves: CommandBounds, VerbBounds
 use Rattle.std.proofs.Common.{ℕ, zero, suc, ◌+◌, ◌-◌, ◌≤◌, Bool, true, false, List, Option, Some, None, le_refl, sym, subst, arith}
 use Rattle.g_turn.specs.Runs.{Ends, Goes, Order, behind_event, behind_order, by_event, entered, goes_on, one_order, order_of, resumed, run_orders, run_over, running_by, without_program}
 use Rattle.g_turn.specs.Outcomes.{set_outcome, in_error, is_over}
@@ -29,7 +30,7 @@ module _ (room most : ℕ) where
   event_good runs (came.Deleted text) w g = over_good runs (note.Deleted text) false (marked mark.Deleted text) (without_program w) g
   event_good runs (came.Illegal word at) w g = over_good runs note.Failed false (job_line (line.Illegal word at)) w g
 
-  -- one order counts as one, and leaves as many outputs
+  -- one order counts as one, and preserves the number of outputs
   behind_good : (runs : ℕ) (p : Machine) (w : Work) → Good room runs most w → Good room (runs + 1) most (behind_order (order_with w.desk.units p) w)
   behind_good runs p w g =
       let few : w.orders ≤ runs = g.1 in

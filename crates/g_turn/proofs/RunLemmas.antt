@@ -1,4 +1,5 @@
--- Whatever a run of the program does, it neither waits nor is stopped.
+-- A run of the program neither waits nor is stopped.
+-- serves: CommandLemmas, KeptLemmas, RunBounds, VerbLemmas
 use Rattle.std.proofs.Common.{ℕ, zero, suc, ◌+◌, ◌-◌, Bool, true, false, List, Option, Some, None}
 use Rattle.g_turn.specs.Causes.{GoesOn}
 use Rattle.g_turn.specs.Runs.{Ends, Goes, Order, behind_event, behind_order, by_event, entered, goes_on, one_order, order_of, resumed, run_orders, run_over, running_by, without_program}

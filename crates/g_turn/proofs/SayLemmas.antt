@@ -1,4 +1,5 @@
--- Lines that are put behind the text and then ended are lines that are said.
+-- Appending a line to the text and then ending it is printing the line.
+-- serves: end_line (ok), list_bytes (ok), refuse, say_reply (ok)
 use Rattle.std.proofs.Common.{◌≡◌, ℕ, ◌+◌, ◌≤◌, Bool, true, false, true≢false, List, [], ◌∷◌, ◌++◌, length, length-append, take, drop, append_assoc, nat_lt, if◌then◌else◌, refl, sym, ap, subst, ◌∙◌}
 use Rattle.std.proofs.lemmas.List.{take-append-drop, take-append-le}
 use Rattle.g_turn.specs.Outcomes.{error_said, is_over, refused, say, say_all, stopped}
@@ -7,11 +8,11 @@ use Rattle.g_monitor.specs.Refusals.{IsPrinted, fault_line}
 use Rattle.g_plain.specs.declared.faults.StoreFault.{StoreFault}
 use Rattle.g_plain.specs.declared.faults.StoreFault.TheVariants as fault
 
--- the work behind a line that was ended, by the whole text
+-- the work after a line was ended, by the whole text
 abbrev pub settled : ℕ → List ℕ → List ℕ → Work → Work
 settled room whole kept w = if nat_lt room (length whole) then stopped Full (record w { text = kept }) else record w { text = whole }
 
--- a text of two parts, and a byte 10 behind both
+-- a text of two parts, followed by a byte 10
 by_parts : (room : ℕ) (before line : List ℕ) (w : Work) → settled room ((before ++ line) ++ 10 ∷ []) before w ≡ say room line (record w { text = before })
 by_parts room before line w =
     let joined : (before ++ line) ++ 10 ∷ [] ≡ before ++ (line ++ 10 ∷ []) = append_assoc before line (10 ∷ []) in
@@ -35,7 +36,7 @@ refused_said room w fault.Stopped printed = absurd printed
 refused_said room w fault.NoMemory printed = absurd printed
 refused_said room w refusal printed = refl
 
--- several lines, and a last one behind them
+-- several lines, followed by a last one
 module _ (room : ℕ) (last : List ℕ) where
   over_by : (above : List (List ℕ)) (s : Work) (b : Bool) → is_over s ≡ b
       → (is_over s ≡ false → is_over (say_all room above s) ≡ true → say_all room (above ++ last ∷ []) s ≡ say_all room above s)

@@ -1,4 +1,5 @@
--- What lines say that were read, and what is done of a command behind conditions.
+-- What the lines read say, and the effect of a command after conditions.
+-- serves: +behind_conditions (met), any_verb, read_line (reading, well)
 use Rattle.std.proofs.Common.{◌≡◌, ◌∙◌, ℕ, Bool, true, false, List, [], ◌∷◌, Option, Some, None, Result, Ok, Err, IfSome, option_map, if◌then◌else◌, refl, sym, ap, subst}
 use Rattle.std.proofs.lemmas.Bool.{false≢true}
 use Rattle.g_turn.specs.Commands.{command, done_if}
@@ -31,7 +32,7 @@ option_spoken : (w : Option Written) → IfSome w IsWritten → IfSome (option_m
 option_spoken None is = tt
 option_spoken (Some w) is = spoken_of w is
 
--- what a line says that was read
+-- what a line that was read says
 pub spoken_read : (text : List ℕ) (said : LineSaid) → IsReading text (Ok said) → IfSome said.command IsSpoken
 spoken_read text said (l, is, same_text, same) = subst (λ (s : LineSaid). IfSome s.command IsSpoken) (sym same) (option_spoken l.command is.command)
 
@@ -44,7 +45,7 @@ pub read_well : (text : List ℕ) (r : Result Line LangFault) → Reads text r �
 read_well text (Ok line) is = spoken_read text (line_said line) is
 read_well text (Err fault) is = tt
 
--- a command behind a condition isn't blank
+-- a command after a condition isn't blank
 not_blank : (inner : Command) → IsSpoken (said_inside inner) → (room : ℕ) (who : List ℕ) (by : Bool) (w : Work)
     → command room who by (said_inside inner) w ≡ done_if room who by (command_said inner) w
 not_blank Blank is room who by w = absurd is
@@ -66,6 +67,6 @@ met_holds whole inner cond w (Some other) is spoken on met = (
       ∙ ap (λ (b : Bool). if b then command room who by (said_inside inner) w else Gives w) on ∙ not_blank inner spoken room who by w ∙ met.1 room who by),
 )
 
--- the index that a refusal of a verb tells, however it is taken out
+-- the index in the refusal of a verb, for any way to extract it
 pub index_read : (index : VerbFault → ℕ) → ((n : ℕ) → index (BadParameter n) ≡ n) → (asked : Result Action ℕ) (fault : VerbFault) → IsActionRead asked (Err fault) → asked ≡ Err (index fault)
 index_read index is asked (BadParameter n) read = read ∙ ap (λ (m : ℕ). let r : Result Action ℕ = Err m in r) (sym (is n))

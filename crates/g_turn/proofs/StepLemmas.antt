@@ -1,4 +1,5 @@
--- What a store's clauses say of one call.
+-- The contract of a store for one call.
+-- serves: ask_any (granted, refused)
 use Rattle.std.proofs.Common.{◌≡◌, ◌↔◌, ℕ, Bool, true, false, List, Ok, Err, IfErr, IfOk, true≢false, refl}
 use Rattle.g_turn.specs.Bounds.{MayAnswer}
 use Rattle.g_turn.specs.Steps.{IsStep}
@@ -16,7 +17,7 @@ may_of asked (Err fault.NoMemory) real kind waits = absurd (true≢false real)
 may_of asked (Err refusal) real kind waits = tt
 
 module _ {S : Type 0} (answers : S → List ℕ → StoreCall → Answer → S → Type 0) (is_spent : S → Bool) (can_wait : S → ℕ → Bool) (who : List ℕ) (old : S) (asked : StoreCall) (answer : Answer) (new : S) where
-  -- all that a store says of one call
+  -- everything that a store guarantees for one call
   pub record IsCall : Type 0 where
     pub is : answers old who asked answer new
     pub waits : (serial : ℕ) → answer ≡ Err (fault.WaitTape serial) → can_wait new serial ≡ true

@@ -1,4 +1,5 @@
--- What can't go on waits for the lines of its document.
+-- A turn that can't continue waits for the lines of its document.
+-- serves: ready_with
 use Rattle.std.proofs.Common.{◌≡◌, ◌∙◌, Bool, true, false, List, ap, is_some, refl, sym, ℕ, ◌||◌}
 use Rattle.std.proofs.lemmas.Bool.{false≢true}
 use Rattle.g_turn.specs.State.{Work}

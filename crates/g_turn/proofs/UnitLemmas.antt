@@ -1,4 +1,5 @@
--- One order of a program leaves as many outputs as there were.
+-- One order of a program preserves the number of outputs.
+-- serves: RunBounds
 use Rattle.std.proofs.Common.{◌≡◌, ℕ, ◌+◌, ◌-◌, Bool, true, false, List, [], ◌∷◌, ◌++◌, length, length-set, nat_le, nat_lt, Option, Some, None, option_map, if◌then◌else◌, refl}
 use Rattle.g_mill.specs.Effect.{order}
 use Rattle.g_mill.specs.Machine.{Machine}
@@ -9,7 +10,7 @@ use Rattle.g_peri.specs.JobUnits.{Held, at_place, with_writer}
 use Rattle.g_peri.specs.OneOrder.{order_with, ordered_by, transferred}
 use Rattle.g_peri.specs.Transfer.{Area, Reply, answered, control_of, given, read_by, replied, written_by}
 
--- as many outputs
+-- the number of outputs
 abbrev pub outputs : Held → ℕ
 outputs h = length h.writers
 

@@ -1,4 +1,5 @@
--- Units that are released one after the other.
+-- Units that are released one after another.
+-- serves: release_all (err, ok), release_readers (ok)
 use Rattle.std.proofs.Common.{◌≡◌, ℕ, suc, zero, ◌+◌, ◌<◌, ◌≤◌, Bool, true, false, List, [], ◌∷◌, ◌++◌, length, nat_lt, drop, replicate, append_assoc, add-one, Option, Some, None, Ok, Err, if◌then◌else◌, refl, sym, ap, subst, ◌∙◌, arith}
 use Rattle.std.proofs.Math.Seq.{drop-cons, set-append_seam}
 use Rattle.std.proofs.Math.ListN.{drop_of_length-le}
@@ -27,7 +28,7 @@ use Rattle.g_plain.specs.declared.calls.StoreReply.TheVariants.{Made}
 use Rattle.g_plain.specs.declared.faults.StoreFault.{StoreFault}
 use Rattle.g_plain.specs.declared.faults.StoreFault.TheVariants as fault
 
--- so many of them are emptied, and one more is
+-- this many of them are empty, and one more becomes so
 pub one_emptied : {X : Type 0} (xs : List (Option X)) (n : ℕ) → n < length xs → slice_set (replicate n None ++ drop n xs) n None ≡ replicate (n + 1) None ++ drop (n + 1) xs
 one_emptied {X} xs n within =
     let none : Option X = None in
@@ -72,7 +73,7 @@ all_emptied n w v last is eight =
     ∙ ap (λ (rs : List (Option (List (List ℕ)))). with_units (record w.desk.units { readers = replicate 8 None ++ rs }) w) (drop_of_length-le xs {i = 8} (omega (arith, eight)))
     ∙ ap (λ (rs : List (Option (List (List ℕ)))). with_units (record w.desk.units { readers = rs }) w) (append-nil (replicate 8 None))
 
--- a line and a refusal leave the units
+-- a line and a refusal leave the units unchanged
 module _ (u : Held) where
   if_has : (b : Bool) (x y : Work) → x.desk.units ≡ u → y.desk.units ≡ u → (if b then x else y).desk.units ≡ u
   if_has true x y hx hy = hx
@@ -95,7 +96,7 @@ module _ (u : Held) where
       answered (Ok reply) may = has
       answered (Err refusal) may = refused_has room refusal w has
 
--- behind a place that is released the others are as they were
+-- after a place is released the others are unchanged
 abbrev pub Others : ℕ → Work → Work → Type 0
 Others place w v =
     (drop (place + 1) v.desk.units.writers ≡ drop (place + 1) w.desk.units.writers) × (length v.desk.units.writers ≡ length w.desk.units.writers)
@@ -129,11 +130,11 @@ module _ {S : Type 0} (answers : S → List ℕ → StoreCall → Answer → S �
   others_of w v old mid r =
       well_gives answers is_spent can_wait who (Others place w) (One w) old v mid (one_leaves room place (at_place w.desk.units.writers place) w) r
 
-  -- as many places as before
+  -- the number of places is preserved
   pub each_long : (w v : Work) (old mid : S) → RanWell answers is_spent can_wait who old (One w) v mid → length v.desk.units.writers ≡ length w.desk.units.writers
   each_long w v old mid r = (others_of w v old mid r).1
 
-  -- the place is released, and then those behind it
+  -- the place is released, and then the following ones
   pub each_on : (w v : Work) (old mid : S) → place < length w.desk.units.writers → RanWell answers is_spent can_wait who old (One w) v mid → is_over v ≡ false
       → (given : Work) (new : S) → RanWell answers is_spent can_wait who mid (From (place + 1) v v) given new → RanWell answers is_spent can_wait who old (From place w w) given new
   each_on w v old mid within r goes given new later =
@@ -165,7 +166,7 @@ module _ {S : Type 0} (answers : S → List ℕ → StoreCall → Answer → S �
       subst (λ (outputs : List (Option (Path × List ℕ))). RanWell answers is_spent can_wait who s (release_each room place outputs w) w s) (sym (drop_of_length-le w.desk.units.writers last))
       (refl, refl)
 
--- where no unit was assigned none is released
+-- if no unit was assigned, none is released
 module _ {S : Type 0} (answers : S → List ℕ → StoreCall → Answer → S → Type 0) (is_spent : S → Bool) (can_wait : S → ℕ → Bool) (who : List ℕ) (room : ℕ) where
   each_unused : (n place : ℕ) (w : Work) (s : S) → is_over w ≡ false
       → RanWell answers is_spent can_wait who s (release_each room place (let none : Option (Path × List ℕ) = None in replicate n none) w) w s

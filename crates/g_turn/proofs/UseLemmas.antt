@@ -1,4 +1,5 @@
--- What is done with a file's bytes, by what they were fetched for.
+-- The use of a file's bytes, by what they were fetched for.
+-- serves: append (err), assign (err), one_call (err), put (err), use_fetched (err, ok)
 use Rattle.std.proofs.Common.{◌≡◌, ℕ, Bool, true, false, true≢false, if◌then◌else◌, List, OnErr, Result, Ok, Err, inr, length, refl, sym, subst}
 use Rattle.g_turn.specs.Asking.{append, one_call, put}
 use Rattle.g_turn.specs.Outcomes.{in_error, is_over, refused, with_bytes}
@@ -55,7 +56,7 @@ module _ {S : Type 0} (answers : S → List ℕ → StoreCall → Answer → S �
       (subst (λ (b : Bool). Part (if b then fetch room file mode.Read (ToAssign u) w else Gives (output_kept room u file w))) (sym reader)
       (subst (λ (p : Path). Part (fetch room p mode.Read (ToAssign u) w)) same r))
 
--- a listing asks nothing
+-- a listing makes no call
 pub list_well : {S : Type 0} (answers : S → List ℕ → StoreCall → Answer → S → Type 0) (is_spent : S → Bool) (can_wait : S → ℕ → Bool) (who : List ℕ) (s : S) (room : ℕ)
     → (path : Path) (m : Mode) (use_for : uses.Use) (full : Full) (bytes : List ℕ) (w v given : Work) → use_for ≡ uses_for.List → v ≡ with_bytes (length bytes) w
     → given ≡ listed room path m full bytes v → RanWell answers is_spent can_wait who s (use_bytes room path m (use_of use_for) full bytes (with_bytes (length bytes) w)) given s
@@ -63,7 +64,7 @@ list_well answers is_spent can_wait who s room path m use_for full bytes w v giv
     subst (λ (u : uses.Use). RanWell answers is_spent can_wait who s (use_bytes room path m (use_of u) full bytes (with_bytes (length bytes) w)) given s) (sym is)
     (subst (λ (y : Work). given ≡ listed room path m full bytes y) counted listing, refl)
 
--- PLAN asks what the assembly of its source says
+-- PLAN makes the call that the assembly of its source determines
 pub assemble_well : {S : Type 0} (answers : S → List ℕ → StoreCall → Answer → S → Type 0) (is_spent : S → Bool) (can_wait : S → ℕ → Bool) (who : List ℕ) (s t : S) (room : ℕ)
     → (path : Path) (m : Mode) (use_for : uses.Use) (to : Path) (full : Full) (bytes given : List ℕ) (w v made : Work) → use_for ≡ uses_for.Assemble to
     → v ≡ with_bytes (length bytes) w → given ≡ bytes → RanWell answers is_spent can_wait who s (put_or_bad room to (assembled given) v) made t
@@ -77,27 +78,27 @@ not_spent : (b : Bool) → (b ≡ true → ⊥) → b ≡ false
 not_spent true never = absurd (never refl)
 not_spent false never = refl
 
--- behind a refusal a store is spent only where the work is over
+-- after a refusal a store is spent only if the work is over
 pub refused_live : {S : Type 0} (answers : S → List ℕ → StoreCall → Answer → S → Type 0) (is_spent : S → Bool) (can_wait : S → ℕ → Bool) (who : List ℕ) (old new : S) (room : ℕ) (asked : StoreCall)
     (refusal : StoreFault) (w v : Work) → IsStep answers is_spent can_wait who old asked (Err refusal) new → v ≡ refused room refusal w → is_over v ≡ false → is_spent new ≡ false
 refused_live answers is_spent can_wait who old new room asked fault.Stopped w v step is on = absurd (true≢false (subst (λ (u : Work). is_over u ≡ false) is on))
 refused_live answers is_spent can_wait who old new room asked refusal w v step is on =
     not_spent (is_spent new) (λ spent. let same = step.spent.0 spent in (let never : ⊥ = cc in never))
 
--- a call was granted, and what came behind found no memory
+-- a call was granted, and then memory ran out
 pub granted_asked : {T E S : Type 0} (answers : S → List ℕ → StoreCall → Answer → S → Type 0) (who : List ℕ) (old new : S) (room : ℕ) (asked : StoreCall) (w : Work) (reply : StoreReply) (r : Result T E)
     → answers old who asked (Ok reply) new → OnErr r (RanInPart answers who old (one_call room asked w) new)
 granted_asked answers who old new room asked w reply (Ok x) a = tt
 granted_asked answers who old new room asked w reply (Err e) a = inr (inr (Ok reply, new, a, tt, refl))
 
--- bytes were put behind a file, and what came behind found no memory
+-- bytes were appended to a file, and then memory ran out
 pub append_asked : {T E S : Type 0} (answers : S → List ℕ → StoreCall → Answer → S → Type 0) (who : List ℕ) (old new : S) (room : ℕ) (path : Path) (bytes : List ℕ) (w : Work)
     (reply : StoreReply) (full : Full) (r : Result T E) → reply ≡ Appended full → answers old who (call.Append path bytes) (Ok reply) new → OnErr r (RanInPart answers who old (append room path bytes w) new)
 append_asked answers who old new room path bytes w reply full (Ok x) is a = tt
 append_asked answers who old new room path bytes w reply full (Err e) is a =
     inr (inr (Ok (Appended full), new, subst (λ (made : StoreReply). answers old who (call.Append path bytes) (Ok made) new) is a, tt, refl))
 
--- bytes were put, and what came behind found no memory
+-- bytes were written, and then memory ran out
 pub put_asked : {T E S : Type 0} (answers : S → List ℕ → StoreCall → Answer → S → Type 0) (who : List ℕ) (old new : S) (room : ℕ) (well : Bool) (path : Path) (bytes : List ℕ) (w : Work)
     (reply : StoreReply) (full : Full) (r : Result T E) → reply ≡ Made full → answers old who (call.Put path bytes) (Ok reply) new → OnErr r (RanInPart answers who old (put room well path bytes w) new)
 put_asked answers who old new room well path bytes w reply full (Ok x) is a = tt

@@ -1,4 +1,5 @@
--- The programs of verbs keep the limits: 2,048 blocks at most, those of 16 outputs.
+-- The programs of verbs stay within the limits: at most 2,048 blocks, those of 16 outputs.
+-- serves: CommandBounds, crates above
 use Rattle.std.proofs.Common.{ℕ, ◌+◌, ◌*◌, ◌≤◌, Bool, true, false, List, [], ◌∷◌, length, Option, Some, None, Result, Ok, Err, unwrap_or, codes, if◌then◌else◌, length-set, suc, le_refl, sym, subst, arith}
 use Rattle.std.proofs.lemmas.Bool.{false≢true}
 use Rattle.g_turn.specs.Actions.{act}
@@ -37,7 +38,7 @@ use Rattle.g_verbs.specs.declared.action.Action.{Action}
 use Rattle.g_verbs.specs.declared.action.Action.TheVariants as action
 
 module _ (room : ℕ) where
-  -- with as many orders as before, or up to 64 of a run
+  -- with the same number of orders, or with up to 64 of a run
   abbrev pub In : ℕ → Work → Type 0
   In most w = Good room 64 most w
 
@@ -108,7 +109,7 @@ module _ (room : ℕ) where
       answered (Err refusal) may =
           refused_good room 64 (most + 128 + 128) (call.Fetch path m) refusal w may (λ waits. there) (in_more most (most + 128 + 128) w (omega arith) g)
 
-  -- with another output on a printer or a punch there are as many places for them
+  -- another output on a printer or a punch preserves the number of places
   output_good : (most : ℕ) (place : ℕ) (output : Option (Path × List ℕ)) (w : Work) → In most w → In most (with_units (with_writer w.desk.units place output) w)
   output_good most place output w g =
       (g.0, g.1, g.2, subst (λ (n : ℕ). n ≤ 16) (sym (length-set w.desk.units.writers place output)) g.3, g.4, g.5)
@@ -155,7 +156,7 @@ module _ (room : ℕ) where
   given_back_gives most None w g = say_good room 64 (most + 128) (job_line line.Released) (done w) (in_more most (most + 128) w (omega arith) g)
   given_back_gives most (Some output) w g = put_gives most true output.0 output.1 w g
 
-  -- without what a unit holds there are as many places
+  -- dropping what a unit holds preserves the number of places
   reader_good : (most : ℕ) (is : Bool) (u : unit.Unit) (w : Work) → In most w
       → In most (with_units (if is then with_reader w.desk.units u.number None else with_writer w.desk.units (place_of u.kind u.number) None) w)
   reader_good most true u w g = g
@@ -200,7 +201,7 @@ module _ (room : ℕ) where
       then_gives (In (most + 2048)) (In (most + 2048)) (release_all room (done (dropped w))) (deleted room) (all_gives most (done (dropped w)) g) (λ v h over. h)
       (λ v h on. say_good room 64 (most + 2048) (job_line line.Deleted) v h)
 
-  -- WHATEVER A VERB DOES
+  -- ANY VERB
   pub act_gives : (who : List ℕ) (by : Bool) (most : ℕ) (asked : Action) (w : Work) → There w → In most w → AlwaysGives (In (most + 2048)) (act room who by asked w)
   act_gives who by most (action.Input file) w there g =
       more_gives (most + 128) (most + 2048) (put room true file (document_of w.desk.levels) (with_levels (document_passed w.desk.levels) w)) (omega arith)

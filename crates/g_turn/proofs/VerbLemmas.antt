@@ -1,4 +1,5 @@
 -- The programs of verbs are honest.
+-- serves: CommandLemmas
 use Rattle.std.proofs.Common.{ℕ, ◌+◌, Bool, true, false, List, [], ◌∷◌, length, Option, Some, None, Result, Ok, Err, unwrap_or, if◌then◌else◌, refl}
 use Rattle.g_turn.specs.Actions.{act}
 use Rattle.g_turn.specs.Asking.{append, append_told, by_answer, one_call, put, put_told}
@@ -145,7 +146,7 @@ delete_honest room (Some p) w goes =
     honest_then (release_all room (done (dropped w))) (deleted room) (all_honest room (done (dropped w)) goes)
     (λ v on. say_goes room (job_line line.Deleted) v (not_over_goes v on))
 
--- WHATEVER A VERB DOES, its program is honest
+-- ANY VERB: its program is honest
 pub act_honest : (room : ℕ) (who : List ℕ) (by : Bool) (asked : Action) (w : Work) → GoesOn w.stop → IsHonest (act room who by asked w)
 act_honest room who by (action.Input file) w goes = put_honest room true file (document_of w.desk.levels) (with_levels (document_passed w.desk.levels) w) goes
 act_honest room who by (action.Copy from to) w goes = fetch_honest room from mode.Read (ToPut to) w goes

@@ -1,4 +1,5 @@
--- Programs that were made of others, as they were run over any store.
+-- Programs built from others, run on any store.
+-- serves: behind_echo (err, ok), goes (err, ok), GotoLemmas, ReadyLemmas, ReleaseLemmas, UnitsLemmas, crates above
 use Rattle.std.proofs.Common.{◌≡◌, ℕ, Bool, true, false, List, Ok, Err, refl, sym, ap, ◌∙◌, subst, inr, if◌then◌else◌}
 use Rattle.g_turn.specs.Bounds.{AlwaysGives, MayAnswer}
 use Rattle.g_turn.specs.Outcomes.{is_over}
@@ -25,7 +26,7 @@ module _ {S : Type 0} (answers : S → List ℕ → StoreCall → Answer → S �
   ran (Gives x) old given new r = r
   ran (Call asked more) old given new r = (r.0, r.1, r.2.is, may_answer asked r.0 r.2.may, ran (more r.0) r.1 given new r.3)
 
-  -- a program that has run, isn't over, and is gone on with
+  -- a program that has run, isn't over, and is continued by another
   pub well_then : (p : Asks Work) (next : Work → Asks Work) (old mid new : S) (w given : Work) → Well old p w mid → is_over w ≡ false → Well mid (next w) given new
       → Well old (and_then is_over p next) given new
   well_then (Gives x) next old mid new w given r go later =
@@ -41,7 +42,7 @@ module _ {S : Type 0} (answers : S → List ℕ → StoreCall → Answer → S �
       subst (λ (b : Bool). Well old (if b then Gives x else next x) w new) (sym e) r
   well_over (Call asked more) next old new w r over = (r.0, r.1, r.2, well_over (more r.0) next r.1 new w r.3 over)
 
-  -- a program that found no memory, and one that ran before another that did
+  -- a program that ran out of memory, and one that ran before another that did
   pub part_first : (p : Asks Work) (next : Work → Asks Work) (old new : S) → Part old p new → Part old (and_then is_over p next) new
   part_first p next old new r = RanInPart-first answers who is_over p next old new r
 
@@ -49,12 +50,12 @@ module _ {S : Type 0} (answers : S → List ℕ → StoreCall → Answer → S �
       → Part old (and_then is_over p next) new
   part_then p next old mid new w r go later = RanInPart-then answers who is_over p next old mid new w (ran p old w mid r) go later
 
-  -- it ran whole
+  -- a program that ran completely
   pub part_whole : (p : Asks Work) (old : S) (given : Work) (new : S) → Well old p given new → Part old p new
   part_whole (Gives x) old given new r = r.1
   part_whole (Call asked more) old given new r = inr (inr (r.0, r.1, r.2.is, may_answer asked r.0 r.2.may, part_whole (more r.0) r.1 given new r.3))
 
-  -- what is so of all that a program can give is so
+  -- a property of everything that a program can return holds for what it returned
   pub well_gives : (P : Work → Type 0) (p : Asks Work) (old : S) (given : Work) (new : S) → AlwaysGives P p → Well old p given new → P given
   well_gives P (Gives x) old given new g r = subst P (sym r.0) g
   well_gives P (Call asked more) old given new g r = well_gives P (more r.0) r.1 given new (g r.0 r.2.may) r.3

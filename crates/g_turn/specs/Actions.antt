@@ -1,4 +1,4 @@
--- WHAT EACH VERB DOES: the calls that it makes, and what it makes of the answers.
+-- THE EFFECT OF EACH VERB: the calls that it makes, and how it uses the answers.
 use Rattle.std.specs.Prelude.{Bool, List, [], false, true, unwrap_or, ℕ}
 use Rattle.g_turn.specs.Asking.{one_call, put}
 use Rattle.g_turn.specs.Macros.{look_up}
@@ -17,11 +17,11 @@ use Rattle.g_trap.specs.declared.mode_set.Mode.TheVariants as mode
 use Rattle.g_verbs.specs.declared.action.Action.{Action}
 use Rattle.g_verbs.specs.declared.action.Action.TheVariants as action
 
--- INPUT: the lines up to `////` are passed over, and put
+-- INPUT: the lines up to `////` are passed, and written to the file.
 abbrev pub input : ℕ → Path → Work → Asks Work
 input room file w = put room true file (document_of w.desk.levels) (with_levels (document_passed w.desk.levels) w)
 
--- the verbs of one call that hands over no bytes, whose reply is said
+-- The verb makes one call, which has no bytes, and prints its reply.
 abbrev pub is_one_call : Action → Bool
 is_one_call (action.Erase file) = true
 is_one_call (action.Rename file to) = true
@@ -34,7 +34,7 @@ is_one_call (action.Budget user kind amount) = true
 is_one_call (action.Retrieve file) = true
 is_one_call other = false
 
--- a verb that names files and isn't one call alone
+-- The verb names files and makes more than one call.
 abbrev pub is_of_files : Action → Bool
 is_of_files (action.Input file) = true
 is_of_files (action.Copy from to) = true
@@ -45,7 +45,7 @@ is_of_files (action.Plan from to) = true
 is_of_files (action.Assign unit file) = true
 is_of_files other = false
 
--- `who` is the job's user, and `by` tells that a WHENEVER does it
+-- The effect of an action, for the job's user `who`; `by` says whether a WHENEVER executes it.
 abbrev pub act : ℕ → List ℕ → Bool → Action → Work → Asks Work
 act room who by (action.Input file) w = input room file w
 act room who by (action.Copy from to) w = fetch room from mode.Read (ToPut to) w

@@ -1,4 +1,4 @@
--- What the contracts cite: the work of a turn, what each line, command and verb asks, and what any store does.
+-- The definitions that contracts cite: the work of a turn, the calls of each line, command and verb, and what any store guarantees.
 pub mod Actions
 pub mod Asking
 pub mod Bounds

@@ -1,4 +1,4 @@
--- What is said, what becomes of a command, and what stops a turn's work.
+-- Printing, the outcome of a command, and what stops a turn's work.
 use Rattle.std.specs.Prelude.{Bool, List, Some, [], false, if◌then◌else◌, is_some, length, nat_lt, true, ℕ, ◌++◌, ◌+◌, ◌∷◌}
 use Rattle.g_base.specs.Block.{blocks_for}
 use Rattle.g_turn.specs.State.{Broken, Full, Stop, Waits, Work}
@@ -14,50 +14,54 @@ use Rattle.g_peri.specs.JobUnits.{Held}
 use Rattle.g_plain.specs.declared.faults.StoreFault.{StoreFault}
 use Rattle.g_plain.specs.declared.faults.StoreFault.TheVariants as fault
 
+-- The work is over.
 abbrev pub is_over : Work → Bool
 is_over w = is_some w.stop
 
+-- The work is over for this reason.
 abbrev pub stopped : Stop → Work → Work
 stopped why w = record w { stop = Some why }
 
--- ONE LINE IS SAID: where the file has no room for it, it isn't added, and the work is over
+-- ONE LINE IS PRINTED; if the file has no room for it, it isn't added, and the work is over.
 abbrev pub say : ℕ → List ℕ → Work → Work
 say room line w =
     if nat_lt room (length w.text + length (ended line)) then stopped Full w else record w { text = w.text ++ ended line }
 
--- lines are said one after the other, and none behind the first that finds no room
+-- Lines are printed in order, and none after the first that finds no room.
 abbrev pub say_all : ℕ → List (List ℕ) → Work → Work
 say_all room [] w = w
 say_all room (line ∷ lines) w = if is_over (say room line w) then say room line w else say_all room lines (say room line w)
 
+-- The work with other levels.
 abbrev pub with_levels : Stack → Work → Work
 with_levels levels w = record w { desk = record w.desk { levels = levels } }
 
+-- The work with other units.
 abbrev pub with_units : Held → Work → Work
 with_units units w = record w { desk = record w.desk { units = units } }
 
--- the command sets the outcome: whether it was an error, and what the program came to
+-- The command sets the outcome: whether it was an error, and what happened to the program.
 abbrev pub set_outcome : Bool → EventNote → Work → Work
 set_outcome error event w = record w { sets = true; desk = record w.desk { outcome = record { error = error; event = event } } }
 
--- a command is done, and was no error
+-- The command is done, and was no error.
 abbrev pub done : Work → Work
 done w = set_outcome false note.None w
 
--- a command is an error: number and text are printed, and the job goes on
+-- The command is an error: number and text are printed, and the job continues.
 abbrev pub error_said : ℕ → List ℕ → Work → Work
 error_said room text w = say room (marked mark.Error text) (set_outcome true note.None w)
 
--- an error that no call of a store answers
+-- An error that isn't a store's fault.
 abbrev pub in_error : ℕ → CommandError → Work → Work
 in_error room error w = error_said room (error_line error) w
 
--- a call was refused: a wait and a stop are no errors of the command, and the work is over with them
+-- A call was refused. A wait and a stop aren't errors of the command; they end the work.
 abbrev pub refused : ℕ → StoreFault → Work → Work
 refused room (fault.WaitTape serial) w = stopped (Waits serial) w
 refused room fault.Stopped w = stopped Broken w
 refused room other w = error_said room (fault_line other) w
 
--- so many bytes were handed over by a call that was granted: their blocks count
+-- A granted call transferred this many bytes: their blocks count.
 abbrev pub with_bytes : ℕ → Work → Work
 with_bytes n w = record w { blocks = w.blocks + blocks_for n }

@@ -1,4 +1,4 @@
--- What a file's bytes are fetched for: COPY, APPEND, PLAN, LISTFILE, LOAD, and ASSIGN of a card reader.
+-- The uses of a file's bytes: COPY, APPEND, PLAN, LISTFILE, LOAD, and ASSIGN of a card reader.
 use Rattle.std.specs.Prelude.{Err, List, None, Ok, Option, Result, Some, [], false, if◌then◌else◌, length, true, ℕ, ◌≡◌}
 use Rattle.g_turn.specs.Asking.{append, put}
 use Rattle.g_turn.specs.Outcomes.{done, in_error, refused, say, say_all, with_bytes, with_units}
@@ -21,6 +21,7 @@ use Rattle.g_plan.specs.Assembly.{assembled}
 use Rattle.g_trap.specs.declared.mode_set.Mode.{Mode}
 use Rattle.g_trap.specs.declared.mode_set.Mode.TheVariants as mode
 
+-- What a file's bytes are fetched for.
 pub data Use : Type 0 where
   ToPut : Path → Use
   ToAppend : Path → Use
@@ -29,12 +30,12 @@ pub data Use : Type 0 where
   ToLoad : Use
   ToAssign : unit.Unit → Use
 
--- a file is put into a unit only where that is a card reader and isn't assigned
+-- A file is loaded into a unit only if that is a card reader and isn't assigned.
 abbrev pub IsFree : Use → Held → Type 0
 IsFree (ToAssign u) held = (is_reader u.kind ≡ true) × (is_assigned held u ≡ false)
 IsFree use_for held = Unit {0}
 
--- a program in the place of that before
+-- A program replaces the one before.
 abbrev pub with_program : Machine → Work → Work
 with_program p w = record w { desk = record w.desk { program = Some p; halted = false } }
 
@@ -43,11 +44,12 @@ module _ (room : ℕ) where
   abbrev pub listed : Path → Mode → Full → List ℕ → Work → Work
   listed path m full bytes w = say_all room (reply_lines (call.Fetch path m) (Bytes full bytes)) (done w)
 
-  -- LOAD: the program of a good program file; a bad one leaves the program that is there
+  -- LOAD: the program of a good program file; a bad file leaves the program unchanged.
   abbrev pub loaded_by : Option ℕ → Machine → Work → Work
   loaded_by (Some bad) p w = in_error room (errors.BadProgram bad) w
   loaded_by None p w = say room (job_line (line.Loaded (size p))) (done (with_program p w))
 
+  -- The work after LOAD of these bytes.
   abbrev pub loaded : List ℕ → Work → Work
   loaded bytes w = loaded_by (bad_line (lines bytes)) (program_of (lines bytes)) w
 
@@ -55,12 +57,12 @@ module _ (room : ℕ) where
   abbrev pub assigned : unit.Unit → List ℕ → Work → Work
   assigned u bytes w = say room (job_line line.Assigned) (done (with_units (with_reader w.desk.units u.number (Some (lines bytes))) w))
 
-  -- PLAN: the program file of a good source is put; of a bad one nothing is
+  -- PLAN: the program file of a good source is written; for a bad source nothing is.
   abbrev pub put_or_bad : Path → Result (List ℕ) ℕ → Work → Asks Work
   put_or_bad to (Ok file) w = put room true to file w
   put_or_bad to (Err bad) w = Gives (in_error room (errors.BadPlan bad) w)
 
-  -- a file's bytes, and what is done with them
+  -- A file's bytes, and their use.
   abbrev pub use_bytes : Path → Mode → Use → Full → List ℕ → Work → Asks Work
   use_bytes path m (ToPut to) full bytes w = put room true to bytes w
   use_bytes path m (ToAppend to) full bytes w = append room to bytes w
@@ -69,20 +71,22 @@ module _ (room : ℕ) where
   use_bytes path m ToLoad full bytes w = Gives (loaded bytes w)
   use_bytes path m (ToAssign u) full bytes w = Gives (assigned u bytes w)
 
+  -- The use of the answer to a Fetch.
   abbrev pub fetched : Path → Mode → Use → Work → Answer → Asks Work
   fetched path m use_for w (Ok (Bytes full bytes)) = use_bytes path m use_for full bytes (with_bytes (length bytes) w)
   fetched path m use_for w (Ok reply) = Gives w
   fetched path m use_for w (Err fault) = Gives (refused room fault w)
 
-  -- a file is fetched, and used
+  -- A file is fetched and used.
   abbrev pub fetch : Path → Mode → Use → Work → Asks Work
   fetch path m use_for w = Call (call.Fetch path m) (fetched path m use_for w)
 
-  -- ASSIGN: the file of a card reader is fetched; the path of a printer or a punch is kept for its output
+  -- ASSIGN of a printer or a punch: the path is stored for its output.
   abbrev pub output_kept : unit.Unit → Path → Work → Work
   output_kept u path w =
       say room (job_line line.Assigned) (done (with_units (with_writer w.desk.units (place_of u.kind u.number) (Some (path, []))) w))
 
+  -- ASSIGN of a unit and a file; it is an error if the unit is assigned.
   abbrev pub assign : unit.Unit → Path → Work → Asks Work
   assign u path w =
       if is_assigned w.desk.units u then Gives (in_error room errors.InUse w)

@@ -1,4 +1,4 @@
-//! What each verb does.
+//! The effect of each verb.
 ghost use Rattle.std.specs.Prelude.{◌≡◌, ◌≤◌, ◌<◌, ◌+◌, ℕ, [], Bool, false, true, length, unwrap_or, OnErr, OnOk};
 ghost use Rattle.g_turn.specs.Actions as actions;
 ghost use Rattle.g_turn.specs.Asking as asking;
@@ -25,10 +25,10 @@ use g_trap::Mode;
 use g_verbs::Action;
 use std::alloc::Global;
 
-/// The MONEY of a user that is made without an amount.
+/// The MONEY of a user that is created without an amount.
 const MONEY: u64 = 1_000_000;
 
-/// Whether a verb makes one call, hands over no bytes and has its reply said.
+/// Whether a verb makes one call without bytes and prints its reply.
 fn is_one_call(action: &Action) -> bool
     ensures { result ≡ actions.is_one_call action.now }
 {
@@ -46,7 +46,7 @@ fn is_one_call(action: &Action) -> bool
     )
 }
 
-/// Whether a verb names files and isn't one call alone.
+/// Whether a verb names files and makes more than one call.
 fn is_of_files(action: &Action) -> bool
     ensures { result ≡ actions.is_of_files action.now }
 {
@@ -62,7 +62,7 @@ fn is_of_files(action: &Action) -> bool
     )
 }
 
-/// The call of a verb that makes one, hands over no bytes and has its reply said.
+/// The call of a verb that makes one without bytes and prints its reply.
 fn call_of(action: Action, who: &User) -> StoreCall
     requires sound { verbs.IsSound action }
     requires kind { actions.is_one_call action ≡ true }
@@ -108,7 +108,7 @@ fn call_of(action: Action, who: &User) -> StoreCall
 }
 
 impl Work {
-    /// Does what a verb with its parameters asks for, of the user `who`; `by` tells that a WHENEVER does it.
+    /// Executes an action for the asker's user; `by` says whether a WHENEVER executes it.
     pub(crate) fn act<S: Filestore>(
         &mut self,
         store: &mut S,
@@ -129,14 +129,14 @@ impl Work {
         ensures same_waits { (s : ℕ) → S.can_wait store.new s ≡ S.can_wait store.old s }
         ensures blocks { OnOk result (self.new.blocks ≤ self.old.blocks + 2048) }
     {
-        // An action is large: so it is moved on where it stands, unless it becomes a call.
+        // An action is large, so it is passed on unchanged unless it becomes a call.
         if !is_one_call(&action) {
             return self.act_in_several_calls(store, asker, by, action);
         }
         self.act_in_one_call(store, asker, action)
     }
 
-    /// Does what a verb asks for that is one call.
+    /// Executes an action that is one call.
     fn act_in_one_call<S: Filestore>(
         &mut self,
         store: &mut S,
@@ -159,7 +159,7 @@ impl Work {
         self.one_call(store, asker, &call)
     }
 
-    /// Does what a verb asks for that isn't one call alone.
+    /// Executes an action that isn't one call.
     fn act_in_several_calls<S: Filestore>(
         &mut self,
         store: &mut S,
@@ -181,7 +181,7 @@ impl Work {
         ensures same_waits { (s : ℕ) → S.can_wait store.new s ≡ S.can_wait store.old s }
         ensures blocks { OnOk result (self.new.blocks ≤ self.old.blocks + 2048) }
     {
-        // The names of files are large: so the other verbs are taken apart without them.
+        // The names of files are large, so the other verbs are matched without them.
         if is_of_files(&action) {
             return self.act_on_files(store, asker, action);
         }
@@ -198,7 +198,7 @@ impl Work {
         }
     }
 
-    /// Does what a verb asks for that names files and isn't one call alone.
+    /// Executes an action that names files and makes more than one call.
     fn act_on_files<S: Filestore>(
         &mut self,
         store: &mut S,
@@ -236,7 +236,7 @@ impl Work {
         }
     }
 
-    /// INPUT: the lines up to `////` are put, and passed over whatever that answers.
+    /// INPUT: the lines up to `////` are written to a file, and passed for any answer.
     pub(crate) fn input<S: Filestore>(
         &mut self,
         store: &mut S,
@@ -260,7 +260,7 @@ impl Work {
         }
     }
 
-    /// SETPARAM: the empty text where none is given.
+    /// SETPARAM: the empty text if none is given.
     fn set_param(&mut self, alloc: Global, letter: u8, text: Param) -> Result<(), NoMemory>
         requires level { 0 < length self.old.desk.levels.levels }
         requires letter { IsLetter letter }

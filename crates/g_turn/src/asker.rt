@@ -1,8 +1,8 @@
-//! Who asks in a turn, and what the turn has for it.
+//! The user of a turn, and the turn's resources.
 use g_name::User;
 use std::alloc::Global;
 
-/// The user of a turn, the bytes that its monitoring file has room for, and where its memory comes from.
+/// The user of a turn, the room of its monitoring file in bytes, and its allocator.
 #[derive(Clone, Copy)]
 pub struct Asker<'a> {
     pub alloc: Global,

@@ -1,4 +1,4 @@
-//! Calls of a store, and what a work makes of their answers.
+//! Calls to a store, and the use of their answers.
 ghost use Rattle.std.specs.Prelude.{◌≡◌, ◌≤◌, ◌+◌, ◌++◌, ℕ, Err, Ok, false, IfErr, IfOk, OnErr, OnOk, if◌then◌else◌};
 ghost use Rattle.g_turn.specs.Asking as asking;
 ghost use Rattle.g_turn.specs.Outcomes as said;
@@ -16,7 +16,7 @@ use g_name::{Full, Path, Text, User};
 use g_plain::{Filestore, StoreCall, StoreFault, StoreReply};
 use std::alloc::Global;
 
-/// Makes one call, and says of its answer all that is known of any store. Want of memory is no answer.
+/// Makes one call; its contract states what any store guarantees for the answer. Out of memory is no answer.
 pub(crate) fn ask_any<S: Filestore>(
     alloc: Global,
     store: &mut S,
@@ -36,7 +36,7 @@ pub(crate) fn ask_any<S: Filestore>(
 }
 
 impl Work {
-    /// A verb of one call that hands over no bytes: its reply is said.
+    /// A verb of one call without bytes: prints its reply.
     pub(crate) fn one_call<S: Filestore>(
         &mut self,
         store: &mut S,
@@ -61,7 +61,7 @@ impl Work {
         }
     }
 
-    /// A call is granted: the command is done, and the reply is said.
+    /// A call was granted: the command is done, and the reply is printed.
     fn grant(
         &mut self,
         alloc: Global,
@@ -80,8 +80,7 @@ impl Work {
         Ok(())
     }
 
-    /// Puts bytes for a path. The command comes out well with them; or, at the release of a unit by DELETE or at the job's
-    /// end, as it stands.
+    /// Writes bytes to a path. The command succeeds with them; but at the release of a unit by DELETE or at the job's end the outcome is unchanged.
     pub(crate) fn put<S: Filestore>(
         &mut self,
         store: &mut S,
@@ -115,7 +114,7 @@ impl Work {
         }
     }
 
-    /// Puts bytes behind those of a file.
+    /// Appends bytes to a file.
     pub(crate) fn append<S: Filestore>(
         &mut self,
         store: &mut S,
@@ -148,7 +147,7 @@ impl Work {
         }
     }
 
-    /// So many bytes were handed over: their blocks count, and the file is said behind these words.
+    /// A granted call transferred this many bytes: their blocks count, and the file's name is printed after these words.
     fn say_handed(
         &mut self,
         asker: &Asker<'_>,
@@ -167,7 +166,7 @@ impl Work {
         Ok(())
     }
 
-    /// The command comes out well, where this is so.
+    /// The command succeeds, if this is true.
     fn done_if(&mut self, comes_well: bool)
         ensures done { self.new ≡ (if comes_well then said.done self.old else self.old) }
         ensures blocks { self.new.blocks ≡ self.old.blocks }

@@ -25,7 +25,7 @@ use g_trap::Mode;
 use g_verbs::{Verb, VerbFault, only_file, read_known};
 use std::alloc::Global;
 
-/// A verb's line: its name, and the text in which its parameters stand.
+/// A verb's line: its name, and the text of its parameters.
 #[derive(Drop)]
 struct VerbLine {
     name: Local,
@@ -33,8 +33,8 @@ struct VerbLine {
 }
 
 impl Work {
-    /// Does what a text says, for the user `who`; `by` tells that a WHENEVER does it. Nothing is done of a blank line,
-    /// of a label alone, and behind an IF whose condition doesn't hold.
+    /// Executes what a text says, for the asker's user; `by` says whether a WHENEVER executes it. A blank line, a label without a command, and an IF
+    /// whose condition doesn't hold have no effect.
     #[tactic(auto, using(crate::proofs::RanLemmas::gives_alone))]
     pub(crate) fn do_command<S: Filestore>(
         &mut self,
@@ -48,7 +48,7 @@ impl Work {
         ensures { HasRun S.answers S.is_spent S.can_wait asker.now.who.now
             (commands.done_if asker.now.room asker.now.who.now by (command_said command) self.old) 2048 store.old self.old result self.new store.new }
     {
-        // A command is large: so the parts of most are moved on by themselves.
+        // A command is large, so the parts of most are moved on their own.
         match command {
             Command::Verb { name, rest } => { self.verb(store, asker, by, VerbLine { name, rest }) }
             Command::Goto(label) => self.go_to(asker.alloc, asker.room, &label),
@@ -56,7 +56,7 @@ impl Work {
         }
     }
 
-    /// Does the command behind the conditions of IF, where they all hold.
+    /// Executes the command after the conditions of IF, if they all hold.
     fn do_behind_conditions<S: Filestore>(
         &mut self,
         store: &mut S,
@@ -75,7 +75,7 @@ impl Work {
         }
     }
 
-    /// The command behind the conditions of IF, where they all hold.
+    /// The command after the conditions of IF, if they all hold.
     fn behind_conditions(&self, command: Command) -> Option<Command>
         requires level { 0 < length self.now.desk.levels.levels }
         requires spoken { IfSome (command_said command) IsSpoken }
@@ -95,7 +95,7 @@ impl Work {
         }
     }
 
-    /// Does a command that stands behind no condition.
+    /// Executes a command without a condition.
     #[tactic(auto, using(crate::proofs::RanLemmas::gives_alone))]
     fn command<S: Filestore>(
         &mut self,
@@ -123,7 +123,7 @@ impl Work {
         }
     }
 
-    /// GOTO: the level goes on at its first line with the label.
+    /// GOTO: the level continues at its first line with the label.
     pub(crate) fn go_to(
         &mut self,
         alloc: Global,
@@ -142,7 +142,7 @@ impl Work {
         }
     }
 
-    /// WHENEVER: the level keeps the command.
+    /// WHENEVER: the level stores the command.
     fn keep(
         &mut self,
         alloc: Global,
@@ -165,7 +165,7 @@ impl Work {
         }
     }
 
-    /// A verb, or a macro. An action is large: so the most common verbs do without one, each in a function of its own.
+    /// A verb, or a macro. An action is large, so the most common verbs avoid one, each in a function of its own.
     fn verb<S: Filestore>(
         &mut self,
         store: &mut S,
@@ -199,7 +199,7 @@ impl Work {
         ensures { HasRun S.answers S.is_spent S.can_wait asker.now.who.now
             (commands.verb_line asker.now.room asker.now.who.now by line.name line.rest self.old) 2048 store.old self.old result self.new store.new }
     {
-        // It is known from here that the name is a word.
+        // Establishes that the name is a word.
         let _word = line.name.as_slice();
         match only_file(line.rest.as_slice()) {
             Some(file) => self.input(store, asker, file),
@@ -220,7 +220,7 @@ impl Work {
         ensures { HasRun S.answers S.is_spent S.can_wait asker.now.who.now
             (commands.verb_line asker.now.room asker.now.who.now by line.name line.rest self.old) 2048 store.old self.old result self.new store.new }
     {
-        // It is known from here that the name is a word.
+        // Establishes that the name is a word.
         let _word = line.name.as_slice();
         match only_file(line.rest.as_slice()) {
             Some(path) => {
@@ -244,7 +244,7 @@ impl Work {
         ensures { HasRun S.answers S.is_spent S.can_wait asker.now.who.now
             (commands.verb_line asker.now.room asker.now.who.now by line.name line.rest self.old) 2048 store.old self.old result self.new store.new }
     {
-        // It is known from here that the name is a word.
+        // Establishes that the name is a word.
         let _word = line.name.as_slice();
         match only_file(line.rest.as_slice()) {
             Some(file) => self.fetch(store, asker, (file, Mode::Read), Use::List),
@@ -265,7 +265,7 @@ impl Work {
         ensures { HasRun S.answers S.is_spent S.can_wait asker.now.who.now
             (commands.verb_line asker.now.room asker.now.who.now by line.name line.rest self.old) 2048 store.old self.old result self.new store.new }
     {
-        // It is known from here that the name is a word.
+        // Establishes that the name is a word.
         let _word = line.name.as_slice();
         if line.rest.as_slice().is_empty() {
             return self.any_verb(store, asker, by, Some(Verb::Display), line);
@@ -273,7 +273,7 @@ impl Work {
         self.display(asker.alloc, asker.room, line.rest.as_slice())
     }
 
-    /// Any verb, which is this one, or a macro.
+    /// Any verb, possibly one of the common ones, or a macro.
     fn any_verb<S: Filestore>(
         &mut self,
         store: &mut S,
@@ -296,7 +296,7 @@ impl Work {
         }
     }
 
-    /// A bad parameter; the document of an INPUT is passed over all the same.
+    /// A bad parameter; the document of an INPUT is passed all the same.
     fn bad_parameter(
         &mut self,
         alloc: Global,
@@ -313,7 +313,7 @@ impl Work {
         self.in_error(alloc, room, CommandError::BadParameter(index))
     }
 
-    /// Passes over the lines behind an INPUT.
+    /// Passes the lines after an INPUT.
     fn pass_document(&mut self, alloc: Global, name: &Local) -> Result<(), NoMemory>
         requires level { 0 < length self.old.desk.levels.levels }
         ensures { OnOk result (self.new ≡ commands.passes_document name.now self.old) }

@@ -1,4 +1,4 @@
-//! Files that are fetched, and what becomes of their bytes.
+//! Fetching files, and the use of their bytes.
 ghost use Rattle.std.specs.Prelude.{◌≡◌, ◌≤◌, ◌+◌, ℕ, None, true, false, length, OnErr, OnOk};
 ghost use Rattle.g_turn.specs.Outcomes as said;
 ghost use Rattle.g_turn.specs.Steps.{RanWell};
@@ -65,7 +65,7 @@ impl Work {
         }
     }
 
-    /// Uses bytes that were fetched of a file; their blocks count.
+    /// Uses bytes that were fetched from a file; their blocks count.
     fn use_fetched<S: Filestore>(
         &mut self,
         store: &mut S,
@@ -102,7 +102,7 @@ impl Work {
         }
     }
 
-    /// PLAN, with the bytes of the source: the program's file is put; of a bad source nothing is.
+    /// PLAN, with the bytes of the source: writes the program's file; for a bad source nothing is written.
     fn assemble_bytes<S: Filestore>(
         &mut self,
         store: &mut S,
@@ -129,7 +129,7 @@ impl Work {
         }
     }
 
-    /// LOAD, with the bytes of the file: a bad one leaves the program that is there.
+    /// LOAD, with the bytes of the file: a bad file leaves the program unchanged.
     fn load_bytes(&mut self, alloc: Global, room: usize, bytes: &[u8]) -> Result<(), NoMemory>
         ensures ok { OnOk result (self.new ≡ uses.loaded room bytes.now self.old) }
         ensures blocks { OnOk result (self.new.blocks ≡ self.old.blocks) }
@@ -143,7 +143,7 @@ impl Work {
         }
     }
 
-    /// Takes a program in the place of that before.
+    /// Replaces the program.
     fn take_program(&mut self, alloc: Global, room: usize, program: Program) -> Result<(), NoMemory>
         ensures ok { OnOk result (self.new ≡ uses.loaded_by room None program self.old) }
         ensures blocks { OnOk result (self.new.blocks ≡ self.old.blocks) }
@@ -156,7 +156,7 @@ impl Work {
         Ok(())
     }
 
-    /// Puts the lines of a file into a card reader.
+    /// Loads the lines of a file into a card reader.
     fn assign_reader(
         &mut self,
         asker: &Asker<'_>,
@@ -176,7 +176,7 @@ impl Work {
         Ok(())
     }
 
-    /// Keeps the path of a printer's or a punch's output.
+    /// Stores the path of a printer's or a punch's output.
     fn keep_output(
         &mut self,
         alloc: Global,
@@ -196,7 +196,7 @@ impl Work {
         Ok(())
     }
 
-    /// ASSIGN: a card reader to the lines of a file, a printer or a punch to the path of its output.
+    /// ASSIGN: of a card reader with the lines of a file, of a printer or a punch with the path of its output.
     pub(crate) fn assign<S: Filestore>(
         &mut self,
         store: &mut S,

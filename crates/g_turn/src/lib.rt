@@ -1,4 +1,4 @@
-//! The work of a turn: what its lines, commands and verbs ask of a store, what they make of the answers, and what is said.
+//! The work of a turn: the calls that its lines, commands and verbs make to a store, the use of the answers, and the lines that are printed.
 #![tactic(auto)]
 
 mod acts;

@@ -1,4 +1,4 @@
-//! One line, and the WHENEVER behind it.
+//! One line, and the WHENEVER after it.
 ghost use Rattle.std.specs.Prelude.{◌≡◌, ◌≤◌, ◌+◌, ◌<◌, ℕ, false, length, true, IfOk, IfSome, OnErr, OnOk};
 ghost use Rattle.g_turn.specs.LineWork.{FiredAs, IsReady};
 ghost use Rattle.g_turn.specs.Lines as lines;
@@ -26,7 +26,7 @@ use std::alloc::Global;
 use std::mem;
 
 impl Work {
-    /// Does a line that was taken: its echo, its command, and the WHENEVER behind it.
+    /// Executes a line that was taken: its echo, its command, and the WHENEVER after it.
     pub(crate) fn run_document_line<S: Filestore>(
         &mut self,
         store: &mut S,
@@ -51,14 +51,14 @@ impl Work {
         if self.is_over() {
             return Ok(());
         }
-        // A line is large: so the label of a GOTO is read where it lies.
+        // A line is large, so the label of a GOTO is read without moving it.
         if let Some(label) = label_to(&read) {
             return self.goes(store, asker, label);
         }
         self.behind_echo(store, asker, read)
     }
 
-    /// Goes to a label, and does the WHENEVER behind that.
+    /// Goes to a label, and executes the WHENEVER after that.
     fn goes<S: Filestore>(
         &mut self,
         store: &mut S,
@@ -83,8 +83,8 @@ impl Work {
         self.may_fire(store, asker)
     }
 
-    /// Says the echo of a line; where its command waits, the turn is gone on with at this line.
-    // Each turn of a document comes to it.
+    /// Prints the echo of a line; if its command waits, the turn resumes with this line.
+    // Inlined: every turn of a document calls it.
     #[inline(always)]
     fn say_line(&mut self, alloc: Global, room: usize, text: Text) -> Result<(), NoMemory>
         requires level { 0 < length self.old.desk.levels.levels }
@@ -100,7 +100,7 @@ impl Work {
         Ok(())
     }
 
-    /// The command of a line behind its echo, and the WHENEVER behind it.
+    /// The command of a line after its echo, and the WHENEVER after it.
     fn behind_echo<S: Filestore>(
         &mut self,
         store: &mut S,
@@ -166,7 +166,7 @@ impl Work {
         }
     }
 
-    /// Does a line above 240 bytes, of which these are the first 240: it is bad.
+    /// Executes a line above 240 bytes, of which these are the first 240: it is bad.
     pub(crate) fn long_line<S: Filestore>(
         &mut self,
         store: &mut S,
@@ -190,7 +190,7 @@ impl Work {
         self.too_long(store, asker)
     }
 
-    /// The error of a line above 240 bytes, and the WHENEVER behind it.
+    /// The error of a line above 240 bytes, and the WHENEVER after it.
     fn too_long<S: Filestore>(&mut self, store: &mut S, asker: &Asker<'_>) -> Result<(), NoMemory>
         requires running { S.is_spent store.old ≡ false }
         requires few { self.old.blocks ≤ 2048 }
@@ -209,7 +209,7 @@ impl Work {
         self.may_fire(store, asker)
     }
 
-    /// Does the WHENEVER behind a command that set the outcome, if one fires.
+    /// Executes the WHENEVER after a command that set the outcome, if one fires.
     pub(crate) fn may_fire<S: Filestore>(
         &mut self,
         store: &mut S,
@@ -231,8 +231,8 @@ impl Work {
         self.fire_first(store, asker)
     }
 
-    /// Does the WHENEVER that fires by the outcome, if one does.
-    // A GOTO sets no outcome, and none fires behind most other lines: a function of its own keeps its room out of each.
+    /// Executes the WHENEVER that fires by the outcome, if one does.
+    // A GOTO sets no outcome, and after most other lines none fires: as a function of its own it adds no stack space to those.
     #[inline(never)]
     fn fire_first<S: Filestore>(&mut self, store: &mut S, asker: &Asker<'_>) -> Result<(), NoMemory>
         requires running { S.is_spent store.old ≡ false }
@@ -255,7 +255,7 @@ impl Work {
         }
     }
 
-    /// The command that fires, whose level is then the current one.
+    /// The command that fires; its level is then the current one.
     fn take_fired(&mut self, alloc: Global) -> Result<Option<Text>, NoMemory>
         ensures fired { IfOk result (λ text. FiredAs text self.old self.new) }
         ensures blocks { OnOk result (self.new.blocks ≡ self.old.blocks) }
@@ -266,7 +266,7 @@ impl Work {
         }
     }
 
-    /// Says a command that fires, in its own level, and does it.
+    /// Prints a command that fires, in its own level, and executes it.
     fn fires<S: Filestore>(
         &mut self,
         store: &mut S,
@@ -292,7 +292,7 @@ impl Work {
         self.run_fired_command(store, asker, text)
     }
 
-    /// Does the command of a WHENEVER behind its line; where it waits, the turn is gone on with at this command.
+    /// Executes the command of a WHENEVER after its line; if it waits, the turn resumes with this command.
     pub(crate) fn run_fired_command<S: Filestore>(
         &mut self,
         store: &mut S,
@@ -319,7 +319,7 @@ impl Work {
         self.run_kept_command(store, asker, read)
     }
 
-    /// Keeps the command of a WHENEVER, with what the line before it left.
+    /// Stores the command of a WHENEVER, with the results of the line before it.
     fn keep_command(&mut self, alloc: Global, command: Text) -> Result<(), NoMemory>
         ensures ok { OnOk result (self.new ≡ lines.to_go_on command self.old) }
     {
@@ -334,7 +334,7 @@ impl Work {
         Ok(())
     }
 
-    /// Does the command of a WHENEVER that was read. Its text is that of a command, so it was read well.
+    /// Executes the command of a WHENEVER that was parsed. Its text is that of a command, so parsing succeeded.
     fn run_kept_command<S: Filestore>(
         &mut self,
         store: &mut S,
@@ -361,7 +361,7 @@ impl Work {
     }
 }
 
-/// What a line says, or why it isn't read.
+/// What a line says, or why it can't be read.
 fn read_line(alloc: Global, text: &[u8]) -> Result<Line, LangFault>
     ensures reading { is_wanting result ≡ false → reading text.now ≡ read_as result }
     ensures well { IsReadWell result }
@@ -369,7 +369,7 @@ fn read_line(alloc: Global, text: &[u8]) -> Result<Line, LangFault>
     parse_line(alloc, text)
 }
 
-/// The label at which the level goes on by a line that was read, if it is a GOTO that stands behind no condition.
+/// The label at which the level continues after a line that was read, if it is a GOTO without a condition.
 fn label_to(read: &Result<Line, LangFault>) -> Option<&Label>
     ensures { IfSome result (λ label. SaysGoto read.now label.now) }
 {
@@ -382,7 +382,7 @@ fn label_to(read: &Result<Line, LangFault>) -> Option<&Label>
     }
 }
 
-/// Whether a line wasn't read for want of memory.
+/// Whether a line wasn't read because memory ran out.
 fn is_wanting(read: &Result<Line, LangFault>) -> bool
     ensures { result ≡ is_wanting read.now }
 {

@@ -1,4 +1,4 @@
-//! Replies and listings, said line by line.
+//! Replies and listings, printed line by line.
 ghost use Rattle.std.specs.Prelude.{◌≡◌, ◌++◌, ◌∷◌, [], false, map, OnOk};
 ghost use Rattle.g_turn.specs.Outcomes as said;
 ghost use Rattle.g_turn.specs.Uses as uses;
@@ -20,7 +20,7 @@ use g_plain::{StoreCall, StoreReply};
 use std::alloc::Global;
 
 impl Work {
-    /// Says a line of a file as LISTFILE shows it.
+    /// Prints a line of a file as LISTFILE shows it.
     fn say_shown(&mut self, alloc: Global, room: usize, line: &[u8]) -> Result<(), NoMemory>
         ensures ok { OnOk result (self.new ≡ said.say room (shown_line line.now) self.old) }
         ensures blocks { OnOk result (self.new.blocks ≡ self.old.blocks) }
@@ -31,7 +31,7 @@ impl Work {
         Ok(())
     }
 
-    /// Says a file of a directory as LISTDIR shows it.
+    /// Prints a file of a directory as LISTDIR shows it.
     fn say_row(&mut self, alloc: Global, room: usize, row: &(Full, u32)) -> Result<(), NoMemory>
         ensures ok { OnOk result (self.new ≡ said.say room (row_line row.now) self.old) }
         ensures blocks { OnOk result (self.new.blocks ≡ self.old.blocks) }
@@ -42,7 +42,7 @@ impl Work {
         Ok(())
     }
 
-    /// Says the lines of a file, up to the first without room.
+    /// Prints the lines of a file, up to the first without room.
     fn say_lines(&mut self, alloc: Global, room: usize, bytes: &[u8]) -> Result<(), NoMemory>
         ensures ok { OnOk result
             (self.new ≡ said.say_all room (listed_lines bytes.now) self.old) }
@@ -58,7 +58,7 @@ impl Work {
         Ok(())
     }
 
-    /// Says the files of a directory, up to the first without room.
+    /// Prints the files of a directory, up to the first without room.
     fn say_rows(&mut self, alloc: Global, room: usize, rows: &[(Full, u32)]) -> Result<(), NoMemory>
         ensures ok { OnOk result (self.new ≡ said.say_all room (map row_line rows.now) self.old) }
         ensures blocks { OnOk result (self.new.blocks ≡ self.old.blocks) }
@@ -72,7 +72,7 @@ impl Work {
         Ok(())
     }
 
-    /// Says the last line of a granted call.
+    /// Prints the last line of a granted call.
     pub(crate) fn say_last(
         &mut self,
         alloc: Global,
@@ -90,7 +90,7 @@ impl Work {
         Ok(())
     }
 
-    /// Says what stands above the last line of a granted call.
+    /// Prints the lines before the last line of a granted call.
     fn say_above(&mut self, alloc: Global, room: usize, reply: &StoreReply) -> Result<(), NoMemory>
         ensures ok { OnOk result
             (self.new ≡ said.say_all room (lines_above reply.now) self.old) }
@@ -109,7 +109,7 @@ impl Work {
         }
     }
 
-    /// Says the lines of a granted call, up to the first without room.
+    /// Prints the lines of a granted call, up to the first without room.
     pub(crate) fn say_reply(
         &mut self,
         alloc: Global,
@@ -131,7 +131,7 @@ impl Work {
         Ok(())
     }
 
-    /// Says words and the name of a file.
+    /// Prints words and the name of a file.
     pub(crate) fn say_named(
         &mut self,
         alloc: Global,
@@ -150,7 +150,7 @@ impl Work {
         Ok(())
     }
 
-    /// Makes room for the lines of a file, where they are some 30 bytes long or longer.
+    /// Reserves memory for the lines of a file, assuming that they have about 30 bytes or more.
     fn make_room_for(&mut self, alloc: Global, bytes: &[u8]) -> Result<(), NoMemory>
         ensures { self.new ≡ self.old }
     {

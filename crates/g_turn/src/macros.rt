@@ -1,4 +1,4 @@
-//! Macros: looked for, and called.
+//! Macros: searching and calling them.
 ghost use Rattle.std.specs.Prelude.{◌≡◌, ◌≤◌, ◌+◌, ℕ, false, length, OnErr, OnOk};
 ghost use Rattle.g_turn.specs.Macros as macros;
 ghost use Rattle.g_turn.specs.Outcomes as said;
@@ -21,7 +21,7 @@ use g_plain::{Filestore, StoreCall, StoreFault, StoreReply};
 use g_trap::Mode;
 use std::alloc::Global;
 
-/// The call that looks for a macro: in this user's directory, or in the caller's.
+/// The call that searches a macro: in this user's directory, or in the caller's.
 fn look_for(user: Option<User>, name: &Local) -> StoreCall
     ensures { result ≡ call.Fetch (macros.macro_path user name.now) mode.Execute }
 {
@@ -37,7 +37,7 @@ fn look_for(user: Option<User>, name: &Local) -> StoreCall
 }
 
 impl Work {
-    /// Looks for a macro in the job's own directory, else in that of MACROS, and calls it.
+    /// Searches a macro in the job's own directory, then in that of MACROS, and calls it.
     pub(crate) fn look_up<S: Filestore>(
         &mut self,
         store: &mut S,
@@ -75,7 +75,7 @@ impl Work {
         }
     }
 
-    /// Looks for a macro in the directory of MACROS, and calls it.
+    /// Searches a macro in the directory of MACROS, and calls it.
     fn look_up_shared<S: Filestore>(
         &mut self,
         store: &mut S,
@@ -117,7 +117,7 @@ impl Work {
         }
     }
 
-    /// Puts the lines of a macro on top of the levels; the blocks of its bytes count.
+    /// Pushes a level with the lines of a macro; the blocks of its bytes count.
     fn call_macro(
         &mut self,
         alloc: Global,

@@ -1,4 +1,4 @@
-//! What a turn has made, as a job reads it at the turn's end.
+//! The results of a turn, as a job reads them at the turn's end.
 ghost use Rattle.std.specs.Prelude.{◌≡◌, ◌++◌, None, option_map, OnOk};
 ghost use Rattle.g_turn.specs.Values.{pending_of, stop_of};
 ghost use Rattle.g_lines.specs.Lines.{ended};
@@ -28,7 +28,7 @@ impl Work {
         self.orders
     }
 
-    /// The blocks of 512 bytes that the turn has handed over.
+    /// The blocks of 512 bytes that the turn has transferred.
     pub fn blocks(&self) -> u32
         ensures { result ≡ self.now.blocks }
     {
@@ -42,7 +42,7 @@ impl Work {
         self.stop
     }
 
-    /// Takes what the turn is gone on with, where it waits.
+    /// Takes what the turn resumes with if it waits.
     pub fn take_again(&mut self, alloc: Global) -> Option<Suspended>
         ensures value { option_map pending_of result ≡ self.old.again }
         ensures none { self.new ≡ record self.old { again = None } }
@@ -56,9 +56,9 @@ impl Work {
         Some(Suspended::Line(line))
     }
 
-    /// Puts a job's last line with its byte 10 behind what the turn adds to the monitoring file, whatever room that has. Where
-    /// memory is wanting, nothing is known of what it adds.
-    // It comes once in a job: a function of its own keeps its room out of each turn.
+    /// Appends a job's last line with its byte 10 to the turn's text, without regard to the room of the monitoring file. If memory runs out, the text
+    /// is unspecified.
+    // Called once in a job: as a function of its own it adds no stack space to other turns.
     #[inline(never)]
     pub fn push_last(&mut self, line: JobLine) -> Result<(), NoMemory>
         ensures ok { OnOk result (self.new ≡ record self.old { text = self.old.text ++ ended (job_line line) }) }

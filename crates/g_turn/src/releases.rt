@@ -1,4 +1,4 @@
-//! Units that are released: by RELEASE, by DELETE and at the job's end.
+//! The release of units: by RELEASE, by DELETE and at the job's end.
 ghost use Rattle.std.specs.Prelude.{◌≡◌, ◌≤◌, ◌<◌, ◌+◌, ℕ, None, false, drop, length, MatchOption, OnErr, OnOk};
 ghost use Rattle.g_turn.specs.Releases as releases;
 ghost use Rattle.g_turn.specs.Outcomes as said;
@@ -41,7 +41,7 @@ fn writer_at(place: u8) -> Unit
 }
 
 impl Work {
-    /// RELEASE: the output of a printer or a punch is put.
+    /// RELEASE: the output of a printer or a punch is written to its file.
     pub(crate) fn release<S: Filestore>(
         &mut self,
         store: &mut S,
@@ -64,7 +64,7 @@ impl Work {
         }
     }
 
-    /// Puts what a unit gives back, if it gives something back.
+    /// Writes the output that a unit returns, if it has one.
     fn give_back<S: Filestore>(
         &mut self,
         store: &mut S,
@@ -90,7 +90,7 @@ impl Work {
         }
     }
 
-    /// No card reader with this number is assigned.
+    /// Releases the card reader of this number.
     fn release_reader(&mut self, number: u8)
         requires { number < 8 }
         ensures ok { self.new ≡ said.with_units
@@ -107,7 +107,7 @@ impl Work {
         }
     }
 
-    /// No card reader is assigned.
+    /// Releases all card readers.
     fn release_readers(&mut self)
         ensures ok { self.new ≡ releases.without_readers self.old }
         ensures sizes { length self.new.desk.units.writers ≡ 16 }
@@ -130,7 +130,7 @@ impl Work {
         }
     }
 
-    /// Releases the printer or the punch at a place, and puts its output, if it is assigned.
+    /// Releases the printer or the punch at a place, if it is assigned, and writes its output.
     fn release_place<S: Filestore>(
         &mut self,
         store: &mut S,
@@ -156,8 +156,7 @@ impl Work {
         }
     }
 
-    /// Releases all units, the readers, the printers, the punches, each by their numbers. Of a job that assigned none, as
-    /// most are, it looks at none.
+    /// Releases all units: readers, printers and punches, each in order of number. For a job that assigned none, which most don't, it checks none.
     fn release_all<S: Filestore>(
         &mut self,
         store: &mut S,
@@ -190,7 +189,7 @@ impl Work {
         Ok(())
     }
 
-    /// The job is done, behind the release of its units.
+    /// Ends the job after the release of its units.
     pub(crate) fn end_job<S: Filestore>(
         &mut self,
         store: &mut S,
@@ -220,8 +219,7 @@ impl Work {
         }
     }
 
-    /// DELETE: the program is dropped, the units are released, and then that is told. Without a program nothing is
-    /// released.
+    /// DELETE: the program is dropped, the units are released, and then DELETED is printed. Without a program nothing is released.
     pub(crate) fn delete<S: Filestore>(
         &mut self,
         store: &mut S,
@@ -253,7 +251,7 @@ impl Work {
         self.halted = false;
     }
 
-    /// Drops the program, releases the units, and tells it.
+    /// Drops the program, releases the units, and prints DELETED.
     fn drop_program<S: Filestore>(
         &mut self,
         store: &mut S,

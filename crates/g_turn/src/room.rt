@@ -1,4 +1,4 @@
-//! The room of a text that grows.
+//! The memory of a text that grows.
 ghost use Rattle.std.specs.Prelude.{◌≡◌, []};
 
 use g_base::NoMemory;
@@ -6,7 +6,7 @@ use g_name::Text;
 use std::alloc::Global;
 use std::mem;
 
-/// Takes the bytes out of a text, which keeps their room. It takes no memory.
+/// Removes the bytes of a text but keeps its memory. Allocates nothing.
 pub(crate) fn empty(alloc: Global, text: &mut Text)
     ensures { text.new ≡ [] }
 {
@@ -15,7 +15,7 @@ pub(crate) fn empty(alloc: Global, text: &mut Text)
     *text = Text::from(bytes);
 }
 
-/// Makes room for so many bytes behind the text, so that it doesn't grow bit by bit. The text stays as it is.
+/// Reserves memory for this many bytes at the end of the text, so that it doesn't grow in small steps. The text is unchanged.
 pub(crate) fn make_room(alloc: Global, text: &mut Text, more: usize) -> Result<(), NoMemory>
     ensures { text.new ≡ text.old }
 {

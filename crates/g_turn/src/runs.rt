@@ -14,7 +14,7 @@ use std::alloc::Global;
 const MOST: u32 = 64;
 
 impl Work {
-    /// ENTER: the program goes on at one of its ten entries, with overflow clear. `by` tells that a WHENEVER does it.
+    /// ENTER: starts the program at one of its ten entries, with overflow clear. `by` says whether a WHENEVER executes it.
     pub(crate) fn enter(
         &mut self,
         alloc: Global,
@@ -34,7 +34,7 @@ impl Work {
         self.go_on(alloc, room)
     }
 
-    /// RESUME: the program goes on behind its halt.
+    /// RESUME: the program continues after its halt.
     pub(crate) fn resume(&mut self, alloc: Global, room: usize, by: bool) -> Result<(), NoMemory>
         ensures ok { OnOk result (self.new ≡ runs.resumed room by self.old.desk.program self.old) }
         ensures blocks { OnOk result (self.new.blocks ≡ self.old.blocks) }
@@ -75,8 +75,7 @@ impl Work {
         Ok(())
     }
 
-    /// Runs orders that tell no more than that they were done, as far as the turn's last. Where the work is over it runs
-    /// none, since the next order is the last then.
+    /// Runs orders whose event is Ran, at most up to the turn's last. If the work is over it runs none, since the next order is the last then.
     fn run_plain(&mut self)
         requires few { self.old.orders < 64 }
         ensures same { (room : ℕ) → runs.goes_on room self.new ≡ runs.goes_on room self.old }
@@ -91,7 +90,7 @@ impl Work {
         }
     }
 
-    /// Does the next order and says its line; answers whether the run goes on. Without a program it doesn't.
+    /// Executes the next order and prints its line; returns whether the run continues. Without a program it doesn't.
     #[inline(never)]
     fn one_order(&mut self, alloc: Global, room: usize) -> Result<bool, NoMemory>
         requires few { self.old.orders < 64 }
@@ -105,7 +104,7 @@ impl Work {
         }
     }
 
-    /// Does the next order of the program with its transfer, if there is a program.
+    /// Executes the next order of the program with its transfer, if there is a program.
     fn step(&mut self) -> Result<Option<OrderEvent>, NoMemory>
         requires few { self.old.orders < 64 }
         ensures ok { IfOk result (λ came. Stepped came self.old self.new) }
@@ -119,7 +118,7 @@ impl Work {
         Ok(Some(event))
     }
 
-    /// Says what an order came to, and answers whether the run goes on.
+    /// Prints the event of an order, and returns whether the run continues.
     fn come(&mut self, alloc: Global, room: usize, event: OrderEvent) -> Result<bool, NoMemory>
         ensures ok { IfOk result (λ goes.
             runs.by_event room event self.old ≡ order_as goes self.new) }
@@ -150,7 +149,7 @@ impl Work {
         }
     }
 
-    /// A run is over, and its command comes out.
+    /// A run is over, and its command sets the outcome.
     fn end_run(&mut self, event: EventNote, halted: bool)
         ensures { self.new ≡ runs.run_ended event halted self.old }
     {

@@ -1,4 +1,4 @@
-//! What is said, and what becomes of a command.
+//! Printing, and the outcome of a command.
 ghost use Rattle.std.specs.Prelude.{◌≡◌, ◌≤◌, ◌+◌, ◌∷◌, ◌++◌, [], false, length, take, drop, OnOk};
 ghost use Rattle.g_base.specs.Block.{blocks_for};
 ghost use Rattle.g_turn.specs.Outcomes as said;
@@ -18,22 +18,22 @@ use std::alloc::Global;
 use std::mem;
 
 impl Work {
-    /// Whether nothing more is done in this turn.
+    /// Whether nothing more is executed in this turn.
     pub(crate) fn is_over(&self) -> bool
         ensures { result ≡ said.is_over self.now }
     {
         self.stop.is_some()
     }
 
-    /// Ends the work for this.
+    /// Ends the work for this reason.
     pub(crate) fn stop_at(&mut self, stop: Stop)
         ensures { self.new ≡ said.stopped (stop_of stop) self.old }
     {
         self.stop = Some(stop);
     }
 
-    /// Ends the line that begins behind so many bytes of the text: it is kept with its byte 10 where the file has room for
-    /// both; else it is taken back, and the work is over.
+    /// Ends the line that begins at byte `start` of the text: it remains, with its byte 10, if the file has room for both; otherwise it is removed,
+    /// and the work is over.
     pub(crate) fn end_line(
         &mut self,
         alloc: Global,
@@ -68,7 +68,7 @@ impl Work {
         self.set_outcome(false, EventNote::None);
     }
 
-    /// Says a text behind its mark.
+    /// Prints a text after its mark.
     pub(crate) fn say_marked(
         &mut self,
         alloc: Global,
@@ -85,7 +85,7 @@ impl Work {
         Ok(())
     }
 
-    /// Says a line of words and numbers.
+    /// Prints a line of words and numbers.
     pub(crate) fn say_job_line(
         &mut self,
         alloc: Global,
@@ -101,7 +101,7 @@ impl Work {
         Ok(())
     }
 
-    /// Says an error that no call of a store answers.
+    /// Prints an error that isn't a store's fault.
     pub(crate) fn in_error(
         &mut self,
         alloc: Global,
@@ -119,7 +119,7 @@ impl Work {
         Ok(())
     }
 
-    /// Says a refusal of a store as an error of the command.
+    /// Prints a store's refusal as an error of the command.
     fn say_fault(&mut self, alloc: Global, room: usize, fault: &StoreFault) -> Result<(), NoMemory>
         requires { IsPrinted fault.now }
         ensures ok { OnOk result
@@ -134,7 +134,7 @@ impl Work {
         Ok(())
     }
 
-    /// A call was refused: a wait and a stop end the work, and any other refusal is said as an error.
+    /// A call was refused: a wait and a stop end the work, and any other refusal is printed as an error.
     pub(crate) fn refuse(
         &mut self,
         alloc: Global,
@@ -161,7 +161,7 @@ impl Work {
         }
     }
 
-    /// The blocks of so many bytes count that a granted call handed over.
+    /// Counts the blocks of this many bytes, which a granted call transferred.
     pub(crate) fn count_bytes(&mut self, bytes: usize)
         requires short { bytes ≤ 65536 }
         requires few { self.old.blocks ≤ 4096 }
@@ -172,7 +172,7 @@ impl Work {
     }
 }
 
-/// Keeps the first bytes of a text alone, so many.
+/// Truncates a text to its first bytes.
 fn truncate(alloc: Global, text: &mut Text, len: usize)
     ensures { text.new ≡ take len text.old }
 {

@@ -7,7 +7,7 @@ pub enum Stop {
     Full,
     /// A call waits for the reel of this serial.
     Waits(u32),
-    /// A call was stopped.
+    /// A device write failed during a call.
     Broken,
     /// The job is done.
     Done,

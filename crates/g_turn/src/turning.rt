@@ -1,4 +1,4 @@
-//! The work of a turn: what waited, a run of the program that goes on, or the next line.
+//! The work of a turn: what waited, a run of the program that continues, or the next line.
 ghost use Rattle.std.specs.Prelude.{◌≡◌, ◌≤◌, ◌<◌, ℕ, [], None, false, length, is_some, option_map, true, IfOk, IfSome, OnErr, OnOk};
 ghost use Rattle.g_turn.specs.LineWork.{IsAgain, IsReady};
 ghost use Rattle.g_turn.specs.Making.{FewBlocks, HasLevel, taken_as};
@@ -23,8 +23,8 @@ use std::alloc::Global;
 use std::mem;
 
 impl Work {
-    /// A turn begins, with nothing made yet, in the room of the text that is there; the desk is as the last one left it,
-    /// with its 16 places for output. It takes no memory.
+    /// A turn begins without results, in the memory of the text that is there. The desk is unchanged since the last turn, with its 16 places for
+    /// output. Allocates nothing.
     pub fn begin(&mut self, alloc: Global)
         ensures ok { self.new ≡ record {
           desk = self.old.desk;
@@ -49,7 +49,7 @@ impl Work {
         self.stop = None;
     }
 
-    /// Nothing is gone on with any more. Mostly nothing but a line was, whose text stays where it is.
+    /// Drops what the turn resumed with. Usually that was only a line, whose text stays in place.
     fn drop_again(&mut self)
         ensures { self.new ≡ record self.old { again = None } }
     {
@@ -60,18 +60,17 @@ impl Work {
         self.kept = None;
     }
 
-    /// Takes back a text that was handed over, for its room alone: the next turn begins with it, and takes memory only
-    /// where it makes more.
+    /// Takes back a text for its memory: the next turn begins with it, and allocates only if it adds more.
     pub fn reuse_buffer(&mut self, text: Text)
         ensures { self.new ≡ record self.old { text = text } }
     {
         self.text = text;
     }
 
-    /// Does the work of a turn for the user `who`, whose monitoring file has room for so many bytes: goes on with what
-    /// waited; else with a run of the program that isn't over; else takes the next line.
+    /// Does the work of a turn for the asker's user and monitoring file: resumes with what waited; otherwise continues a run of the program that
+    /// isn't over; otherwise takes the next line.
     ///
-    /// Where memory is wanting, the store has answered a front of the turn's calls, and nothing is known of the work.
+    /// If memory runs out, the store has answered a prefix of the turn's calls, and the work is unspecified.
     pub fn go<S: Filestore>(
         &mut self,
         store: &mut S,
@@ -110,7 +109,7 @@ impl Work {
         }
     }
 
-    /// Goes on behind what was kept of the line before a command that waited.
+    /// Resumes after what was stored of the line before a command that waited.
     fn begin_behind(&mut self, text: Text, orders: u32, blocks: u32)
         ensures { self.new ≡ turns.with_kept text orders blocks self.old }
     {
@@ -119,9 +118,9 @@ impl Work {
         self.blocks = blocks;
     }
 
-    /// Does the same where nothing waits: goes on with a run of the program that isn't over, else takes the next line. What
-    /// waits is large, so a turn without it doesn't pay for its moves.
-    // Each turn comes to it.
+    /// Does the same if nothing waits: continues a run of the program that isn't over, otherwise takes the next line. What waits is large, so a turn
+    /// without it avoids moving it.
+    // Inlined: every turn calls it.
     #[inline(always)]
     pub fn run_or_take<S: Filestore>(
         &mut self,
@@ -145,7 +144,7 @@ impl Work {
         }
     }
 
-    /// A run of the program goes on; a WHENEVER follows its end, unless one began it.
+    /// Continues a run of the program; a WHENEVER follows its end, unless one began it.
     fn run_on<S: Filestore>(
         &mut self,
         store: &mut S,
@@ -172,8 +171,8 @@ impl Work {
         self.may_fire(store, asker)
     }
 
-    /// Takes a line and does it; with no line left the job ends.
-    // Each turn of a document comes to it.
+    /// Takes a line and executes it; with no line left the job ends.
+    // Inlined: every turn of a document calls it.
     #[inline(always)]
     fn take<S: Filestore>(&mut self, store: &mut S, asker: &Asker<'_>) -> Result<(), NoMemory>
         requires running { S.is_spent store.old ≡ false }
@@ -195,7 +194,7 @@ impl Work {
         }
     }
 
-    /// The next line of the levels, made in the room of the last one.
+    /// The next line of the levels, in the memory of the last one.
     fn take_line(&mut self, alloc: Global) -> Result<Next, NoMemory>
         ensures taken { IfOk result (λ next.
             (next_line self.old.desk.levels).0 ≡ taken_as next) }
@@ -213,7 +212,7 @@ impl Work {
     }
 }
 
-/// What is taken of the levels.
+/// What is taken from the levels.
 #[derive(Drop)]
 enum Next {
     /// No level has a line.

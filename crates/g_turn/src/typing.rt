@@ -1,4 +1,4 @@
-//! A document that is held open for lines that are typed, and whether the work can go on before they come.
+//! A document that is held open for typed lines, and whether the work can continue before they are typed.
 ghost use Rattle.std.specs.Prelude.{◌≡◌, false, OnErr, OnOk};
 ghost use Rattle.g_turn.specs.Typing.{can_go_on, with_stack};
 ghost use Rattle.g_lines.specs.Documents.{IsOneLine};
@@ -10,14 +10,14 @@ use g_macro::MacroFault;
 use g_name::Text;
 
 impl Work {
-    /// Holds the document open for lines to come.
+    /// Holds the document open for more lines.
     pub fn hold(&mut self)
         ensures { self.new ≡ with_stack held_open self.old }
     {
         self.levels.hold();
     }
 
-    /// No more lines are to come.
+    /// No more lines will be typed.
     pub fn finish(&mut self)
         ensures { self.new ≡ with_stack finished self.old }
     {
@@ -31,7 +31,7 @@ impl Work {
         self.levels.is_held()
     }
 
-    /// Puts a line behind those of the document; without memory nothing changes.
+    /// Appends a line to the document; without memory nothing changes.
     pub fn add_line(&mut self, line: Text) -> Result<(), NoMemory>
         requires { IsOneLine line }
         ensures ok { OnOk result (self.new ≡ with_stack (with_typed line) self.old) }
@@ -43,16 +43,15 @@ impl Work {
         }
     }
 
-    /// Whether a turn can go on with what is on the desk: a run of the program isn't over, or the levels are ready. It
-    /// takes no memory; where the document isn't held open, no line is looked at.
+    /// Whether a turn can continue with what is on the desk: a run of the program isn't over, or the levels are ready. Allocates nothing; if the
+    /// document isn't held open, it reads no line.
     pub fn ready(&self) -> bool
         ensures { result ≡ can_go_on self.now.desk }
     {
         self.running.is_some() || self.levels.ready()
     }
 
-    /// Whether a turn that can't go on can, with this line behind those of the document. It takes no memory, and looks at
-    /// no other line.
+    /// Whether a turn that can't continue can if this line is appended to the document. Allocates nothing, and reads no other line.
     pub fn ready_with(&self, line: &[u8]) -> bool
         requires { can_go_on self.now.desk ≡ false }
         ensures { result ≡ can_go_on (with_stack (with_typed line.now) self.now).desk }

@@ -5,16 +5,16 @@ use g_peri::Unit;
 /// What a file's bytes are fetched for.
 #[derive(Drop)]
 pub(crate) enum Use {
-    /// They are put for this path.
+    /// They are written to this path.
     Put(Path),
-    /// They are put behind those of this file.
+    /// They are appended to this file.
     Append(Path),
-    /// They are a source, whose program's file is put for this path.
+    /// They are a source, whose program's file is written to this path.
     Assemble(Path),
-    /// Their lines are said.
+    /// Their lines are printed.
     List,
     /// They are a program.
     Load,
-    /// Their lines are put into a card reader, which is assigned to this file.
+    /// Their lines are loaded into a card reader, which is assigned to this file.
     Assign { unit: Unit, file: Path },
 }

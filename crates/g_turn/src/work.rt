@@ -1,4 +1,4 @@
-//! What a turn makes, on the job's own desk.
+//! The results of a turn, on the job's own desk.
 use crate::stop::Stop;
 use crate::suspended::Suspended;
 use g_macro::{EventNote, Levels, Outcome};
@@ -8,7 +8,7 @@ use g_peri::Units;
 use std::alloc::Global;
 use std::marker::Model;
 
-/// What commands change, and what the present turn has made so far. A job owns one for good.
+/// What commands change, and the results of the present turn so far. A job owns one permanently.
 #[derive(Drop)]
 pub struct Work {
     pub(crate) levels: Levels,
@@ -24,12 +24,12 @@ pub struct Work {
     pub(crate) blocks: u32,
     /// The turn's command set the outcome.
     pub(crate) sets: bool,
-    /// The line that was taken last. The turn is gone on with it, where it waits and that is said; else with what is kept.
+    /// The line that was taken last. If the turn waits, it resumes with this line if `waits_with_line` says so, otherwise with `kept`.
     pub(crate) line: Text,
     pub(crate) waits_with_line: bool,
     pub(crate) kept: Option<Suspended>,
     pub(crate) stop: Option<Stop>,
-    /// The room of the text of the line before, in which the next one is made. Contracts don't see it.
+    /// The memory of the line before, reused for the next one. Contracts don't see it.
     pub(crate) line_room: Text,
 }
 
@@ -66,7 +66,7 @@ impl Work {
     ghost use Rattle.std.specs.Prelude.{◌≡◌, None, [], false};
     ghost use Rattle.g_macro.specs.declared.outcome.EventNote.TheVariants as note;
 
-    /// A desk on which nothing was done yet, with these levels and units and no program. It takes no memory.
+    /// A desk with these levels and units and no program, on which no command was executed yet. Allocates nothing.
     pub fn new(alloc: Global, levels: Levels, units: Units) -> Work
         ensures { result ≡ record {
           desk = record {

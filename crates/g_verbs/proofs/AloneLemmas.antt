@@ -1,4 +1,5 @@
--- Verbs that are read without their list of parameters: those of one file and of two, RENAME, and DISPLAY.
+-- Verbs that are read without building their list of parameters: those of one file and of two, RENAME, and DISPLAY.
+-- serves: file_and_local, only_file, read_by, read_file, read_files, read_known (grammar, sound), read_rename, two_files, crates above
 use Rattle.std.proofs.Common.{Err, IfOk, List, MatchOption, None, Ok, Option, Result, Some, [], ap, arith, length, refl, subst, suc, sym, true, zero, ℕ, ◌-◌, ◌≤◌, ◌∙◌, ◌∷◌, ◌≡◌, ◌≢◌}
 use Rattle.std.specs.List.{slice_get}
 use Rattle.g_lang.proofs.ParseLemmas.{params-some}
@@ -28,7 +29,7 @@ good_alone text path read =
 file_alone : (text : List ℕ) (path : Path) → file_read text ≡ Some path → path ≡ file_of (param (text ∷ []) 0)
 file_alone text path read = rw read refl
 
--- where one is wrong not all are good
+-- if one parameter is wrong, not all are good
 not_good : (f : Forms) (params : List (List ℕ)) (index : ℕ) → first_wrong f params ≡ Some index → AreGood f params → ⊥
 not_good f params index is good = let first : IsFirstWrong f params index = subst (Walked f params) is (walked f params) in first.wrong (good (index - 1))
 
@@ -74,7 +75,7 @@ display-good [] some place = absurd (omega (arith, some))
 display-good (text ∷ texts) some zero = tt
 display-good (text ∷ texts) some (suc place) = display_later place (slice_get texts place)
 
--- what they ask for
+-- their actions
 displays : (v : Option Verb) → is_display v ≡ true → v ≡ Some verb.Display
 displays (Some verb.Display) is = refl
 displays other is = absurd cc
@@ -104,7 +105,7 @@ renames : (v : Option Verb) → is_rename v ≡ true → v ≡ Some verb.Rename
 renames (Some verb.Rename) is = refl
 renames other is = absurd cc
 
--- a verb whose parameters are good, as a text has them
+-- a verb whose parameters are good, by their text
 alone : (name rest text : List ℕ) (v : Option Verb) (forms : Forms) (asked_for : Action) → v ≡ verb_of name → is_word name ≡ true → forms_with v ≡ forms
     → text ≡ rest → AreGood forms (params_read text) → asked_for ≡ asked v name (params_read text) rest → action_read name (params_read rest) rest ≡ Ok asked_for
 alone name rest text v forms asked_for is word are same good asks =

@@ -1,4 +1,5 @@
 -- The verb of a name, among those that begin with its first letter.
+-- serves: of
 use Rattle.std.proofs.Common.{List, Option, find, subst, sym, ℕ, ◌∙◌, ◌∷◌, ◌≡◌}
 use Rattle.g_name.specs.Order.{same_text}
 use Rattle.g_verbs.specs.Verbs.{verb_of, verb_word}

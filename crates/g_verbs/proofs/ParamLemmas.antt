@@ -1,4 +1,5 @@
--- What a parameter is read as.
+-- The values of parameters.
+-- serves: digit_unit, file, parameter, short_file, ReadLemmas, SaidLemmas, WalkLemmas, crates above
 use Rattle.std.proofs.Common.{Bool, Err, IfOk, List, None, Ok, Option, Result, Some, [], ap, arith, codes, drop, eqb-true, get_or, le-leb, leb-true, length, min, refl, subst, sym, true, ℕ, ◌+◌, ◌-◌, ◌<◌, ◌≤◌, ◌∙◌, ◌∷◌, ◌++◌, ◌^◌, ◌≡◌}
 use Rattle.std.specs.Prelude.{if◌then◌else◌, is_some, nat_le, ◌&&◌, ◌==◌}
 use Rattle.std.specs.Fmt.{decimal}
@@ -115,13 +116,13 @@ none_file : (text : List ℕ) (e : BadName) (o : Option Path) → file_read text
 none_file text e None read is = sym read
 none_file text e (Some path) read is = let file = file-sound text path read in absurd (is (path_name path) file.0 file.1)
 
--- how the text of a file is answered
+-- the result for the text of a file
 pub file-answers : (text : List ℕ) (r : Result Path BadName) (o : Option Path) → o ≡ result_ok r → IfOk r (λ p. IsName (path_name p) × (text ≡ name_text (path_name p)))
     → ((n : Name) → IsName n → text ≡ name_text n → IsOkAnd r (λ p. path_name p ≡ n)) → o ≡ file_read text
 file-answers text (Ok path) o same ok read = same ∙ sym (file-complete path text ok)
 file-answers text (Err e) o same ok read = same ∙ none_file text e (file_read text) refl read
 
--- a local name with a generation of one digit behind it, or none
+-- a local name, optionally followed by a generation of one digit
 abbrev pub short_name : List ℕ → Option ℕ → Name
 short_name local generation = record { user = None; local = local; generation = generation; lang = None }
 
@@ -320,7 +321,7 @@ letter-sound (c ∷ []) letter is =
 pub letter-complete : (letter : ℕ) → is_param_letter letter ≡ true → letter_read (letter ∷ []) ≡ Some letter
 letter-complete letter is = ap (λ (b : Bool). let none : Option ℕ = None in if b then Some letter else none) is
 
--- a text is of a form exactly where it is read as one
+-- a text is of a form if and only if it can be read as one
 pub is_of-sound : (form : Form) (text : List ℕ) → is_of form text ≡ true → IsOf form text
 is_of-sound form.File text is = let s = some_in (file_read text) is in (s.0, file-sound text s.0 s.1)
 is_of-sound form.User text is = let s = some_in (user_read text) is in (s.0, user-sound text s.0 s.1)

@@ -1,4 +1,5 @@
 -- The parameter at a place, and the modes from a place on.
+-- serves: first_wrong, values
 use Rattle.std.proofs.Common.{List, None, Option, Some, [], ap, drop, get_or, length, subst, sym, ℕ, ◌+◌, ◌<◌, ◌∙◌, ◌∷◌, ◌≡◌, ◌≤◌}
 use Rattle.std.proofs.lemmas.List.{drop_all, drop_more}
 use Rattle.std.proofs.lemmas.Option.{get_or_from_slice_get, none-some, slice_get-get_or}

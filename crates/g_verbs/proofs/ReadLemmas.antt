@@ -1,4 +1,5 @@
--- What is said is read, and nothing else.
+-- A verb is read as the action it says, and as no other.
+-- serves: read_from, verbs_are_read_by_their_forms (one, reads), AloneLemmas
 use Rattle.std.proofs.Common.{Err, List, None, Ok, Option, Result, Some, [], ap, arith, codes, false, length, map, refl, subst, suc, sym, true, zero, ℕ, ◌<◌, ◌≤◌, ◌∙◌, ◌∷◌, ◌≡◌}
 use Rattle.std.specs.Fmt.{decimal}
 use Rattle.std.specs.Prelude.{replicate}
@@ -92,7 +93,7 @@ three_may_good : (f g h i : Form) (a b c d : List ℕ) → is_of f a ≡ true �
     → first_wrong (at_least 3 (f ∷ g ∷ h ∷ i ∷ [])) (a ∷ b ∷ c ∷ d ∷ []) ≡ None
 three_may_good f g h i a b c d first second third fourth = rw (first, second, third, fourth) refl
 
--- words of modes where modes are asked for
+-- words of modes for a form of modes
 five_modes : List Form
 five_modes = form.Mode ∷ form.Mode ∷ form.Mode ∷ form.Mode ∷ form.Mode ∷ []
 
@@ -151,7 +152,7 @@ macro_good params few place (Some text) at =
 two_same : {A B C : Type 0} (f : A → B → C) (a a' : A) (b b' : B) → a ≡ a' → b ≡ b' → f a b ≡ f a' b'
 two_same f a a' b b' first second = ap (λ x. f x b) first ∙ ap (f a') second
 
--- WHAT IS SAID IS READ
+-- A VERB IS READ AS THE ACTION IT SAYS
 module _ (name : List ℕ) (params : List (List ℕ)) (rest : List ℕ) where
   file_reads : (v : Verb) (to : Path → Action) (file : Path) → verb_forms v ≡ just (form.File ∷ []) → ((a : List ℕ) → action_of v (a ∷ []) rest ≡ to (file_of a))
       → FileVerb (verb_word v) file name params → action_read name params rest ≡ Ok (to file)
@@ -311,7 +312,7 @@ module _ (name : List ℕ) (params : List (List ℕ)) (rest : List ℕ) where
   said-reads action.EndJob said = nothing_reads verb.EndJob action.EndJob refl refl said
   said-reads (action.Macro called given) said = macro_reads called given said
 
--- what is right to answer is answered
+-- the right result is returned
 pub read-is : (name : List ℕ) (params : List (List ℕ)) (rest : List ℕ) (r : Result Action ℕ) → IsRead name params rest r → action_read name params rest ≡ r
 unfolding action_read
 read-is name params rest (Ok asked_for) is = said-reads name params rest asked_for is
@@ -320,7 +321,7 @@ read-is name params rest (Err index) is = ap (asked_or_wrong (verb_of name) name
 pub one-reading : (name : List ℕ) (params : List (List ℕ)) (rest : List ℕ) (r s : Result Action ℕ) → IsRead name params rest r → IsRead name params rest s → r ≡ s
 one-reading name params rest r s first second = sym (read-is name params rest r first) ∙ read-is name params rest s second
 
--- and what is answered is right
+-- the result that is returned is right
 reads_by : (name : List ℕ) (params : List (List ℕ)) (rest : List ℕ) (o : Option Verb) (w : Option ℕ) → verb_of name ≡ o → is_word name ≡ true → Walked (forms_with o) params w
     → IsRead name params rest (asked_or_wrong o name params rest w)
 reads_by name params rest o (Some index) at word walk = subst (λ (v : Option Verb). IsFirstWrong (forms_with v) params index) (sym at) walk
@@ -346,7 +347,7 @@ said-sound (action.SetParam letter text) name params rest said = said.1.1
 said-sound (action.Macro called given) name params rest said = subst (λ (ps : List (List ℕ)). length ps ≤ 24) (sym said.3) said.4
 said-sound asked_for name params rest said = tt
 
--- what the code answers
+-- what the code returns
 pub read-wrong : (name : List ℕ) (params : List (List ℕ)) (rest : List ℕ) (f : Forms) (ps : List (List ℕ)) (index : ℕ) → f ≡ forms_with (verb_of name) → ps ≡ params
     → IsFirstWrong f ps index → action_read name params rest ≡ Err index
 read-wrong name params rest f ps index forms same wrong =

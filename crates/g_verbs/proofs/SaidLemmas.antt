@@ -1,4 +1,5 @@
--- Good parameters of a verb are said by what it asks for.
+-- A verb with good parameters says its action.
+-- serves: ReadLemmas
 use Rattle.std.proofs.Common.{List, Option, Some, [], ap, arith, drop, false, length, map, refl, subst, suc, sym, zero, ℕ, ◌<◌, ◌≤◌, ◌∙◌, ◌∷◌, ◌≡◌}
 use Rattle.std.specs.Fmt.{decimal}
 use Rattle.std.specs.Prelude.{unwrap_or}
@@ -76,7 +77,7 @@ letter_value text is =
     let same : letter_of text ≡ is.0 = ap letter_of is.2 ∙ letter_of-is is.0 is.1 in
     (subst IsLetter (sym same) is.1, is.2 ∙ ap (λ (l : ℕ). l ∷ []) (sym same))
 
--- no place for nothing, and for one more
+-- no place for no parameter, and for one more
 lacks : {A : Type 0} (least place : ℕ) → place < least → least ≤ place → A
 lacks least place h h' = absurd (omega (arith, h, h'))
 

@@ -1,4 +1,5 @@
--- The first wrong parameter is found, and there is one at most.
+-- The first wrong parameter is found, and there is at most one.
+-- serves: assign, budget, enter, file_and_local, file_user_modes, first_wrong, new_user, only_file, release, set_param, trap_check, two_files, and 2 more
 use Rattle.std.proofs.Common.{Bool, List, None, Option, Some, [], ap, arith, drop, false, get_or, length, pred, refl, subst, suc, sym, true, zero, ℕ, ◌+◌, ◌-◌, ◌<◌, ◌≤◌, ◌∙◌, ◌∷◌, ◌≡◌, ⊎_elim}
 use Rattle.std.specs.Prelude.{if◌then◌else◌, ◌==◌}
 use Rattle.std.specs.List.{slice_get}
@@ -22,7 +23,7 @@ pub fits-complete : (o : Option Form) (text : List ℕ) → Fits o text → fits
 fits-complete None text is = absurd is
 fits-complete (Some form) text is = is_of-complete form text is
 
--- one place further on
+-- the next place
 less_one : (least place : ℕ) → pred least ≤ place → least ≤ suc place
 less_one zero place h = omega arith
 less_one (suc least) place h = omega (arith, h)
@@ -44,7 +45,7 @@ module _ (all : List Form) (least : ℕ) (any_more : Bool) where
   earlier place None good = one_less least place good
   earlier place (Some text) good = subst (λ (f : Option Form). Fits (or_any any_more f) text) (sym (further all place)) good
 
--- what the walk tells: each place is good, or the first that isn't
+-- the result of the walk: each place is good, or the first that isn't
 abbrev pub Walked : Forms → List (List ℕ) → Option ℕ → Type 0
 Walked f params None = AreGood f params
 Walked f params (Some index) = IsFirstWrong f params index
@@ -102,7 +103,7 @@ walked_in (text ∷ texts) all least any_more =
 pub walked : (f : Forms) (params : List (List ℕ)) → Walked f params (first_wrong f params)
 walked f params = walked_in params f.all f.least f.any_more
 
--- where all are good, none is wrong; and one alone is the first
+-- if all are good, none is wrong; there is only one first wrong parameter
 pub good-or-wrong : (f : Forms) (params : List (List ℕ)) (index : ℕ) → AreGood f params → IsFirstWrong f params index → ⊥
 good-or-wrong f params index good wrong = wrong.wrong (good (index - 1))
 
@@ -132,7 +133,7 @@ some_by f params index (Some other) walk wrong = ap (λ (k : ℕ). let o : Optio
 pub wrong-some : (f : Forms) (params : List (List ℕ)) (index : ℕ) → IsFirstWrong f params index → first_wrong f params ≡ Some index
 wrong-some f params index wrong = some_by f params index (first_wrong f params) (walked f params) wrong
 
--- a parameter that has to be there, or is there
+-- a parameter that is required, or present
 there_by : (f : Forms) (params : List (List ℕ)) (place : ℕ) (form : Form) (text : List ℕ) → form_at f place ≡ Some form → slice_get params place ≡ Some text → Fits (form_at f place) text → IsThere form params place
 there_by f params place form text asked at good =
     let is : IsOf form text = subst (λ (o : Option Form). Fits o text) asked good in
@@ -152,7 +153,7 @@ given f params place form asked good inside =
     let at = slice_get-get_or params place [] inside in
     there_by f params place form (get_or params place []) asked at (subst (IsGoodPlace f place) at (good place))
 
--- one parameter after another
+-- parameters in order
 module _ (f : Forms) (params : List (List ℕ)) where
   abbrev pub GoodBelow : ℕ → Type 0
   GoodBelow n = (place : ℕ) → place < n → IsGoodPlace f place (slice_get params place)

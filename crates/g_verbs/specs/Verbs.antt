@@ -1,4 +1,4 @@
--- The verbs: what each asks for, as it is written, and the parameters that it takes.
+-- The verbs: their names, their parameters, and the action that each requests.
 use Rattle.std.specs.Fmt.{decimal}
 use Rattle.std.specs.List.{find}
 use Rattle.std.specs.Prelude.{Err, IfSome, List, None, Ok, Option, Result, Some, [], codes, length, replicate, true, ℕ, ◌∷◌, ◌≡◌, ◌≤◌}
@@ -17,13 +17,14 @@ use Rattle.g_verbs.specs.declared.form.Form.TheVariants as form
 use Rattle.g_verbs.specs.declared.verb.Verb.{Verb}
 use Rattle.g_verbs.specs.declared.verb.Verb.TheVariants as verb
 
--- the verbs that are no macros, and their names
+-- The verbs that are no macros.
 abbrev pub verbs : List Verb
 verbs =
     verb.Input ∷ verb.Copy ∷ verb.Append ∷ verb.Erase ∷ verb.Rename ∷ verb.ListFile ∷ verb.ListDir ∷ verb.TrapGo ∷ verb.TrapStop
     ∷ verb.TrapCheck ∷ verb.NewUser ∷ verb.Budget ∷ verb.Retrieve ∷ verb.Load ∷ verb.Plan ∷ verb.Enter ∷ verb.Resume
     ∷ verb.Assign ∷ verb.Release ∷ verb.Delete ∷ verb.SetParam ∷ verb.Display ∷ verb.EndJob ∷ []
 
+-- The name of a verb.
 abbrev pub verb_word : Verb → List ℕ
 verb_word verb.Input = codes "INPUT"
 verb_word verb.Copy = codes "COPY"
@@ -49,11 +50,11 @@ verb_word verb.SetParam = codes "SETPARAM"
 verb_word verb.Display = codes "DISPLAY"
 verb_word verb.EndJob = codes "ENDJOB"
 
--- the verb of a name; that of a macro has none
+-- The verb of a name; the name of a macro has none.
 abbrev pub verb_of : List ℕ → Option Verb
 verb_of name = find (λ verb. same_text (verb_word verb) name) verbs
 
--- THE PARAMETERS OF EACH VERB, and those of a macro
+-- THE PARAMETERS OF EACH VERB.
 abbrev pub verb_forms : Verb → Forms
 verb_forms verb.Input = just (form.File ∷ [])
 verb_forms verb.Copy = just (form.File ∷ form.File ∷ [])
@@ -79,44 +80,50 @@ verb_forms verb.SetParam = at_least 1 (form.Letter ∷ form.Text ∷ [])
 verb_forms verb.Display = record { all = form.Text ∷ []; least = 1; any_more = true }
 verb_forms verb.EndJob = just []
 
+-- The parameters of a macro: up to 24 texts.
 abbrev pub macro_forms : Forms
 macro_forms = at_least 0 (replicate 24 form.Text)
 
+-- The parameters of a verb, or of a macro.
 abbrev pub forms_with : Option Verb → Forms
 forms_with None = macro_forms
 forms_with (Some verb) = verb_forms verb
 
+-- The parameters that a name requires.
 abbrev pub forms_of : List ℕ → Forms
 forms_of name = forms_with (verb_of name)
 
--- a user, an amount of MONEY, a text that may be left out
+-- A user, or no parameter.
 abbrev pub MayBeUser : Option (List ℕ) → List (List ℕ) → Type 0
 MayBeUser None texts = texts ≡ []
 MayBeUser (Some user) texts = (text : List ℕ) × IsUser user text × (texts ≡ text ∷ [])
 
+-- An amount of MONEY, or no parameter.
 abbrev pub MayBeMoney : Option ℕ → List (List ℕ) → Type 0
 MayBeMoney None texts = texts ≡ []
 MayBeMoney (Some n) texts = (text : List ℕ) × IsAmount kind.Money n text × (texts ≡ text ∷ [])
 
+-- A text, or no parameter.
 abbrev pub MayBeText : Option (List ℕ) → List (List ℕ) → Type 0
 MayBeText None texts = texts ≡ []
 MayBeText (Some text) texts = texts ≡ text ∷ []
 
--- a verb with one file, and with two
+-- A verb with exactly one file.
 abbrev pub FileVerb : List ℕ → Path → List ℕ → List (List ℕ) → Type 0
 FileVerb word file name params = (name ≡ word) × ((a : List ℕ) × IsFile file a × (params ≡ a ∷ []))
 
+-- A verb with exactly two files.
 abbrev pub TwoFiles : List ℕ → Path → Path → List ℕ → List (List ℕ) → Type 0
 TwoFiles word from to name params =
     (name ≡ word) × ((a : List ℕ) × (b : List ℕ) × IsFile from a × IsFile to b × (params ≡ a ∷ b ∷ []))
 
--- TRAPGO and TRAPSTOP
+-- TRAPGO and TRAPSTOP.
 abbrev pub TrapVerb : List ℕ → Path → List ℕ → ℕ → List ℕ → List (List ℕ) → Type 0
 TrapVerb word file user modes name params =
     (name ≡ word)
     × ((a : List ℕ) × (b : List ℕ) × (texts : List (List ℕ)) × IsFile file a × IsUser user b × AreModes modes texts × (params ≡ a ∷ b ∷ texts))
 
--- THE VERBS: this name with these parameters asks for this; `rest` is how the parameters are written
+-- THE VERBS: this name with these parameters requests this action; `rest` is the text of the parameters.
 abbrev pub Says : Action → List ℕ → List (List ℕ) → List ℕ → Type 0
 Says (Input file) name params rest = FileVerb (codes "INPUT") file name params
 Says (Copy from to) name params rest = TwoFiles (codes "COPY") from to name params
@@ -152,26 +159,26 @@ Says EndJob name params rest = (name ≡ codes "ENDJOB") × (params ≡ [])
 Says (Macro called given) name params rest =
     (verb_of name ≡ None) × (is_word name ≡ true) × (called ≡ name) × (given ≡ params) × (length params ≤ 24)
 
--- THE BAD PARAMETER: the first, from 1, that isn't of the verb's form, or is one too many, or lacks
+-- THE BAD PARAMETER: the first, from 1, that doesn't have the verb's form, or is one too many, or is missing.
 abbrev pub IsBadParameter : List ℕ → List (List ℕ) → ℕ → Type 0
 IsBadParameter name params index = IsFirstWrong (forms_of name) params index
 
--- what is right to answer
+-- The right result of reading a verb.
 abbrev pub IsRead : List ℕ → List (List ℕ) → List ℕ → Result Action ℕ → Type 0
 IsRead name params rest (Ok action) = Says action name params rest
 IsRead name params rest (Err index) = IsBadParameter name params index
 
--- how a verb is read
+-- The result of reading a verb.
 abbrev pub Reads : List ℕ → List (List ℕ) → List ℕ → Result Action VerbFault → Type 0
 Reads name params rest (Ok action) = Says action name params rest
 Reads name params rest (Err (BadParameter index)) = IsBadParameter name params index
 
--- the reading of a verb, as it is answered
+-- The reading of a verb, as a result of the code.
 abbrev pub IsActionRead : Result Action ℕ → Result Action VerbFault → Type 0
 IsActionRead r (Ok action) = r ≡ Ok action
 IsActionRead r (Err (BadParameter index)) = r ≡ Err index
 
--- what an action asks for is within the limits of the store's calls, of the order code and of the levels
+-- The numbers of an action are within the limits of the store's calls, of the order code and of the levels.
 abbrev pub IsSound : Action → Type 0
 IsSound (NewUser user space time money) = (space ≤ 65535) × (time ≤ 1000000000) × IfSome money (λ m. m ≤ 1000000000)
 IsSound (Budget user which amount) = amount ≤ most_of which

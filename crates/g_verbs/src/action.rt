@@ -1,30 +1,30 @@
-//! What a verb with its parameters asks for.
+//! The action that a verb with its parameters requests.
 use g_lang::{Param, Params, Rest};
 use g_name::{Local, Path, User};
 use g_peri::Unit;
 use g_plain::BudgetKind;
 use g_trap::Modes;
 
-/// What a verb with its parameters asks for; one variant for each verb, and one for macros.
+/// The action that a verb with its parameters requests; one variant for each verb, and one for macros.
 ///
 /// What each does, and what it prints, is in `docs/MANUAL.md`, "Verbs".
 #[derive(Drop)]
 pub enum Action {
-    /// Puts the lines behind this one, up to `////`, into a file.
+    /// Writes the lines after this one, up to `////`, to a file.
     Input {
         file: Path,
     },
-    /// Puts the bytes of one file into another.
+    /// Copies the bytes of one file to another.
     Copy {
         from: Path,
         to: Path,
     },
-    /// Puts the bytes of one file behind those of another.
+    /// Appends the bytes of one file to another.
     Append {
         from: Path,
         to: Path,
     },
-    /// Takes a file out.
+    /// Erases a file.
     Erase {
         file: Path,
     },
@@ -37,7 +37,7 @@ pub enum Action {
     ListFile {
         file: Path,
     },
-    /// Prints the files of a user; of the caller where no user is named.
+    /// Prints the files of a user, or of the caller if no user is named.
     ListDir {
         user: Option<User>,
     },
@@ -53,7 +53,7 @@ pub enum Action {
         user: User,
         modes: Modes,
     },
-    /// Prints what a user may do with a file; the caller where no user is named.
+    /// Prints what a user, or the caller if no user is named, may do with a file.
     TrapCheck {
         file: Path,
         user: Option<User>,
@@ -79,7 +79,7 @@ pub enum Action {
     Load {
         file: Path,
     },
-    /// Assembles a source and puts the program's file.
+    /// Assembles a source and writes the program's file.
     Plan {
         from: Path,
         to: Path,
@@ -88,7 +88,7 @@ pub enum Action {
     Enter {
         n: u64,
     },
-    /// Goes on with the program after a halt.
+    /// Continues the program after a halt.
     Resume,
     /// Assigns a unit to a file.
     Assign {
@@ -101,18 +101,18 @@ pub enum Action {
     },
     /// Drops the program and releases all units.
     Delete,
-    /// Sets a parameter of the level, `A` to `X`; to the empty text where none is given.
+    /// Sets a parameter of the level, `A` to `X`; to the empty text if none is given.
     SetParam {
         letter: u8,
         text: Param,
     },
-    /// Prints a text: the parameters as they were written.
+    /// Prints a text: the parameters, unchanged.
     Display {
         text: Rest,
     },
     /// Ends the job.
     EndJob,
-    /// Goes on with the lines of a macro; it gets up to 24 parameters.
+    /// Continues with the lines of a macro; it gets up to 24 parameters.
     Macro {
         name: Local,
         params: Params,

@@ -1,4 +1,4 @@
-//! What each verb asks for, from parameters that are good. `params` is the text in which they stand.
+//! The action of each verb, from parameters that are good. `params` is their text.
 ghost use Rattle.std.specs.Prelude.{◌≡◌, [], ◌∷◌, drop};
 ghost use Rattle.g_lang.specs.LineReader.{params_read};
 ghost use Rattle.g_verbs.specs.Forms as forms;
@@ -18,7 +18,7 @@ use g_name::{Local, Path, User};
 use g_plain::BudgetKind;
 use g_trap::Modes;
 
-/// The file of a verb that takes one file alone.
+/// The file of a verb that takes exactly one file.
 pub(crate) fn only_file(params: &[u8]) -> Path
     requires { AreGood (forms.just (form.File ∷ [])) (params_read params.now) }
     ensures { result ≡ how.file_of (how.param (params_read params.now) 0) }
@@ -26,7 +26,7 @@ pub(crate) fn only_file(params: &[u8]) -> Path
     file_at(params, 0)
 }
 
-/// The files of a verb that takes two files alone.
+/// The files of a verb that takes exactly two files.
 pub(crate) fn two_files(params: &[u8]) -> (Path, Path)
     requires { AreGood (forms.just (form.File ∷ form.File ∷ [])) (params_read params.now) }
     ensures from { result.0 ≡ how.file_of (how.param (params_read params.now) 0) }

@@ -1,4 +1,4 @@
-//! The forms of parameters, and the first parameter that isn't of the form that is asked for at its place.
+//! The forms of parameters, and the first parameter that doesn't have the form required at its place.
 ghost use Rattle.std.specs.Prelude.{◌≡◌, ◌<◌, length, MatchOption};
 ghost use Rattle.g_lang.specs.LineReader.{params_read};
 ghost use Rattle.g_verbs.specs.Forms.{AreGood, IsFirstWrong, form_at};
@@ -10,7 +10,7 @@ use crate::values::text_at;
 use g_lang::count_params;
 use g_plain::BudgetKind;
 
-/// What a parameter has to be.
+/// The form of a parameter.
 #[derive(Clone, Copy, PartialEq, Eq)]
 pub enum Form {
     /// The path of a file.
@@ -19,7 +19,7 @@ pub enum Form {
     User,
     /// A local name.
     Local,
-    /// A budget's word, a space and a number up to the budget's most.
+    /// A budget's word, a space and a number up to the budget's maximum.
     Amount(BudgetKind),
     /// The amount of any budget.
     AnyAmount,
@@ -31,7 +31,7 @@ pub enum Form {
     Letter,
     /// A number from 0 to 9.
     Digit,
-    /// Any text, also an empty one.
+    /// Any text, including the empty one.
     Text,
 }
 
@@ -60,15 +60,14 @@ impl Form {
 pub struct Forms {
     /// Their forms in order.
     pub all: &'static [Form],
-    /// How many of them must be there.
+    /// How many of them are required.
     pub least: usize,
     /// Whether any others may follow.
     pub any_more: bool,
 }
 
 impl Forms {
-    /// The first wrong parameter of those that stand in a text, counted from 1: one that isn't of its form, or is one too
-    /// many, or lacks.
+    /// The first wrong parameter in a text, counted from 1: one that doesn't have its form, or is one too many, or is missing.
     pub fn first_wrong(&self, text: &[u8]) -> Option<usize>
         ensures { MatchOption result (AreGood (forms_said self.now) (params_read text.now))
             (IsFirstWrong (forms_said self.now) (params_read text.now)) }
@@ -86,13 +85,13 @@ impl Forms {
         }
     }
 
-    /// Whether the parameter at a place of those that stand in a text may stand there.
+    /// Whether a text may have the parameter that it has at a place.
     fn takes(&self, text: &[u8], place: usize) -> bool
         requires { place < length (params_read text.now) }
         ensures { result ≡ how.fits (form_at (forms_said self.now) place) (how.param (params_read text.now) place) }
     {
         match self.all.get(place) {
-            // Any text will do, so it isn't looked for: the parameters of a macro are counted alone.
+            // Any text is accepted, so it isn't extracted: the parameters of a macro are only counted.
             Some(Form::Text) => true,
             Some(form) => form.is_form_of(text_at(text, place)),
             None => self.any_more,

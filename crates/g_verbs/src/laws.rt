@@ -5,8 +5,8 @@ ghost use Rattle.g_verbs.specs.VerbReader.{action_read};
 ghost use Rattle.g_verbs.specs.Verbs.{Says, IsRead, IsSound};
 ghost use Rattle.g_verbs.specs.declared.action.Action.{Action};
 
-/// Each name that is a word has, with any parameters, one reading, and `action_read` is it: what the verb asks for, or
-/// the first bad parameter. Of a name that is no word nothing is asked. What is asked for is within the limits.
+/// Each name that is a word has, with any parameters, exactly one reading, which `action_read` computes: the action that the verb requests, or the
+/// first bad parameter. The law says nothing of a name that is no word. The numbers of an action are within their limits.
 pub fn verbs_are_read_by_their_forms()
     ensures reads { (name : List ℕ) (params : List (List ℕ)) (rest : List ℕ)
         → is_word name ≡ true → IsRead name params rest (action_read name params rest) }

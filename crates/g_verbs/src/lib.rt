@@ -1,4 +1,4 @@
-//! The verbs of the command language: the parameters that each takes, and what it asks for.
+//! The verbs of the command language: the parameters that each takes, and the action that it requests.
 #![tactic(auto)]
 
 mod action;

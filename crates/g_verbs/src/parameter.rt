@@ -1,4 +1,4 @@
-//! One parameter of each form; none of these takes memory.
+//! One parameter of each form; none of these functions allocates memory.
 ghost use Rattle.std.specs.Prelude.{◌≡◌, None, true, IfSome};
 ghost use Rattle.g_lines.specs.Numbers.{number_read};
 ghost use Rattle.g_name.specs.Grammar.{is_word};
@@ -35,8 +35,7 @@ pub(crate) fn file(text: &[u8]) -> Option<Path>
     }
 }
 
-/// The path of a text that is a local name, with a generation of one digit behind it or none, as most are. The other
-/// answer says nothing.
+/// The path of a text that is a local name, with or without a generation of one digit, as most are. `None` doesn't mean that the text is no path.
 #[tactic(auto, using(crate::proofs::ParamLemmas::digit_range, crate::proofs::ParamLemmas::file_of_word))]
 fn short_file(text: &[u8]) -> Option<Path>
     ensures { IfSome result (λ path. parameters.IsFile path text.now) }
@@ -47,7 +46,7 @@ fn short_file(text: &[u8]) -> Option<Path>
     }
 }
 
-/// What stands before a generation of one digit in its brackets, and the generation.
+/// The part before a generation of one digit in brackets, and the generation.
 fn split_digit(text: &[u8]) -> Option<(&[u8], u16)>
     ensures { IfSome result (λ parts. IsBeforeDigit text.now parts.0.now parts.1) }
 {
@@ -94,7 +93,7 @@ pub(crate) fn local(text: &[u8]) -> Option<Local>
     Local::new(text)
 }
 
-/// An amount of a budget: its word, a space and a number up to the budget's most.
+/// An amount of a budget: its word, a space and a number up to the budget's maximum.
 pub(crate) fn amount(kind: BudgetKind, text: &[u8]) -> Option<u64>
     ensures { result ≡ how.amount_read kind text.now }
 {
@@ -120,7 +119,7 @@ pub(crate) fn budget(text: &[u8]) -> Option<(BudgetKind, u64)>
     }
 }
 
-/// What stands before the number of an amount.
+/// The part of an amount before its number.
 fn front(kind: BudgetKind) -> &'static [u8]
     ensures { result.now ≡ how.kind_front kind }
 {
@@ -131,7 +130,7 @@ fn front(kind: BudgetKind) -> &'static [u8]
     }
 }
 
-/// The most that there may be of a budget.
+/// The maximum of a budget.
 fn most(kind: BudgetKind) -> u64
     ensures { result ≡ parameters.most_of kind }
 {

@@ -1,4 +1,4 @@
-//! From a verb and its parameters to what it asks for.
+//! Reading a verb and its parameters.
 ghost use Rattle.std.specs.Prelude.{◌≡◌, ◌∷◌, ℕ, [], true, List, IfOk, IfSome, MatchOption};
 ghost use Rattle.g_lang.specs.LineReader.{params_read};
 ghost use Rattle.g_verbs.specs.Forms.{AreGood, just};
@@ -13,11 +13,11 @@ use crate::{Action, Forms, Verb, VerbFault, asked, parameter};
 use g_lang::{Params, Rest, only_param, two_params};
 use g_name::{Local, Path};
 
-/// What a verb asks for with the parameters that stand in a text (`docs/DEFINITIONS.md`, "Verbs"): as they were written,
-/// from the first one on.
+/// The action that a verb requests with the parameters in a text (`docs/DEFINITIONS.md`, "g_verbs"); the text is unchanged, from the first parameter
+/// on.
 ///
-/// `BadParameter` comes exactly where a parameter is bad. A name that is no verb's is that of a macro, which isn't
-/// looked for here. It takes no memory.
+/// `BadParameter` is returned if and only if a parameter is bad. A name that is no verb's is that of a macro, which isn't searched here. Allocates
+/// nothing.
 pub fn read_verb(name: &Local, rest: Rest) -> Result<Action, VerbFault>
     ensures grammar { verbs.Reads name.now (params_read rest) rest result }
     ensures one { verbs.IsActionRead (how.action_read name.now (params_read rest) rest) result }
@@ -27,24 +27,24 @@ pub fn read_verb(name: &Local, rest: Rest) -> Result<Action, VerbFault>
     read_known(verb, name, rest)
 }
 
-/// The same where the verb of the name is known already.
+/// The same if the verb of the name is known already.
 pub fn read_known(verb: Option<Verb>, name: &Local, rest: Rest) -> Result<Action, VerbFault>
     requires { verb ≡ verbs.verb_of name.now }
     ensures grammar { verbs.Reads name.now (params_read rest) rest result }
     ensures one { verbs.IsActionRead (how.action_read name.now (params_read rest) rest) result }
     ensures sound { IfOk result verbs.IsSound }
 {
-    // It is known from here that the name is a word.
+    // Establishes that the name is a word.
     let _word = name.as_slice();
     read_by(verb, name, rest)
 }
 
-/// The same. What is large is made in a function of its own: so no verb pays for what others make.
+/// The same. Large values are built in functions of their own, so that no verb pays for those of others.
 fn read_by(verb: Option<Verb>, name: &Local, rest: Rest) -> Result<Action, VerbFault>
     requires { verb ≡ verbs.verb_of name.now }
     ensures { verbs.IsActionRead (how.action_read name.now (params_read rest) rest) result }
 {
-    // It is known from here that the name is a word.
+    // Establishes that the name is a word.
     let _word = name.as_slice();
     if is_display(verb) && !rest.as_slice().is_empty() {
         return Ok(Action::Display { text: rest });
@@ -61,13 +61,13 @@ fn read_by(verb: Option<Verb>, name: &Local, rest: Rest) -> Result<Action, VerbF
     read_from(verb, name, rest)
 }
 
-/// The same of a verb that takes one file and nothing else.
+/// The same for a verb that takes exactly one file.
 fn read_file(verb: Option<Verb>, name: &Local, rest: Rest) -> Result<Action, VerbFault>
     requires verb { verb ≡ verbs.verb_of name.now }
     requires kind { is_of_one_file verb ≡ true }
     ensures { verbs.IsActionRead (how.action_read name.now (params_read rest) rest) result }
 {
-    // The name is a word.
+    // Establishes that the name is a word.
     let _word = name.as_slice();
     if let Some(file) = only_file(rest.as_slice()) {
         return Ok(of_file(verb, file));
@@ -75,13 +75,13 @@ fn read_file(verb: Option<Verb>, name: &Local, rest: Rest) -> Result<Action, Ver
     read_from(verb, name, rest)
 }
 
-/// The same of a verb that takes two files and nothing else.
+/// The same for a verb that takes exactly two files.
 fn read_files(verb: Option<Verb>, name: &Local, rest: Rest) -> Result<Action, VerbFault>
     requires verb { verb ≡ verbs.verb_of name.now }
     requires kind { is_of_two_files verb ≡ true }
     ensures { verbs.IsActionRead (how.action_read name.now (params_read rest) rest) result }
 {
-    // The name is a word.
+    // Establishes that the name is a word.
     let _word = name.as_slice();
     if let Some(both) = two_files(rest.as_slice()) {
         return Ok(of_two_files(verb, both));
@@ -89,13 +89,13 @@ fn read_files(verb: Option<Verb>, name: &Local, rest: Rest) -> Result<Action, Ve
     read_from(verb, name, rest)
 }
 
-/// The same of RENAME.
+/// The same for RENAME.
 fn read_rename(verb: Option<Verb>, name: &Local, rest: Rest) -> Result<Action, VerbFault>
     requires verb { verb ≡ verbs.verb_of name.now }
     requires kind { is_rename verb ≡ true }
     ensures { verbs.IsActionRead (how.action_read name.now (params_read rest) rest) result }
 {
-    // The name is a word.
+    // Establishes that the name is a word.
     let _word = name.as_slice();
     if let Some(both) = file_and_local(rest.as_slice()) {
         return Ok(rename(both));
@@ -103,12 +103,12 @@ fn read_rename(verb: Option<Verb>, name: &Local, rest: Rest) -> Result<Action, V
     read_from(verb, name, rest)
 }
 
-/// The same of any verb, whose parameters are looked at one by one.
+/// The same for any verb; checks its parameters one by one.
 fn read_from(verb: Option<Verb>, name: &Local, rest: Rest) -> Result<Action, VerbFault>
     requires { verb ≡ verbs.verb_of name.now }
     ensures { verbs.IsActionRead (how.action_read name.now (params_read rest) rest) result }
 {
-    // The name is a word.
+    // Establishes that the name is a word.
     let _word = name.as_slice();
     let forms = forms_of(verb);
     if let Some(index) = forms.first_wrong(rest.as_slice()) {
@@ -127,7 +127,7 @@ fn is_display(verb: Option<Verb>) -> bool
     }
 }
 
-/// Whether a verb takes one file and nothing else.
+/// Whether a verb takes exactly one file.
 fn is_of_one_file(verb: Option<Verb>) -> bool
     ensures { result ≡ is_of_one_file verb }
 {
@@ -137,8 +137,7 @@ fn is_of_one_file(verb: Option<Verb>) -> bool
     }
 }
 
-/// The file that the only parameter of those that stand in a text names, if there is one alone: it is what a verb of one
-/// file asks for. It takes no memory.
+/// The file that the only parameter in a text names, if there is exactly one; a verb of one file requires it. Allocates nothing.
 pub fn only_file(rest: &[u8]) -> Option<Path>
     ensures { MatchOption result (AreGood (just (form.File ∷ [])) (params_read rest.now) → ⊥)
         (λ path. AreGood (just (form.File ∷ [])) (params_read rest.now)
@@ -150,7 +149,7 @@ pub fn only_file(rest: &[u8]) -> Option<Path>
     }
 }
 
-/// What a verb of one file asks for with this file.
+/// The action of a verb of one file with this file.
 fn of_file(verb: Option<Verb>, file: Path) -> Action
     requires { is_of_one_file verb ≡ true }
     ensures { (name rest : List ℕ) (params : List (List ℕ)) → file ≡ how.file_of (how.param params 0)
@@ -166,7 +165,7 @@ fn of_file(verb: Option<Verb>, file: Path) -> Action
     }
 }
 
-/// Whether a verb takes two files and nothing else.
+/// Whether a verb takes exactly two files.
 fn is_of_two_files(verb: Option<Verb>) -> bool
     ensures { result ≡ is_of_two_files verb }
 {
@@ -194,7 +193,7 @@ fn two_files(rest: &[u8]) -> Option<(Path, Path)>
     }
 }
 
-/// What a verb of two files asks for with these files.
+/// The action of a verb of two files with these files.
 fn of_two_files(verb: Option<Verb>, files: (Path, Path)) -> Action
     requires { is_of_two_files verb ≡ true }
     ensures { (name rest : List ℕ) (params : List (List ℕ)) → files.0 ≡ how.file_of (how.param params 0)
@@ -256,7 +255,7 @@ fn forms_of(verb: Option<Verb>) -> Forms
     }
 }
 
-/// What a verb or a macro asks for, whose parameters are good.
+/// The action of a verb or a macro whose parameters are good.
 fn asked_by(verb: Option<Verb>, name: &Local, rest: Rest) -> Action
     requires { AreGood (verbs.forms_with verb) (params_read rest) }
     ensures { result ≡ how.asked verb name.now (params_read rest) rest }
@@ -270,7 +269,7 @@ fn asked_by(verb: Option<Verb>, name: &Local, rest: Rest) -> Action
     }
 }
 
-/// What a verb asks for, whose parameters are good.
+/// The action of a verb whose parameters are good.
 fn action_of(verb: Verb, rest: Rest) -> Action
     requires { AreGood (verbs.verb_forms verb) (params_read rest) }
     ensures { result ≡ how.action_of verb (params_read rest) rest }

@@ -1,4 +1,4 @@
-//! The values of parameters that are of their forms. `params` is the text in which they stand.
+//! The values of parameters that have their forms. `params` is their text.
 ghost use Rattle.std.specs.Prelude.{◌≡◌, ◌<◌, drop, length};
 ghost use Rattle.g_lang.specs.LineReader.{params_read};
 ghost use Rattle.g_plain.specs.declared.calls.BudgetKind.TheVariants as kind;
@@ -41,7 +41,7 @@ pub(crate) fn user_at(params: &[u8], place: usize) -> User
     parameter::user(text_at(params, place)).unwrap()
 }
 
-/// The user that a parameter names, if it is there.
+/// The user that a parameter names, if there is one.
 pub(crate) fn user_if_at(params: &[u8], place: usize) -> Option<User>
     requires { place < length (params_read params.now) → IsThere form.User (params_read params.now) place }
     ensures { result ≡ how.user_at (params_read params.now) place }
@@ -69,7 +69,7 @@ pub(crate) fn amount_at(kind: BudgetKind, params: &[u8], place: usize) -> u64
     parameter::amount(kind, text_at(params, place)).unwrap()
 }
 
-/// The amount of MONEY that a parameter names, if it is there.
+/// The amount of MONEY that a parameter names, if there is one.
 pub(crate) fn money_if_at(params: &[u8], place: usize) -> Option<u64>
     requires { place < length (params_read params.now) → IsThere (form.Amount kind.Money) (params_read params.now) place }
     ensures { result ≡ how.money_at (params_read params.now) place }

@@ -38,7 +38,7 @@ pub enum Verb {
 }
 
 impl Verb {
-    /// The verb of a name; that of a macro has none.
+    /// The verb of a name; the name of a macro has none.
     pub fn of(name: &[u8]) -> Option<Verb>
         ensures { result ≡ table.verb_of name.now }
     {
@@ -168,14 +168,14 @@ pub(crate) fn macro_forms() -> Forms
     at_least(0, &[Form::Text; 24])
 }
 
-/// These parameters and no others.
+/// Exactly these parameters.
 fn just(all: &'static [Form]) -> Forms
     ensures { forms_said result ≡ forms.just all.now }
 {
     at_least(all.len(), all)
 }
 
-/// These parameters, of which only so many must be there.
+/// These parameters, of which the first `least` are required.
 fn at_least(least: usize, all: &'static [Form]) -> Forms
     ensures { forms_said result ≡ forms.at_least least all.now }
 {

@@ -1,4 +1,5 @@
--- A word with a character replaced is a word, as the code computes it at 32 bits.
+-- A word with one character replaced is again a word; the computation at 32 bits gives the same result.
+-- serves: with_char
 use Rattle.std.proofs.Common.{ℕ, zero, suc, ◌+◌, ◌-◌, ◌*◌, ◌%◌, ◌^◌, ◌<◌, arith}
 use Rattle.g_word.specs.Characters.{place_value, character}
 

@@ -1,9 +1,10 @@
--- What moving a word's bits does, over plain numbers.
+-- Facts about shifting and rotating the bits of a word, over plain numbers.
+-- serves: rotate, shift
 use Rattle.std.proofs.Common.{◌≡◌, ℕ, ◌+◌, ◌-◌, ◌*◌, ◌/◌, ◌%◌, ◌^◌, ◌<◌, ◌≤◌, sym, ◌∙◌, ap, subst, arith, add-zero}
 use Rattle.std.proofs.lemmas.Nat.{pow_pos, pow-add, mod-pow-add, div-mul-add, mul-add-lt}
 use Rattle.std.proofs.Math.Nat.{mul-mod_left, div-eq_of_lt, div-lt_iff_lt-mul, mod-lt, mul_comm, mul_assoc, pow-le-pow_right}
 
--- a number moved k places up in j + k bits keeps its low j bits
+-- a number shifted left by k places in j + k bits keeps its low j bits
 pub low_bits_up : (w j k : ℕ) → (w * 2 ^ k) % 2 ^ (j + k) ≡ (w % 2 ^ j) * 2 ^ k
 low_bits_up w j k =
     let positive : 0 < 2 ^ k = pow_pos k in
@@ -18,7 +19,7 @@ rotation_fits w j k h =
     let sum = mul-add-lt (w % 2 ^ j) (2 ^ k) (w / 2 ^ j) (2 ^ j) low high in
     omega (arith, low_bits_up w j k, sum, pow-add 2 j k, mul_comm (2 ^ j) (2 ^ k))
 
--- a number moved up by all the places of a word, or by more, leaves zeros
+-- a number shifted left by the length of the word or more is zero
 pub all_moved_up : (w n m : ℕ) → m ≤ n → (w * 2 ^ n) % 2 ^ m ≡ 0
 all_moved_up w n m h =
     let split : n ≡ (n - m) + m = omega arith in
@@ -26,14 +27,14 @@ all_moved_up w n m h =
     let product : w * 2 ^ n ≡ (w * 2 ^ (n - m)) * 2 ^ m = ap (λ k. w * k) power ∙ sym (mul_assoc w (2 ^ (n - m)) (2 ^ m)) in
     ap (λ k. k % 2 ^ m) product ∙ mul-mod_left (w * 2 ^ (n - m)) (2 ^ m)
 
--- a number moved down by all its places, or by more, leaves zeros
+-- a number shifted right by its whole length or more is zero
 pub all_moved_down : (w n m : ℕ) → m ≤ n → w < 2 ^ m → w / 2 ^ n ≡ 0
 all_moved_down w n m h s =
     let least : 2 ^ m ≤ 2 ^ n = pow-le-pow_right (omega arith) h in
     let below : w < 2 ^ n = omega arith in
     div-eq_of_lt below
 
--- to turn to the right is to turn the rest of the way to the left
+-- a rotation to the right is a rotation to the left by the remaining places
 pub right_by_left : (w k up : ℕ) → k + up ≡ 24 → (w * 2 ^ up) % 2 ^ 24 + w / 2 ^ (24 - up) ≡ w / 2 ^ k + (w % 2 ^ k) * 2 ^ (24 - k)
 right_by_left w k up h =
     let up_is : up ≡ 24 - k = omega arith in
@@ -42,7 +43,7 @@ right_by_left w k up h =
     let high : w / 2 ^ (24 - up) ≡ w / 2 ^ k = ap (λ n. w / 2 ^ n) k_is in
     omega (arith, low, high)
 
--- a word of 24 bits, rotated, is one
+-- a 24-bit word, rotated, is a 24-bit word
 pub rotation_fits_at : (w up : ℕ) → w < 2 ^ 24 → up ≤ 24 → (w * 2 ^ up) % 2 ^ 24 + w / 2 ^ (24 - up) < 2 ^ 24
 rotation_fits_at w up h within =
     let whole : (24 - up) + up ≡ 24 = omega arith in

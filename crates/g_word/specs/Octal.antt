@@ -1,7 +1,7 @@
--- A word as it is written: in octal digits.
+-- The octal digits of a word, as texts have them.
 use Rattle.std.specs.Prelude.{ℕ, zero, suc, ◌+◌, ◌/◌, ◌%◌, ◌^◌, List, [], ◌∷◌}
 
--- the last octal digits of a word, so many of them
+-- The last n octal digits of a word as bytes, the most significant first.
 unfoldable pub octal_digits : ℕ → ℕ → List ℕ
 octal_digits zero word = []
 octal_digits (suc n) word = (48 + word / 8 ^ n % 8) ∷ octal_digits n word

@@ -1,11 +1,10 @@
-//! The bytes that stand for the 64 characters outside a word.
+//! The bytes that represent the 64 characters outside a word.
 
 ghost use Rattle.std.specs.Prelude.{◌≡◌, ◌<◌, ◌≤◌, ◌-◌};
 ghost use Rattle.g_word.specs.Characters as characters;
 
-/// The six-bit code of a byte: 0 to 15 for the digits and what follows them, 16 to 31 for the space and
-/// what follows it, 32 to 63 for `@`, the letters and what follows them. Small letters count as capitals,
-/// and a byte that has no character counts as `?`.
+/// The six-bit code of a byte: 0 to 15 for the digits and the bytes after them, 16 to 31 for the space and the bytes after it, 32 to 63 for `@`, the
+/// letters and the bytes after them. Small letters count as capitals, and a byte that represents no character counts as `?`.
 pub fn code_of(byte: u8) -> u8
     ensures value { result ≡ characters.code_of byte }
     ensures small { result < 64 }

@@ -1,4 +1,4 @@
-//! Words of 24 bits, the characters of six bits that stand in them, and their octal digits.
+//! Words of 24 bits, their six-bit characters, and their octal digits.
 #![tactic(auto)]
 
 mod characters;

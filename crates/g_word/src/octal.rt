@@ -1,4 +1,4 @@
-//! A word as it is written: in eight octal digits (docs/FORMATS.md, "Programs").
+//! A word as eight octal digits, as texts have it (docs/FORMATS.md, "Programs").
 ghost use Rattle.std.specs.Prelude.{◌≡◌, ◌+◌, ◌/◌, ◌%◌, ◌<◌};
 ghost use Rattle.g_word.specs.Octal.{octal_digits};
 
@@ -24,7 +24,7 @@ impl Word {
     }
 }
 
-/// The octal digit of a number that stands at this power of eight.
+/// The octal digit of a number at this power of eight.
 fn octal_digit(number: u32, power: u32) -> u8
     requires { 0 < power }
     ensures { result ≡ 48 + number / power % 8 }

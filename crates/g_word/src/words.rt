@@ -10,7 +10,7 @@ use std::marker::Model;
 /// One more than the greatest word.
 const MODULUS: u32 = 0x100_0000;
 
-/// The word that stands for the least number, -2^23: its sign bit alone.
+/// The word with the least value, -2^23: only its sign bit is set.
 const SIGN: u32 = 0x80_0000;
 
 /// A word of 24 bits in twos complement. Contracts see the number from 0 to 2^24 - 1 of its bits.
@@ -55,7 +55,7 @@ impl Word {
         self.bits
     }
 
-    /// The number that the word stands for, -2^23 to 2^23 - 1.
+    /// The value of the word in twos complement, -2^23 to 2^23 - 1.
     pub fn signed(self) -> i32
         ensures { result ≡ signed_value self }
     {
@@ -66,7 +66,7 @@ impl Word {
         }
     }
 
-    /// The word that keeps a result, and whether the result is out of range.
+    /// The word of a result, and whether the result is out of range.
     fn keep(number: i32) -> (Word, bool)
         ensures value { result.0 ≡ wrapped number }
         ensures overflow { result.1 ≡ is_out_of_range number }
@@ -92,7 +92,7 @@ impl Word {
         Word::keep(self.signed() - other.signed())
     }
 
-    /// The number with the other sign, and whether it is out of range, as that of -2^23 is.
+    /// The negated value, and whether it is out of range, as it is for -2^23.
     pub fn neg(self) -> (Word, bool)
         ensures value { result.0 ≡ wrapped (pos 0 -ℤ signed_value self) }
         ensures overflow { result.1 ≡ is_out_of_range (pos 0 -ℤ signed_value self) }
@@ -109,7 +109,7 @@ impl Word {
         }
     }
 
-    /// Bit by bit, whether one of both is set.
+    /// Bit by bit, whether at least one of both is set.
     pub fn or(self, other: Word) -> Word
         ensures { result ≡ bit_or self other }
     {
@@ -118,7 +118,7 @@ impl Word {
         }
     }
 
-    /// Bit by bit, whether both differ.
+    /// Bit by bit, whether the two differ.
     pub fn xor(self, other: Word) -> Word
         ensures { result ≡ bit_xor self other }
     {
@@ -127,8 +127,8 @@ impl Word {
         }
     }
 
-    /// The product in two words: its high part, which is the product divided by 2^23 and rounded down, and
-    /// its low 23 bits. Last whether the high part is out of range, which happens at -2^23 by -2^23 alone.
+    /// The product in two words: its high part, which is the product divided by 2^23 and rounded down, and its low 23 bits. The flag says whether the
+    /// high part is out of range, which happens only for -2^23 times -2^23.
     pub fn mul_parts(self, other: Word) -> (Word, Word, bool)
         ensures high { result.0 ≡ wrapped (int_div_euclid (signed_value self *ℤ signed_value other) (pos (2 ^ 23))) }
         ensures low { result.1 ≡ unsigned_abs (int_rem_euclid (signed_value self *ℤ signed_value other) (pos (2 ^ 23))) }
@@ -151,7 +151,7 @@ impl Word {
         (Word { bits: high }, Word { bits: low })
     }
 
-    /// The word moved round by this many places, where what leaves at one end comes in at the other.
+    /// The word rotated by this many places: the bits that leave at one end enter at the other.
     pub fn rotate(self, left: bool, places: u32) -> Word
         ensures { result ≡ (if left then rotated_left self places else rotated_right self places) }
     {
@@ -162,7 +162,7 @@ impl Word {
         Word { bits: high + low }
     }
 
-    /// The bits that stay in a word when these are moved up by at most its width.
+    /// The bits that remain in a word when these are shifted left by at most its width.
     fn moved_up(bits: u32, places: u32) -> u32
         requires in_word { bits < 2 ^ 24 }
         requires at_most_all { places ≤ 24 }
@@ -171,7 +171,7 @@ impl Word {
         ((u64::from(bits) << places) % u64::from(MODULUS)) as u32
     }
 
-    /// The word moved by this many places, where zeros come in.
+    /// The word shifted by this many places; zeros enter.
     pub fn shift(self, left: bool, places: u32) -> Word
         ensures { result ≡ (if left then shifted_left self places else shifted_right self places) }
     {
@@ -186,7 +186,7 @@ impl Word {
         Word { bits }
     }
 
-    /// The character at a position, of which 0 is the most significant.
+    /// The character at a position; position 0 is the most significant.
     pub fn char_at(self, position: u8) -> u8
         requires { position < 4 }
         ensures value { result ≡ character self position }

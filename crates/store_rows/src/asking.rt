@@ -8,7 +8,7 @@ use g_plain::{BudgetKind, Filestore, StoreCall, StoreFault, StoreReply};
 use g_trap::{Mode, Modes};
 use std::alloc::Global;
 
-/// What comes of a call.
+/// The outcome of a call.
 pub(crate) fn asked<S: Filestore>(
     alloc: Global,
     store: &mut S,
@@ -122,7 +122,7 @@ fn budget(name: &str, amount: u16) -> Result<StoreCall, StoreFault>
     })
 }
 
-/// What is told of a reply.
+/// The answer that a row expects for a reply.
 fn told(reply: &StoreReply) -> Answer {
     match reply {
         StoreReply::Bytes { bytes, .. } => {

@@ -1,4 +1,4 @@
-//! Blocks that are written and looked at by hand.
+//! Blocks that a row writes and checks directly.
 use crate::events::Answer;
 use crate::rows::{Outcome, Wrong};
 use g_base::Block;
@@ -62,7 +62,7 @@ pub(crate) fn write(disc: &mut MemoryDisc, k: u32, fields: &str) -> Outcome {
     }
 }
 
-/// Whether a block of the disc is so.
+/// Whether a block of the disc has these fields.
 pub(crate) fn holds(disc: &mut MemoryDisc, k: u32, fields: &str) -> Outcome {
     let Ok(wanted) = block_of(fields) else {
         return Err(StoreFault::NoFile);
@@ -78,7 +78,7 @@ pub(crate) fn holds(disc: &mut MemoryDisc, k: u32, fields: &str) -> Outcome {
     }
 }
 
-/// Puts a block behind those of a reel that is mounted.
+/// Appends a block to a reel that is mounted.
 pub(crate) fn put_on_reel(
     tapes: &mut KnownReels<MemoryTapes>,
     serial: u32,

@@ -1,13 +1,13 @@
-//! A conversation of some hundred calls, with dumps, migrations and starts in it, beside a plain store.
+//! A sequence of some hundred random calls, dumps, migrations and starts, compared with a plain store.
 use crate::asking::asked;
 use crate::events::{Ask, Device, Event, OnFile};
 use crate::rows::{Wrong, play, told};
 use crate::setting::Setting;
 use crate::system::System;
-use g_plain::PlainStore;
+use g_plain_store::PlainStore;
 use std::alloc::Global;
 
-/// Numbers that look like chance, each made of the one before.
+/// Pseudo-random numbers, each computed from its predecessor.
 #[derive(Clone, Copy)]
 struct Dice {
     state: u32,
@@ -68,7 +68,7 @@ fn drawn_event(dice: &mut Dice) -> Event<'static> {
     }
 }
 
-/// What the operator does, whatever comes of it, and a start where the system is down.
+/// Does what the operator does, for any outcome, and starts the system if it is down.
 fn operate(alloc: Global, system: &mut System, dice: &mut Dice) {
     for _ in 0..6 {
         let _answer = system.happens(alloc, &drawn_event(dice));
@@ -78,7 +78,7 @@ fn operate(alloc: Global, system: &mut System, dice: &mut Dice) {
     }
 }
 
-/// A call that both stores answer alike.
+/// A call to which both stores must give the same answer.
 fn ask_both(
     rt: &HostRuntime,
     system: &mut System,
@@ -91,7 +91,7 @@ fn ask_both(
     compare(rt, seen.as_str(), wanted.as_str())
 }
 
-/// Tells the two answers where they aren't the same.
+/// Prints the two answers if they differ.
 fn compare(rt: &HostRuntime, seen: &str, wanted: &str) -> Result<(), Wrong> {
     if seen == wanted {
         return Ok(());
@@ -100,7 +100,7 @@ fn compare(rt: &HostRuntime, seen: &str, wanted: &str) -> Result<(), Wrong> {
     Err(Wrong("another answer"))
 }
 
-/// What is dumped at the end is restored whole.
+/// Dumps everything at the end and restores all of it.
 fn restore(rt: &HostRuntime, system: &mut System, plain: &mut PlainStore) -> Result<(), Wrong> {
     for event in [
         Event::Finish,
@@ -118,7 +118,7 @@ fn restore(rt: &HostRuntime, system: &mut System, plain: &mut PlainStore) -> Res
     Ok(())
 }
 
-/// The system answers as the plain store does, and behind the restore too.
+/// The system answers as the plain store does, also after the restore.
 fn converse(rt: &HostRuntime) -> Result<(), Wrong> {
     let mut plain = PlainStore::new(rt.alloc())?;
     converse_beside(rt, &mut plain)
@@ -140,7 +140,7 @@ fn converse_on(rt: &HostRuntime, system: &mut System, plain: &mut PlainStore) ->
     restore(rt, system, plain)
 }
 
-/// Prints what became of the conversation.
+/// Prints the result of the comparison.
 pub(crate) fn run(rt: &HostRuntime) -> Result<(), Wrong> {
     match converse(rt) {
         Ok(()) => println!(rt; "as_a_plain_store as it should be")?,

@@ -1,4 +1,4 @@
-//! Events of a system that is down: its devices alone.
+//! Events of a system that is down and has only devices.
 ghost use Rattle.std.specs.Prelude.{◌<◌, ◌≤◌};
 
 use crate::blocks::{holds, put_on_reel, write};
@@ -13,10 +13,10 @@ use g_store::{Refused, Store, format, restore, start};
 use g_tape::{MemoryTapes, Tapes};
 use std::alloc::Global;
 
-/// A store that came up and what is told of it, or the devices.
+/// A store that came up, with the answer, or the devices.
 type Opened = Result<(Store<MemoryDisc, MemoryTapes>, Answer), Refused<MemoryDisc, MemoryTapes>>;
 
-/// The filestore is made, started or restored.
+/// The filestore is created, started or restored.
 pub(crate) fn comes_up(alloc: Global, devices: Devices, event: &Event) -> Opened {
     let Devices { disc, tapes } = devices;
     if disc.size() <= 2177 || disc.size() > 1_048_576 {
@@ -40,7 +40,7 @@ fn formatted(alloc: Global, disc: MemoryDisc, tapes: KnownReels<MemoryTapes>) ->
     }
 }
 
-/// What is told of the dump that a start takes over, if there is one.
+/// The answer that reports the dump adopted by a start, if there is one.
 fn taken_over(number: Option<u64>) -> Answer {
     match number {
         Some(number) => Answer::Dump(number),
@@ -68,7 +68,7 @@ fn restored(alloc: Global, disc: MemoryDisc, tapes: KnownReels<MemoryTapes>) -> 
     }
 }
 
-/// A device alone is turned or asked.
+/// Arms or reads a device without a store.
 pub(crate) fn turned(alloc: Global, devices: &mut Devices, event: &Event) -> Outcome {
     match event {
         Event::Device(device, number) => match device {

@@ -1,34 +1,35 @@
-//! What happens to a system, and what is told of it.
+//! The events of a system, and their answers.
 
-/// An event of a system. Users, paths and files are given by their names; a file's bytes are so many times one letter.
+/// An event of a system. Users, paths and files are given by their names; a file's bytes are one letter, repeated.
 #[derive(Clone, Copy)]
 pub(crate) enum Event<'a> {
     Format,
     Start,
     Restore,
     Shut,
-    /// A device is turned or asked.
+    /// A device is armed, or asked for a number.
     Device(Device, u32),
     /// A step of the open dump.
     Step,
     /// Steps of the open dump until it is completed.
     Finish,
     Migrate(&'a str),
-    /// The first block of the copy of a file, by its place among the files, in the dump of reel 1 that begins at this block.
+    /// The first block of the copy of a file, given by its position among the files, in the dump of reel 1 that begins at
+    /// this block.
     Noted(u32, usize),
-    /// What the store tells of itself.
+    /// What the store reports about itself.
     Told,
     /// A block of the disc is written, with these fields.
     Write(u32, &'a str),
-    /// Whether a block of the disc has these fields and else zeros.
+    /// Whether a block of the disc has these fields and is zero otherwise.
     Holds(u32, &'a str),
-    /// A block with these fields is put behind those of a reel.
+    /// A block with these fields is appended to a reel.
     Reel(u32, &'a str),
     /// A call of a user.
     Ask(&'a str, Ask<'a>),
 }
 
-/// What a device is turned to, or asked for, by a number.
+/// What a device is armed with, or asked for, with a number.
 #[derive(Clone, Copy)]
 pub(crate) enum Device {
     Mount,
@@ -37,15 +38,15 @@ pub(crate) enum Device {
     StopDisc,
     /// The tapes' write of this number from here on fails.
     StopTape,
-    /// The disc's read of this number, counted from the making of the disc, fails.
+    /// The disc's read of this number fails, counted from the creation of the disc.
     Unread,
-    /// The same of the tapes.
+    /// The same for the tapes.
     UnreadTape,
-    /// The reel of this serial can't be made durable from here on; each can if the number is 0.
+    /// The reel of this serial can't be made durable from now on; with number 0 every reel can.
     Insecure,
     /// A dump is opened on the reel.
     Open,
-    /// All versions are written onto the reel, and the other reels released.
+    /// All versions are consolidated on the reel, and the other reels released.
     Process,
     /// How many blocks the reel has.
     Length,
@@ -54,7 +55,7 @@ pub(crate) enum Device {
 /// A call of a user.
 #[derive(Clone, Copy)]
 pub(crate) enum Ask<'a> {
-    /// A user with so many blocks of SPACE.
+    /// A user with this many blocks of SPACE.
     NewUser(&'a str, u16),
     /// Another MONEY.
     Budget(&'a str, u16),
@@ -64,7 +65,7 @@ pub(crate) enum Ask<'a> {
     OnFile(&'a str, OnFile<'a>),
 }
 
-/// What is asked of a file.
+/// A call on a file.
 #[derive(Clone, Copy)]
 pub(crate) enum OnFile<'a> {
     Put(u8, usize),
@@ -73,11 +74,11 @@ pub(crate) enum OnFile<'a> {
     Retrieve,
     Erase,
     Rename(&'a str),
-    /// About a user, and the sum of the modes' bits.
+    /// A call about a user, with the sum of the modes' bits.
     Trap(Trapping, &'a str, u8),
 }
 
-/// A user is let into a file, kept out of it, or asked about.
+/// A user gets access to a file, loses it, or the access is queried.
 #[derive(Clone, Copy)]
 pub(crate) enum Trapping {
     Go,
@@ -85,29 +86,29 @@ pub(crate) enum Trapping {
     Check,
 }
 
-/// What is told of an event that isn't refused.
+/// The answer to an event that isn't refused.
 #[derive(Clone, Copy, Debug)]
 pub(crate) enum Answer {
     Done,
-    /// A block isn't so.
+    /// A block has other fields.
     Differs,
     /// The number of a dump.
     Dump(u64),
-    /// The number of a dump, and how many of its steps there were.
+    /// The number of a dump, and the number of its steps.
     Completed(u64, u32),
-    /// How many blocks, or the first of them.
+    /// A number of blocks, or the first of them.
     Blocks(u32),
-    /// How many files.
+    /// The number of files.
     Files(usize),
     /// The sum of the bits of modes.
     Modes(u8),
-    /// So many bytes, and the last of them, 0 where there is none.
+    /// The number of bytes, and the last of them, or 0 if there is none.
     Bytes(usize, char),
     Facts(Facts),
 }
 
-/// What a store tells: how many users it has, the TIME of MASTER and the MONEY of MACROS, the number of the open dump, and
-/// whether reel 2 is mounted.
+/// What a store reports: the number of its users, the TIME of MASTER and the MONEY of MACROS, the number of the open dump,
+/// and whether reel 2 is mounted.
 #[derive(Clone, Copy, Debug)]
 pub(crate) struct Facts {
     pub(crate) users: usize,

@@ -1,14 +1,15 @@
-//! A job says the same over a plain store and over the whole one.
+//! A job prints the same on a plain store and on the whole one.
 ghost use Rattle.std.specs.Prelude.{◌≡◌, false};
 
 use crate::rows::{Wrong, play};
 use crate::setting::Setting;
 use crate::system::System;
-use g_budget::{Charge, Tariff, Usage};
 use g_job::{Job, NewJob, Turn};
 use g_lines::Document;
 use g_name::{Local, User};
-use g_plain::{Filestore, PlainStore};
+use g_plain::Filestore;
+use g_plain_store::PlainStore;
+use g_rules::{Charge, Tariff, Usage};
 use std::alloc::Global;
 
 /// Takes turns until the job ends.
@@ -53,13 +54,13 @@ fn ended<S: Filestore>(alloc: Global, store: &mut S, document: &[u8]) -> Result<
     Ok(job)
 }
 
-/// The job over a plain store.
+/// The job on a plain store.
 fn over_plain(alloc: Global, document: &[u8]) -> Result<Job, Wrong> {
     let mut plain = PlainStore::new(alloc)?;
     ended(alloc, &mut plain, document)
 }
 
-/// The same over the whole one, on a new disc.
+/// The same on the whole store, on a new disc.
 fn over_whole(rt: &HostRuntime, document: &[u8]) -> Result<Job, Wrong> {
     let mut system = Setting::parse("one_job_over_both")?.system(rt.alloc())?;
     over_system(rt, &mut system, document)
@@ -78,19 +79,19 @@ fn over_system(rt: &HostRuntime, system: &mut System, document: &[u8]) -> Result
     }
 }
 
-/// Whether the job over the plain store says this text.
+/// Whether the job on the plain store prints this text.
 fn plain_says(alloc: Global, document: &[u8], text: &[u8]) -> Result<bool, Wrong> {
     let job = over_plain(alloc, document)?;
     Ok(job.monitor() == text)
 }
 
-/// The same over the whole one.
+/// The same on the whole store.
 fn whole_says(rt: &HostRuntime, document: &[u8], text: &[u8]) -> Result<bool, Wrong> {
     let job = over_whole(rt, document)?;
     Ok(job.monitor() == text)
 }
 
-/// Compares what both say with this text: the ninth level is too deep, and a WHENEVER goes on behind that.
+/// Compares what both print with this text: the ninth level is too deep, and a WHENEVER continues after it.
 pub(crate) fn run(rt: &HostRuntime, document: &str, text: &str) -> Result<(), Wrong> {
     let is_plain = plain_says(rt.alloc(), document.as_bytes(), text.as_bytes())?;
     let is_whole = whole_says(rt, document.as_bytes(), text.as_bytes())?;

@@ -1,5 +1,5 @@
-//! The rows of the whole store: its events and calls one behind the other, over a disc and reels in memory. The files beside
-//! it have them; a line is printed for each, with what differs.
+//! The rows of the whole store: sequences of events and calls, on a disc and reels in memory. The data files contain them.
+//! A line is printed for each row, with the difference if there is one.
 #![tactic(auto)]
 
 mod asking;

@@ -11,7 +11,7 @@ use g_store::Store;
 use g_tape::MemoryTapes;
 use std::alloc::Global;
 
-/// What comes of an event that is no call. `Running`: it isn't one of a system that is up.
+/// The outcome of an event that is no call. `Running`: it isn't an event of a system that is up.
 pub(crate) fn operated(
     alloc: Global,
     store: &mut Store<MemoryDisc, MemoryTapes>,
@@ -37,7 +37,7 @@ pub(crate) fn operated(
     }
 }
 
-/// What the store tells of itself.
+/// What the store reports about itself.
 fn told(store: &Store<MemoryDisc, MemoryTapes>) -> Facts
     requires running { store.now.spent ≡ false }
 {
@@ -93,7 +93,7 @@ fn migrated(alloc: Global, store: &mut Store<MemoryDisc, MemoryTapes>, path: &st
     }
 }
 
-/// A step of the open dump, `NoDump` where none is open.
+/// A step of the open dump, `NoDump` if none is open.
 fn stepped(store: &mut Store<MemoryDisc, MemoryTapes>) -> Outcome {
     if store.spent() {
         return Err(StoreFault::NotStarted);
@@ -108,7 +108,7 @@ fn stepped(store: &mut Store<MemoryDisc, MemoryTapes>) -> Outcome {
     }
 }
 
-/// Steps of the open dump until it is completed, which is before the thousandth.
+/// Steps of the open dump until it is completed, which takes fewer than a thousand.
 fn finished(store: &mut Store<MemoryDisc, MemoryTapes>) -> Outcome {
     for count in 1..1000u32 {
         match stepped(store) {

@@ -6,7 +6,7 @@ use crate::stops::stops;
 use crate::system::System;
 use g_plain::StoreFault;
 
-/// What the disc's writes leave that fail: of a torn gate an even byte names the new slot, an odd one the old.
+/// What a failed write of the disc leaves. Of a torn gate an even byte names the new slot, an odd one the old.
 const DISC: [&str; 5] = [
     "leave=old",
     "leave=half",
@@ -15,7 +15,7 @@ const DISC: [&str; 5] = [
     "leave=7",
 ];
 
-/// The same of the tapes.
+/// The same for the tapes.
 const TAPES: [&str; 4] = [
     "tape_leave=old",
     "tape_leave=cut",
@@ -23,7 +23,7 @@ const TAPES: [&str; 4] = [
     "tape_leave=whole",
 ];
 
-/// All files but E, which no dump has before.
+/// All files but E, which no earlier dump has.
 static DUMPED: &str = "ask MASTER fetch A = Ok(Bytes(1, 'A'))
 ask MASTER fetch B = Ok(Bytes(513, 'B'))
 ask MASTER fetch C = Ok(Bytes(600, 'C'))
@@ -34,7 +34,7 @@ static WITH_E: &str =
 
 static WITHOUT_E: &str = "ask MASTER fetch E = Err(NoFile)\nask MASTER list MASTER = Ok(Files(4))";
 
-/// The tapes are written as often as the reel's new dump has blocks, 15, and for the two reels that are released; the
+/// The tapes are written 15 times for the blocks of the reel's new dump, and once for each of the two released reels; the
 /// disc in two commits.
 pub(crate) fn run(rt: &HostRuntime, before: &str) -> Result<(), Wrong> {
     for leave in DISC {
@@ -57,7 +57,7 @@ fn tell(rt: &HostRuntime, leave: &str, stops: u32, fits: bool) -> Result<(), Wro
     Ok(())
 }
 
-/// At how many writes of this device the PROCESS can be stopped, 39 where it is more often.
+/// The number of writes of this device at which the PROCESS can be stopped, or 39 if there are more.
 fn stops_of(rt: &HostRuntime, before: &str, device: Device, leave: &str) -> Result<u32, Wrong> {
     let mut count = 0;
     for k in 1..40 {
@@ -69,8 +69,8 @@ fn stops_of(rt: &HostRuntime, before: &str, device: Device, leave: &str) -> Resu
     Ok(count)
 }
 
-/// Whether the PROCESS is stopped at this write of the device, which it isn't where it has fewer. Behind such a stop comes a start,
-/// and behind another a restore.
+/// Whether the PROCESS is stopped at this write of the device, which fails if it has fewer. One such stop is followed by a
+/// start, another by a restore.
 fn is_stopped(
     rt: &HostRuntime,
     before: &str,
@@ -86,7 +86,7 @@ fn is_stopped(
     is_stopped_once(rt, &setting, before, &Event::Device(device, k), true)
 }
 
-/// The same with one of the two behind it.
+/// The same with one of the two.
 fn is_stopped_once(
     rt: &HostRuntime,
     setting: &Setting,
@@ -117,8 +117,8 @@ fn is_stopped_on(
     Ok(true)
 }
 
-/// A start has all files, and takes the dump over where it is whole and wasn't. Where it isn't whole, the PROCESS is made
-/// again, and reads from the old reels. Then these are wanted no more.
+/// A start has all files, and adopts the dump if it is complete and wasn't adopted. If it isn't complete, the PROCESS is
+/// repeated and reads from the old reels. Afterwards the old reels are no longer needed.
 fn goes_on(rt: &HostRuntime, system: &mut System) -> Result<(), Wrong> {
     match system.happens(rt.alloc(), &Event::Start) {
         Ok(Answer::Done | Answer::Dump(3)) => {}
@@ -134,7 +134,7 @@ fn goes_on(rt: &HostRuntime, system: &mut System) -> Result<(), Wrong> {
     play(rt, system, WITH_E)
 }
 
-/// A restore has the tree of the dump that was there before, or of the new one.
+/// A restore has the tree of the previous dump, or of the new one.
 fn restores(rt: &HostRuntime, system: &mut System) -> Result<(), Wrong> {
     let last = match system.happens(rt.alloc(), &Event::Restore) {
         Ok(Answer::Dump(2)) => WITHOUT_E,

@@ -13,7 +13,7 @@ static BARE: [(&str, Event<'static>); 7] = [
     ("told", Event::Told),
 ];
 
-/// Those with a number.
+/// The events with a number.
 static DEVICES: [(&str, Device); 10] = [
     ("mount", Device::Mount),
     ("unmount", Device::Unmount),
@@ -45,7 +45,7 @@ pub(crate) fn event_of<'a>(line: &'a str) -> Result<Event<'a>, Wrong> {
     }
 }
 
-/// An event with a block, or with a number alone.
+/// An event with a block, or with just a number.
 fn of_blocks<'a>(name: &str, rest: &'a str) -> Result<Event<'a>, Wrong> {
     let (number, fields) = rest.split_once(' ').unwrap_or((rest, ""));
     let number = number.parse()?;
@@ -60,7 +60,7 @@ fn of_blocks<'a>(name: &str, rest: &'a str) -> Result<Event<'a>, Wrong> {
     }
 }
 
-/// What stands before and behind the first space.
+/// The text before and after the first space.
 fn halves<'a>(text: &'a str) -> Result<(&'a str, &'a str), Wrong> {
     text.split_once(' ').ok_or(Wrong("no second word"))
 }
@@ -83,7 +83,7 @@ fn numbered(name: &str, number: u32) -> Result<Event<'static>, Wrong> {
     Err(Wrong("no event with a number"))
 }
 
-/// A call by its name and what it is about.
+/// A call by its name and its argument.
 fn call_of<'a>(text: &'a str) -> Result<Ask<'a>, Wrong> {
     let (call, rest) = halves(text)?;
     if call == "list" {
@@ -100,14 +100,14 @@ fn call_of<'a>(text: &'a str) -> Result<Ask<'a>, Wrong> {
     }
 }
 
-/// The calls on a file that say no more.
+/// The calls on a file that have no other argument.
 static ON_FILE: [(&str, OnFile<'static>); 3] = [
     ("fetch", OnFile::Fetch),
     ("retrieve", OnFile::Retrieve),
     ("erase", OnFile::Erase),
 ];
 
-/// Those about a user, with the bits of modes.
+/// The calls about a user, with the bits of modes.
 static TRAPS: [(&str, Trapping); 3] = [
     ("let_in", Trapping::Go),
     ("keep_out", Trapping::Stop),
@@ -137,7 +137,7 @@ fn about_user<'a>(how: Trapping, rest: &'a str) -> Result<OnFile<'a>, Wrong> {
     Ok(OnFile::Trap(how, user, bits.parse()?))
 }
 
-/// A call with a file's bytes: their letter and how many they are.
+/// A call with a file's bytes: their letter and their number.
 fn with_bytes(call: &str, rest: &str) -> Result<OnFile<'static>, Wrong> {
     let (letter, len) = halves(rest)?;
     let Some(letter) = letter.as_bytes().first() else {

@@ -1,4 +1,4 @@
-//! Rows, with a blank line between each two.
+//! Rows, separated by blank lines.
 use crate::events::Answer;
 use crate::reading::event_of;
 use crate::setting::Setting;
@@ -10,10 +10,10 @@ use std::io;
 use std::num::ParseIntError;
 use std::test::Fail;
 
-/// What comes of an event.
+/// The outcome of an event.
 pub(crate) type Outcome = Result<Answer, StoreFault>;
 
-/// What is wrong with a row, or with what came of it.
+/// What is wrong with a row, or with its outcome.
 #[derive(Clone, Copy, Debug)]
 pub(crate) struct Wrong(pub(crate) &'static str);
 
@@ -41,7 +41,7 @@ impl From<io::Error> for Wrong {
     }
 }
 
-/// Runs each row of a file, and prints what became of it. What rows begin with stands in the other text.
+/// Runs each row of a file, and prints its result. The other text has the sequences with which rows begin.
 pub(crate) fn run(rt: &HostRuntime, beginnings: &str, text: &str) -> Result<(), Fail> {
     for part in text.split("\n\n") {
         let Some((head, lines)) = part.split_once('\n') else {
@@ -75,7 +75,7 @@ fn played_on(
     play(rt, system, lines)
 }
 
-/// The events with which a row begins, none where the text has no such name.
+/// The events with which a row begins, or none if the text has no such name.
 fn beginning<'a>(text: &'a str, name: &str) -> &'a str {
     for part in text.split("\n\n") {
         if let Some((head, lines)) = part.split_once('\n') {
@@ -87,9 +87,9 @@ fn beginning<'a>(text: &'a str, name: &str) -> &'a str {
     ""
 }
 
-/// Makes these events happen, one behind the other. A line is an event and, behind ` = `, what is to come of it, `Ok(Done)` where
-/// nothing else is said; one that begins with `#` says what it is about. An error: something else came of an event, whose line is
-/// printed.
+/// Runs these events, one after another. A line is an event, optionally followed by ` = ` and its expected outcome, which
+/// is `Ok(Done)` if omitted. A line that begins with `#` is a comment. An error: an event had another outcome, and its line
+/// is printed.
 pub(crate) fn play(rt: &HostRuntime, system: &mut System, lines: &str) -> Result<(), Wrong> {
     for line in lines.lines() {
         if !line.is_empty() && !line.starts_with('#') {
@@ -109,8 +109,8 @@ fn one(rt: &HostRuntime, system: &mut System, line: &str) -> Result<(), Wrong> {
     as_wanted(rt, line, wanted, &outcome)
 }
 
-/// Whether just what was wanted came of a line's event, or what begins so, where two points stand behind it; else the line is
-/// printed.
+/// Whether a line's event had exactly the expected outcome, or one that begins with it if `..` follows; otherwise the line
+/// is printed.
 fn as_wanted(rt: &HostRuntime, line: &str, wanted: &str, outcome: &Outcome) -> Result<(), Wrong> {
     let told = told(rt.alloc(), outcome)?;
     let is_so = match wanted.strip_suffix("..") {
@@ -124,7 +124,7 @@ fn as_wanted(rt: &HostRuntime, line: &str, wanted: &str, outcome: &Outcome) -> R
     Err(Wrong("another answer"))
 }
 
-/// What came of an event, as rows have it.
+/// The outcome of an event, as rows write it.
 pub(crate) fn told(alloc: Global, outcome: &Outcome) -> Result<String, AllocError> {
     format!(in alloc; "{outcome:?}")
 }

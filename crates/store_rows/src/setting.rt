@@ -6,8 +6,8 @@ use g_known::KnownReels;
 use g_tape::{MemoryTapes, TapeLeave};
 use std::alloc::Global;
 
-/// The name of a row, and what differs from a blank disc of 4,096 blocks and one empty reel of 8,192, whose writes that fail
-/// leave what was there.
+/// The name of a row, and how its devices differ from a blank disc of 4,096 blocks and one empty reel of 8,192 whose failed
+/// writes leave the old content.
 #[derive(Clone, Copy)]
 pub(crate) struct Setting<'a> {
     pub(crate) name: &'a str,
@@ -16,7 +16,7 @@ pub(crate) struct Setting<'a> {
     capacity: u32,
     leave: &'a str,
     tape_leave: &'a str,
-    /// The names of the events with which it begins, with commas between.
+    /// The names of the initial events, separated by commas.
     pub(crate) on: &'a str,
 }
 
@@ -64,7 +64,7 @@ impl<'a> Setting<'a> {
         Ok(())
     }
 
-    /// The devices, with no filestore that is up.
+    /// The devices, without a filestore that is up.
     pub(crate) fn system(&self, alloc: Global) -> Result<System, Wrong> {
         let mut tapes = self.tapes(alloc)?;
         tapes.set_leave(tape_leave_of(self.tape_leave)?);
@@ -101,7 +101,7 @@ impl<'a> Setting<'a> {
     }
 }
 
-/// What writes of the disc leave that fail: `old`, `half`, `whole`, or a block of one byte.
+/// What failed writes of the disc leave: `old`, `half`, `whole`, or a block of one byte.
 fn leave_of(word: &str) -> Result<Leave, Wrong> {
     if word == "old" {
         Ok(Leave::Old)
@@ -114,7 +114,7 @@ fn leave_of(word: &str) -> Result<Leave, Wrong> {
     }
 }
 
-/// The same of the tapes: `old`, `cut`, `half` or `whole`.
+/// The same for the tapes: `old`, `cut`, `half` or `whole`.
 fn tape_leave_of(word: &str) -> Result<TapeLeave, Wrong> {
     if word == "old" {
         Ok(TapeLeave::Old)

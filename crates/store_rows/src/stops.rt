@@ -5,7 +5,7 @@ use crate::setting::Setting;
 use crate::system::System;
 use g_plain::StoreFault;
 
-/// What the writes leave that fail: of a torn gate an even byte names the new slot, an odd one the old.
+/// What failed writes leave. Of a torn gate an even byte names the new slot, an odd one the old.
 const LEAVES: [&str; 5] = ["old", "half", "whole", "4", "7"];
 
 /// The put has two commits, and between them the bytes of E.
@@ -21,7 +21,7 @@ pub(crate) fn run(rt: &HostRuntime, before: &str) -> Result<(), Wrong> {
     Ok(())
 }
 
-/// At how many writes the put can be stopped, 39 where it is more often.
+/// The number of writes at which the put can be stopped, or 39 if there are more.
 fn stops_of(rt: &HostRuntime, before: &str, leave: &str) -> Result<u32, Wrong> {
     let mut stops = 0;
     for k in 1..40 {
@@ -33,8 +33,9 @@ fn stops_of(rt: &HostRuntime, before: &str, leave: &str) -> Result<u32, Wrong> {
     Ok(stops)
 }
 
-/// A disc of four blocks for files: A and B, which are dumped, have to go off it for E. The put of E is stopped at this write,
-/// if it has so many, and then D is there as before, and E whole, so that A can't come back, or not at all, and A does.
+/// A disc with four blocks for files: A and B, which are dumped, must be taken off for E. The put of E is stopped at this
+/// write, if it has that many. Then D is there as before. Either E is complete, so A can't be brought back, or E doesn't
+/// exist, and A can.
 fn is_stopped(rt: &HostRuntime, before: &str, leave: &str, k: u32) -> Result<bool, Wrong> {
     let head = format!(in rt.alloc(); "E disc=2181 capacity=20 leave={leave}")?;
     let mut system = Setting::parse(head.as_str())?.system(rt.alloc())?;
@@ -57,7 +58,7 @@ fn is_stopped_on(
     Ok(true)
 }
 
-/// Whether an event is stopped, where a write of a device is to fail.
+/// Whether an event is stopped if a write of a device fails.
 pub(crate) fn stops(
     rt: &HostRuntime,
     system: &mut System,

@@ -12,7 +12,7 @@ use g_store::{Refused, Store};
 use g_tape::MemoryTapes;
 use std::alloc::{AllocFailed, Global};
 
-/// A store, or the devices of one that is down. Each lies in a box, since a check of a function that owns it wants a minute.
+/// A store, or the devices of one that is down. Each is boxed, since checking a function that owns one takes a minute.
 #[derive(Drop)]
 pub(crate) struct System {
     up: Box<Option<Store<MemoryDisc, MemoryTapes>>>,
@@ -49,7 +49,7 @@ impl System {
         *self.up = Some(store);
     }
 
-    /// What happens. An event that the system can't take as it is, up or down, is refused by `Running` or `NotStarted`.
+    /// Runs an event. One that the system can't accept in its state, up or down, is refused by `Running` or `NotStarted`.
     pub(crate) fn happens(&mut self, alloc: Global, event: &Event) -> Outcome {
         match event {
             Event::Format | Event::Start | Event::Restore => self.opened(alloc, event),
@@ -78,7 +78,7 @@ impl System {
         }
     }
 
-    /// A system that is down comes up, if it does.
+    /// Brings a system up that is down, if the event does.
     fn opened(&mut self, alloc: Global, event: &Event) -> Outcome {
         match (*self.down).take() {
             Some(devices) => match comes_up(alloc, devices, event) {
@@ -109,7 +109,8 @@ impl System {
         }
     }
 
-    /// The tapes of a system that is down fail from here on: the read of this number, or whatever makes the reel of this serial durable.
+    /// The tapes of a system that is down fail from now on: at the read of this number, or at every attempt to make the
+    /// reel of this serial durable.
     fn turn_tapes(&mut self, alloc: Global, fails: TapeCall, number: u32) -> Outcome {
         let Some(Devices { disc, tapes }) = (*self.down).take() else {
             return Err(StoreFault::NotStarted);
@@ -144,7 +145,7 @@ enum TapeCall {
     Secure,
 }
 
-/// A box for a store, made before there is one.
+/// A box for a store, allocated before there is one.
 fn no_store(alloc: Global) -> Result<Box<Option<Store<MemoryDisc, MemoryTapes>>>, NoMemory> {
     match Box::new(alloc, None) {
         Ok(place) => Ok(place),
@@ -160,7 +161,7 @@ fn no_devices(alloc: Global) -> Result<Box<Option<Devices>>, NoMemory> {
     }
 }
 
-/// The same to a store that is up.
+/// Runs an event on a store that is up.
 fn happens_up(alloc: Global, store: &mut Store<MemoryDisc, MemoryTapes>, event: &Event) -> Outcome {
     if store.spent() {
         return Err(StoreFault::NotStarted);

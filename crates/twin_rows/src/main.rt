@@ -1,5 +1,5 @@
-//! A worked row over two racks in memory as one: a dump, a wait and a fetch, where reads or writes of one rack fail, or reads of
-//! both. A line is printed for each way in which they fail.
+//! A worked row on two racks in memory used as one: a dump, a wait and a fetch, while reads or writes of one rack fail, or reads of both. A line is
+//! printed for each way in which they fail.
 #![tactic(auto)]
 
 mod running;
@@ -35,7 +35,7 @@ fn first_fails(rt: &HostRuntime, script: &str, text: &str) -> anyhow::Result<()>
     Ok(())
 }
 
-/// The third write of the second rack fails: its reel is lost, and made again behind the run.
+/// The third write of the second rack fails: its reel is lost, and rebuilt after the run.
 fn second_fails(rt: &HostRuntime, script: &str, text: &str) -> anyhow::Result<()> {
     let pair = over_pair(rack(rt.alloc(), &[])?, armed(rt.alloc(), 3)?);
     let (seen, mut pair) = text_of(rt.alloc(), script, pair)?;
@@ -49,7 +49,7 @@ fn second_fails(rt: &HostRuntime, script: &str, text: &str) -> anyhow::Result<()
     Ok(())
 }
 
-/// Whether the lost reel is made again, and both are alike then.
+/// Whether the lost reel is rebuilt, and both are equal then.
 fn is_made_again(pair: &mut Duplex<MemoryTapes>) -> bool {
     pair.mounted(1)
         && rebuild(pair) == Some(Ok(()))
@@ -57,8 +57,8 @@ fn is_made_again(pair: &mut Duplex<MemoryTapes>) -> bool {
         && pair.agree(1) == Ok(true)
 }
 
-/// Both racks fail at the read with which LISTFILE fetches the file: of the first it is looked for, and it is the first one that
-/// the second is asked for.
+/// Both racks fail at the read with which LISTFILE fetches the file. The test searches for the failing read of the
+/// first rack; it is the first read of the second rack.
 fn both_fail(rt: &HostRuntime, script: &str, text: &str) -> anyhow::Result<()> {
     let mut same = false;
     for read in 1..MOST_READS {
@@ -76,7 +76,7 @@ fn both_fail(rt: &HostRuntime, script: &str, text: &str) -> anyhow::Result<()> {
     Ok(())
 }
 
-/// The words for what was seen.
+/// The words for a result.
 fn as_wanted(is: bool) -> &'static str {
     if is { "as it should be" } else { "differs" }
 }

@@ -1,4 +1,4 @@
-//! A script, run over two racks in memory as one by the program's own rules.
+//! A script, run on two racks in memory used as one, by the program's own rules.
 ghost use Rattle.std.specs.Prelude.{◌≡◌, ◌∷◌, []};
 ghost use Rattle.g_tape.specs.Memory.{rack_of};
 ghost use Rattle.g_tape.specs.Reel.{empty_reel};
@@ -15,10 +15,10 @@ use std::alloc::Global;
 /// The blocks of the disc.
 const BLOCKS: u32 = 4_096;
 
-/// The most bytes of a text.
+/// The maximum length of a text in bytes.
 const ROOM: usize = 65_536;
 
-/// The pair of two racks, of whose reels none is mounted.
+/// The pair of two racks, none of whose reels is mounted.
 pub fn over_pair(first: MemoryTapes, second: MemoryTapes) -> Duplex<MemoryTapes>
     requires first { (rack_of first).reels ≡ empty_reel 1 8 ∷ [] }
     requires second { (rack_of second).reels ≡ empty_reel 1 8 ∷ [] }
@@ -28,7 +28,7 @@ pub fn over_pair(first: MemoryTapes, second: MemoryTapes) -> Duplex<MemoryTapes>
     both
 }
 
-/// Runs the script over these reels and an empty disc, and gives its text, with the reels.
+/// Runs the script on these reels and an empty disc, and returns its text, with the reels.
 pub fn text_of(
     alloc: Global,
     script: &str,

@@ -1,5 +1,5 @@
-//! The worked rows: scripts with the texts that they print, each run on devices in memory. `rows.txt` names them; a line
-//! is printed for each, and what differs.
+//! The worked rows: scripts with the texts that they print, each run on devices in memory. `rows.txt` names them. For each row a line is printed,
+//! with the differences, if there are any.
 #![tactic(auto)]
 
 mod running;
@@ -16,7 +16,7 @@ fn main(rt: HostRuntime) -> anyhow::Result<()> {
     Ok(())
 }
 
-/// Runs the row of a line, and prints what became of it.
+/// Runs the row of a line, and prints its result.
 fn one_row(rt: &HostRuntime, line: &str) -> anyhow::Result<()> {
     let mut row = Row::parse(rt.alloc(), line)?;
     let script = file_of(rt, &row, "script")?;
@@ -39,7 +39,7 @@ fn file_of(rt: &HostRuntime, row: &Row, kind: &str) -> anyhow::Result<String> {
     row.unpack(rt.alloc(), text)
 }
 
-/// Prints that a row differs, and what was seen.
+/// Prints that a row differs, and the results of its run.
 fn tell(rt: &HostRuntime, name: &str, why: &str, seen: &Seen) -> anyhow::Result<()> {
     println!(rt; "{name} differs: {why}")?;
     let Seen {

@@ -9,10 +9,10 @@ use g_run::Finish;
 use g_tape::MemoryTapes;
 use std::alloc::Global;
 
-/// The most bytes of a text.
+/// The maximum length of a text in bytes.
 const ROOM: usize = 4_194_304;
 
-/// More puts than a run has whose puts fail one by one.
+/// More puts than any run has whose puts fail one by one.
 const MOST_PUTS: u64 = 1_000;
 
 /// Runs the row's script.
@@ -32,7 +32,7 @@ pub fn run_row(alloc: Global, row: &Row, script: &str) -> anyhow::Result<Seen> {
     seen_of(alloc, row, status.code(), sink.text(), disc, &tapes)
 }
 
-/// The run alone: what follows it is proved without all that it promises.
+/// Only the run: in a function of its own, the code after it is proved without all promises of the run.
 fn run_over(
     alloc: Global,
     words: &[&str],
@@ -46,8 +46,7 @@ fn run_over(
     run_by_rules(alloc, words, source, sink, disc, tapes)
 }
 
-/// Where the row asks for it: the first single put that fails and doesn't end the run with status 4 and a front part of
-/// the text.
+/// If the row requires it: the first single put that fails and doesn't end the run with status 4 and a prefix of the text.
 pub fn wrong_put(
     alloc: Global,
     row: &mut Row,

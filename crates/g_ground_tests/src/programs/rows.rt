@@ -1,7 +1,7 @@
 //! Rows of single orders.
 
-/// X, F, M, N and whether overflow is set before it; two words with their addresses; the next address and overflow behind it;
-/// two words with their addresses. All are in octal. A line that begins with `#` says what the orders are.
+/// X, F, M, N and whether overflow is set before it; two words with their addresses; the next address and overflow after it; two words with their
+/// addresses. All are in octal. A line that begins with `#` says what the orders are.
 pub static ROWS: &str = "# LDX, at the size, and with an address that wraps
 1 000 0 12 0  12 52525252 1 0  26 0  1 52525252 12 52525252
 1 000 0 40 1  1 5 2 0  25 1  1 5 2 0

@@ -32,14 +32,14 @@ fn path(rt: &impl Abort) -> Path {
     }
 }
 
-/// Units of which the punch is assigned.
+/// Units with only the punch assigned.
 fn with_punch(rt: &(impl Abort + AllocGlobal)) -> Units {
     let mut units = Units::new(rt.alloc()).expect(rt, "memory");
     units.assign_output(PUNCH, path(rt)).expect(rt, "a punch");
     units
 }
 
-/// Does the transfer of a control area at word 40: the unit, the count and the buffer. Its reply is this.
+/// Makes the transfer of a control area at word 40: the unit, the count and the buffer. Its reply is this.
 fn transfer(rt: &impl Abort, units: &mut Units, program: &mut Program, area: [u32; 3], reply: u32) {
     let [unit, count, buffer] = area;
     put(
@@ -51,7 +51,7 @@ fn transfer(rt: &impl Abort, units: &mut Units, program: &mut Program, area: [u3
     shows(rt, program, &[(41, reply)]);
 }
 
-/// What a unit gives back.
+/// The output that a unit returns.
 fn output(rt: &impl Abort, units: &mut Units, unit: Unit) -> Text {
     match units.release(unit) {
         Ok(Some((_path, text))) => text,
@@ -84,7 +84,7 @@ fn readers(rt: HostRuntime) {
     assert!(rt; units.release(READER) == Ok(None));
 }
 
-/// A line, and one of spaces alone, printed; then 409 times 160 characters and 96 of them, which fill a punch.
+/// A line, and one of spaces only, printed; then 409 times 160 characters and 96 more, which fill a punch.
 #[test]
 fn writers(rt: HostRuntime) {
     let mut program = loaded(&rt, FILE);
@@ -133,7 +133,7 @@ fn illegal_areas(rt: HostRuntime) {
     }
 }
 
-/// Does an order, which tells this and goes on there.
+/// Executes an order, which has this event and continues at this address.
 fn goes(rt: &impl Abort, units: &mut Units, program: &mut Program, event: OrderEvent, next: u16) {
     assert!(rt; units.one_order(program) == Ok(event));
     assert!(rt; program.next() == next);

@@ -3,7 +3,7 @@ use super::read;
 use g_script::one_reading;
 use std::test::Fail;
 
-/// Every operator, a job with MONEY and one without, and a last line that lacks its byte 10.
+/// Every operator line, a job with MONEY and one without, and a last line without its byte 10.
 #[test]
 fn ample(rt: HostRuntime) -> Result<(), Fail> {
     one_reading();

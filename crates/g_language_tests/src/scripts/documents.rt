@@ -1,9 +1,9 @@
-//! Documents of jobs, and what comes behind them.
+//! Documents of jobs, and the lines after them.
 use super::read;
 use std::alloc::{AllocError, Global};
 use std::test::Fail;
 
-/// Scripts, how many items stand before the bad line, and which line that is.
+/// Scripts, how many items precede the bad line, and which line that is.
 static SCRIPTS: [(&[u8], usize, Option<u64>); 15] = [
     (b"", 0, None),
     (b"0 FORMAT\n\n", 1, Some(2)),
@@ -42,7 +42,7 @@ fn documents(rt: HostRuntime) -> Result<(), Fail> {
     Ok(())
 }
 
-/// A job whose document is one line of so many tildes.
+/// A job whose document is one line of this many tildes.
 fn with_line_of(alloc: Global, bytes: u8) -> Result<Vec<u8>, AllocError> {
     let mut script = Vec::from_slice(alloc, b"0 JOB A,:B,TIME 1\n")?;
     for _ in 0..bytes {

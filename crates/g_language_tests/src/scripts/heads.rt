@@ -4,7 +4,7 @@ use std::alloc::{AllocError, Global};
 use std::process::Abort;
 use std::test::Fail;
 
-/// Scripts of one line, and whether it is one.
+/// Scripts of one line, and whether it is a valid one.
 static LINES: [(&[u8], bool); 92] = [
     (b"0 FORMAT\n", true),
     (b"0 START", true),
@@ -100,7 +100,7 @@ static LINES: [(&[u8], bool); 92] = [
     (b"****\n", false),
 ];
 
-/// First lines of jobs, each with an empty document, and whether it is one.
+/// First lines of jobs, each with an empty document, and whether it is a valid one.
 static JOBS: [(&[u8], bool); 27] = [
     (b"0 JOB A,:B,TIME 1\n****\n", true),
     (b"0 JOB A,:B,TIME 1000000\n****", true),
@@ -131,7 +131,7 @@ static JOBS: [(&[u8], bool); 27] = [
     (b"0 JOB  A,:B,TIME 1\n****\n", false),
 ];
 
-/// Whether a script has no bad line, and whether it has an item; or else its first line is bad, and it has none.
+/// Whether a script has no bad line, and whether it has an item; otherwise its first line is bad, and it has none.
 fn is_good(alloc: Global, script: &[u8]) -> Result<Option<bool>, Fail> {
     match read(alloc, script)? {
         (1, None) => Ok(Some(true)),
@@ -140,7 +140,7 @@ fn is_good(alloc: Global, script: &[u8]) -> Result<Option<bool>, Fail> {
     }
 }
 
-/// Whether each line is one where it should be.
+/// Whether each line is valid if and only if it should be.
 fn check(rt: &(impl Abort + AllocGlobal), lines: &[(&[u8], bool)]) -> Result<(), Fail> {
     for (script, good) in lines {
         assert!(rt; is_good(rt.alloc(), script)? == Some(*good), "of a line");
@@ -154,7 +154,7 @@ fn first_lines(rt: HostRuntime) -> Result<(), Fail> {
     check(&rt, &JOBS)
 }
 
-/// A TYPE line of so many bytes, from 10 on.
+/// A TYPE line of this many bytes, from 10 on.
 fn typed_line(alloc: Global, bytes: u8) -> Result<Vec<u8>, AllocError> {
     let mut script = Vec::from_slice(alloc, b"0 TYPE 1,")?;
     for _ in 9..bytes {
@@ -164,7 +164,7 @@ fn typed_line(alloc: Global, bytes: u8) -> Result<Vec<u8>, AllocError> {
     Ok(script)
 }
 
-/// How long a line is, and whether it is one.
+/// The length of a line, and whether it is valid.
 static LONGEST: [(u8, bool); 2] = [(160, true), (161, false)];
 
 #[test]

@@ -4,7 +4,7 @@ use g_name::Local;
 use g_verbs::{Action, read_verb};
 use std::test::Fail;
 
-/// Whether this is what they ask for.
+/// Whether this is the expected action.
 fn is_asked(action: &Action) -> bool {
     match action {
         Action::NewUser {

@@ -27,7 +27,7 @@ fn compare(rt: &(impl Abort + AllocGlobal), row: &str) -> Result<(), Fail> {
     Ok(())
 }
 
-/// Compares the rows of a table, but for the lines that begin with `#`.
+/// Compares the rows of a table, except for the lines that begin with `#`.
 fn check(rt: &(impl Abort + AllocGlobal), rows: &str) -> Result<(), Fail> {
     for row in rows.lines() {
         if !row.starts_with('#') {

@@ -1,6 +1,6 @@
 //! Verbs with files: in each row the number of the parameter that is bad, and the line.
 
-/// Each verb with files: each of its places bad, empty or lacking, and one parameter too many.
+/// Each verb with files: each of its places bad, empty or missing, and one parameter too many.
 pub static VERBS: &str = "\
 # INPUT file\n\
 1 INPUT\n\

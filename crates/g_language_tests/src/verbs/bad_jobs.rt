@@ -1,6 +1,6 @@
 //! Verbs of programs and jobs, and macros: in each row the number of the parameter that is bad, and the line.
 
-/// Each verb of programs and jobs: each of its places bad, empty or lacking, and one parameter too many.
+/// Each verb of programs and jobs: each of its places bad, empty or missing, and one parameter too many.
 pub static VERBS: &str = "\
 # ENTER n\n\
 1 ENTER\n\

@@ -1,7 +1,6 @@
 //! Verbs with users, modes and budgets: in each row the number of the parameter that is bad, and the line.
 
-/// Each verb with users: each of its places bad, empty or lacking, with what may be left out and without, and one
-/// parameter too many.
+/// Each verb with users: each of its places bad, empty or missing, with and without the optional ones, and one parameter too many.
 pub static VERBS: &str = "\
 # LISTDIR, which may name a user\n\
 1 LISTDIR ANNE\n\

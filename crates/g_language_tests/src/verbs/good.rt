@@ -1,4 +1,4 @@
-//! Lines whose verb is good, and what they ask for.
+//! Lines whose verb is good, and their actions.
 use super::good_lines;
 use super::said::said;
 use g_lang::{Command, Line, parse_line};
@@ -7,7 +7,7 @@ use std::alloc::Global;
 use std::process::Abort;
 use std::test::Fail;
 
-/// What a line's verb asks for.
+/// The action of a line's verb.
 fn asked(alloc: Global, line: &str) -> Result<Action, Fail> {
     let Line { label: _, command } = parse_line(alloc, line.as_bytes())?;
     let Command::Verb { name, rest } = command else {
@@ -17,7 +17,7 @@ fn asked(alloc: Global, line: &str) -> Result<Action, Fail> {
     Ok(action)
 }
 
-/// Compares a row: what a line asks for, and the line.
+/// Compares a row: the action of a line, and the line.
 fn compare(rt: &(impl Abort + AllocGlobal), row: &str) -> Result<(), Fail> {
     let (wanted, line) = row.split_once(" <= ").ok_or("no row")?;
     let action = asked(rt.alloc(), line)?;
@@ -26,7 +26,7 @@ fn compare(rt: &(impl Abort + AllocGlobal), row: &str) -> Result<(), Fail> {
     Ok(())
 }
 
-/// Compares the rows of a table, but for the lines that begin with `#`.
+/// Compares the rows of a table, except for the lines that begin with `#`.
 fn check(rt: &(impl Abort + AllocGlobal), rows: &str) -> Result<(), Fail> {
     for row in rows.lines() {
         if !row.starts_with('#') {

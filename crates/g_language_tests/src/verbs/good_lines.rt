@@ -1,5 +1,5 @@
-//! Lines of each verb in each of its forms, and what they ask for: in each row the verb, and behind it the
-//! values in order, each behind a space (`said`); and behind ` <= ` the line.
+//! Lines of each verb in each of its forms, and their actions: each row has the verb, followed by the values in order, each after a space (`said`),
+//! and after ` <= ` the line.
 
 /// Verbs with files.
 pub static FILES: &str = "\

@@ -1,4 +1,4 @@
-//! What a verb asks for, in words, so that tables can hold it.
+//! The action of a verb in words, so that tables can hold it.
 use g_base::NoMemory;
 use g_lines::Texts;
 use g_name::{Local, Path, Text, User};
@@ -7,7 +7,7 @@ use g_plain::BudgetKind;
 use g_verbs::Action;
 use std::alloc::Global;
 
-/// A value that a verb asks for.
+/// A value of an action.
 #[derive(Clone, Copy)]
 enum Value<'a> {
     File(&'a Path),
@@ -21,16 +21,16 @@ enum Value<'a> {
     Texts(&'a Texts),
 }
 
-/// The verb, and behind it the values that it asks for, in order, each behind a space: a file as it is written, a user
-/// without its colon, a local name, a number, a budget by its word, a unit without its star, a letter, a text between
-/// `<` and `>`. What may be left out and isn't there leaves nothing. Modes are the sum of their numbers.
+/// The verb, followed by the values of its action, in order, each after a space: a file as a path, a user without its colon, a local name, a number,
+/// a budget by its word, a unit without its star, a letter, a text between `<` and `>`. An optional value that is absent leaves nothing. Modes are
+/// the sum of their numbers.
 pub fn said(alloc: Global, action: &Action) -> Result<Text, NoMemory> {
     let mut said = Text::new(alloc);
     push_said(alloc, &mut said, action)?;
     Ok(said)
 }
 
-/// A verb with files; what has none is said by the others.
+/// A verb with files; the other functions handle verbs without files.
 fn push_said(alloc: Global, said: &mut Text, action: &Action) -> Result<(), NoMemory> {
     match action {
         Action::Input { file } => push(alloc, said, b"INPUT", &[Value::File(file)]),
@@ -72,7 +72,7 @@ fn push_said(alloc: Global, said: &mut Text, action: &Action) -> Result<(), NoMe
     }
 }
 
-/// A verb with users; what has none is said by the others.
+/// A verb with users; the other functions handle verbs without users.
 fn push_said_of_users(alloc: Global, said: &mut Text, action: &Action) -> Result<(), NoMemory> {
     match action {
         Action::ListDir { user } => push(alloc, said, b"LISTDIR", &[Value::User(user.as_ref())]),
@@ -233,7 +233,7 @@ fn push_number(alloc: Global, said: &mut Text, before: &[u8], number: u64) -> Re
     said.extend(digits.as_bytes())
 }
 
-/// A file as it is written, with the parts that are there.
+/// The text of a file's path, with the parts that it has.
 fn push_file(alloc: Global, said: &mut Text, file: &Path) -> Result<(), NoMemory> {
     said.extend(b" ")?;
     if let Some(user) = &file.user {
@@ -271,7 +271,7 @@ fn kind_word(kind: BudgetKind) -> &'static [u8] {
     }
 }
 
-/// The word of a unit's kind, behind a space.
+/// The word of a unit's kind, after a space.
 fn unit_word(kind: Kind) -> &'static [u8] {
     match kind {
         Kind::Cr => b" CR",

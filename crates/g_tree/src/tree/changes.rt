@@ -37,8 +37,8 @@ impl Tree {
         })
     }
 
-    /// Makes room for one user and one file more; without memory nothing changes but that there may be
-    /// more room.
+    /// Reserves memory for one more user and one more file. If memory runs out, nothing changes, except that more
+    /// memory may be reserved.
     pub fn reserve(&mut self) -> Result<(), NoMemory>
         ensures users { self.new.users ≡ self.old.users }
         ensures files { self.new.files ≡ self.old.files }
@@ -50,7 +50,7 @@ impl Tree {
         make_room(self.alloc, &mut self.room)
     }
 
-    /// Puts a user behind the others, whose number is the least unused one.
+    /// Appends a user, whose number is the least unused one.
     pub fn add_user(&mut self, user: UserRec)
         requires room { 1 ≤ self.old.spare }
         requires rules { IsRecords (self.old.users ++ user ∷ []) self.old.files }
@@ -90,7 +90,7 @@ impl Tree {
         self.users[place] = user;
     }
 
-    /// Puts a file at the place of its number, where there may be one already. No other moves.
+    /// Stores a file at the place of its number, where there may already be one. No other file moves.
     pub fn put(&mut self, file: FileRec)
         requires room { (1 ≤ self.old.spare) ⊎
             (number_of self.old.users self.old.files (full_of self.old.users file)
@@ -120,7 +120,7 @@ impl Tree {
         }
     }
 
-    /// Puts a file in the place of the one of its number, whatever its full name is.
+    /// Replaces the file of the same number, for any full name.
     fn replace(&mut self, file: FileRec)
         requires there { is_some (rec_at self.old.files file.number) ≡ true }
         requires room { (1 ≤ self.old.spare) ⊎
@@ -144,7 +144,7 @@ impl Tree {
         }
     }
 
-    /// Puts a file in the place of the one of its number, which has the same full name.
+    /// Replaces the file of the same number, which has the same full name.
     fn renew(&mut self, file: FileRec)
         requires name { name_of_file self.old.users self.old.files file.number
             ≡ Some (full_of self.old.users file) }
@@ -161,7 +161,7 @@ impl Tree {
         self.files.set(file);
     }
 
-    /// Puts a file in the place of the one of its number, whose full name is another.
+    /// Replaces the file of the same number, which has a different full name.
     fn rename(&mut self, old: Full, file: FileRec)
         requires was { name_of_file self.old.users self.old.files file.number ≡ Some old }
         requires room { 1 ≤ self.old.spare }
@@ -185,7 +185,7 @@ impl Tree {
         self.files.set(file);
     }
 
-    /// Takes the file of this number out.
+    /// Removes the file of this number.
     pub fn erase(&mut self, number: u16)
         requires { is_some (finmap.get (by_number self.old.files) number) ≡ true }
         ensures users { self.new.users ≡ self.old.users }
@@ -215,19 +215,7 @@ impl Tree {
         keep_room(&mut self.room, boxed);
     }
 
-    /// The least unused number of a user, where there is one below 63.
-    pub fn free_user(&self) -> Option<u8>
-        ensures some { IfSome result (λ number. (number < 63) × (number ≡ length self.now.users)) }
-        ensures none { IfNone result (length self.now.users ≡ 63) }
-    {
-        if self.users.len() < 63 {
-            Some(self.users.len() as u8)
-        } else {
-            None
-        }
-    }
-
-    /// The least unused number of a file, where there is one below 1,024.
+    /// The least unused number of a file, if there is one below 1,024.
     pub fn free_file(&self) -> Option<u16>
         ensures unused { IfSome result (λ number. (number < 1024)
             × (finmap.get (by_number self.now.files) number ≡ None)) }
@@ -239,7 +227,7 @@ impl Tree {
     }
 }
 
-/// Makes a box for a file more, where there is none; without memory nothing changes.
+/// Reserves a box for one more file, if none is reserved. If memory runs out, nothing changes.
 fn make_room(alloc: Global, room: &mut Option<BoxedRec>) -> Result<(), NoMemory>
     ensures ok { OnOk result (1 ≤ room_of room.new) }
     ensures kept { room_of room.old ≤ room_of room.new }
@@ -251,14 +239,14 @@ fn make_room(alloc: Global, room: &mut Option<BoxedRec>) -> Result<(), NoMemory>
     Ok(())
 }
 
-/// Keeps a box for a file more.
+/// Keeps the box for the next file.
 fn keep_room(room: &mut Option<BoxedRec>, boxed: BoxedRec)
     ensures { room_of room.old ≤ room_of room.new }
 {
     *room = Some(boxed);
 }
 
-/// What a box holds before a file is put into it.
+/// The content of a box that has no file yet.
 fn no_file() -> FileRec {
     let Some(local) = Local::new(b"F") else {
         unreachable!()
@@ -276,7 +264,7 @@ fn no_file() -> FileRec {
     }
 }
 
-/// Puts a file whose number is below 1,024 at its place, in the box that is there for it.
+/// Stores a file, whose number is below 1,024, at its place, in the reserved box.
 fn put_new(files: &mut FileTable, room: &mut Option<BoxedRec>, file: FileRec)
     requires number { file.number < 1024 }
     requires room { 1 ≤ room_of room.old }
@@ -289,7 +277,7 @@ fn put_new(files: &mut FileTable, room: &mut Option<BoxedRec>, file: FileRec)
     files.put(boxed);
 }
 
-/// What is remembered of files, with room for their names.
+/// The data derived from these files, with memory reserved for their names.
 fn counts_of(alloc: Global, users: &[UserRec], files: &[FileRec]) -> Result<Counts, NoMemory>
     requires { IsRecords users.now files.now }
     ensures index { IfOk result (λ c. AreIndexed users.now files.now c.names.entries) }

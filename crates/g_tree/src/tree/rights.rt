@@ -47,7 +47,7 @@ impl Tree {
         }
     }
 
-    /// What the user of this number may do with a file; every user may execute what is in `MACROS`.
+    /// The modes that the user of this number has for a file. All users may execute the files of `MACROS`.
     pub fn modes_of(&self, file: u16, user: u8) -> Modes
         requires { is_some (finmap.get (by_number self.now.files) file) ≡ true }
         ensures { ForFile self.now.users self.now.files file
@@ -75,19 +75,7 @@ impl Tree {
         self.modes_of(file, user).contains(mode)
     }
 
-    /// Whether the user of this number owns a file.
-    pub fn is_owner(&self, file: u16, user: u8) -> bool
-        requires { is_some (finmap.get (by_number self.now.files) file) ≡ true }
-        ensures { ForFile self.now.users self.now.files file
-            (λ row full. result ≡ same_text (name_of self.now.users user) full.user) }
-    {
-        match self.file_at(file) {
-            Some(file) => user == file.owner,
-            None => unreachable!(),
-        }
-    }
-
-    /// Whether the user of this number, if given these modes, would be the ninth beside the owner.
+    /// Whether giving these modes to the user of this number would trap a ninth user besides the owner.
     pub fn is_ninth(&self, file: u16, user: u8, modes: Modes) -> bool
         requires { is_some (finmap.get (by_number self.now.files) file) ≡ true }
         ensures { ForFile self.now.users self.now.files file (λ row full.
@@ -100,7 +88,7 @@ impl Tree {
         }
     }
 
-    /// The bytes of a file, at most 65,536.
+    /// The length of a file in bytes, at most 65,536.
     pub fn len_of(&self, file: u16) -> u32
         requires { is_some (finmap.get (by_number self.now.files) file) ≡ true }
         ensures len { (bytes : FileRec → List ℕ) (next : ℕ) → HasLengths self.now.files bytes

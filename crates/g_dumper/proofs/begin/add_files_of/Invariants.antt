@@ -1,4 +1,4 @@
--- The files so far, and behind them those of this user that are left.
+-- The files so far, followed by those of this user that remain.
 use Rattle.std.proofs.Common.{◌≡◌, ◌++◌}
 use Rattle.g_store_meaning.specs.Meaning.{files_of}
 use Rattle.g_dumper.proofs.begin.add_files_of.Given as goal

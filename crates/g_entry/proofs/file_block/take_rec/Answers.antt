@@ -19,7 +19,7 @@ read c format r online is here =
     is here c.take_u8-used.ensures c.take_u8-owner.ensures c.take_local-local.ensures.again c.take_u16-generation.ensures.again c.take_lang-lang.ensures.again
     c.take_u64-stamp.ensures.again c.take_u32-len.ensures.again c.take_traps-traps.ensures.again c.take_copy-tape.ensures.again
 
--- what is left of 512 bytes behind these fields
+-- The rest of the 512 bytes after these fields.
 left : (c : After-take_copy-tape) → 385 ≤ length c.take_copy-tape.new.reader
 left c =
     let all = c.requires in

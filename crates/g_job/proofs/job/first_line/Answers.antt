@@ -1,4 +1,4 @@
--- The first line is short, as names are.
+-- The first line is short because names are.
 use Rattle.std.proofs.Common.{List, [], ap, length, subst, sym, ℕ, ◌++◌, ◌∙◌, ◌∷◌, ◌≡◌, ◌≤◌}
 use Rattle.g_lines.specs.Lines.{ended}
 use Rattle.g_monitor.specs.JobLines.{header}

@@ -1,4 +1,4 @@
--- The program of a turn is a program that asks.
+-- The program of a turn is a program of calls.
 use Rattle.g_job.specs.Turns.{turn_work}
 use Rattle.g_plain.proofs.PlainlyLemmas.{ran_plainly}
 use Rattle.g_job.proofs.laws.turns_are_asked_of_a_plain_tree.Goals as goal

@@ -1,4 +1,4 @@
--- Where the user has no account, none is charged.
+-- If the user has no account, none is charged.
 use Rattle.std.proofs.Common.{ap, sym, ◌∙◌}
 use Rattle.g_job_table.specs.Accounts.{kept_for}
 use Rattle.g_job_table.proofs.AccountLemmas.{charged-none}

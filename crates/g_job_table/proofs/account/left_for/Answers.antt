@@ -1,4 +1,4 @@
--- Each job holds its allowances, where it is the user's.
+-- Each of the user's jobs holds its allowances.
 use Rattle.g_job_table.proofs.AccountLemmas.{IsLeft-more, IsLeft-none}
 use Rattle.g_job_table.proofs.account.left_for.Goals as goal
 

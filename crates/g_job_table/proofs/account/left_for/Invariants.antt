@@ -1,4 +1,4 @@
--- What is left where the jobs so far hold their allowances.
+-- What is left while the jobs so far hold their allowances.
 use Rattle.std.proofs.Common.{take}
 use Rattle.g_job_table.specs.Keeping.{IsLeft}
 use Rattle.g_job_table.proofs.account.left_for.Given as goal

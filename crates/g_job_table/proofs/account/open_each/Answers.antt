@@ -1,4 +1,4 @@
--- The next user gets an account, where there is none.
+-- The next user gets an account if there is none.
 use Rattle.std.proofs.Common.{Global, List, Vec, [], ap, append_assoc, is_some, subst, sym, take, ◌++◌, ◌+◌, ◌∙◌, ◌∷◌, ◌≡◌, ℕ, true}
 use Rattle.g_job_table.specs.Accounts.{kept_for}
 use Rattle.g_job_table.specs.Keeping.{Opens, opening}

@@ -1,4 +1,4 @@
--- Each of the users so far has an account, and the old ones stand in front.
+-- Each of the users so far has an account, and the old accounts come first.
 use Rattle.std.proofs.Common.{◌≡◌, ◌++◌, List, take}
 use Rattle.g_job_table.specs.Keeping.{Opens}
 use Rattle.g_job_table.specs.declared.account.Account.{Account}

@@ -1,8 +1,8 @@
 -- A job that can step is the next of them, and one that can't isn't.
 use Rattle.std.proofs.Common.{IfSome, Some, arith, refl, subst, sym, ◌≡◌, ◌≤◌, ◌∙◌, ◌⊎◌}
 use Rattle.std.proofs.lemmas.Option.{slice_get_read}
-use Rattle.g_sched.specs.declared.choice.Candidate.{Candidate}
-use Rattle.g_sched.specs.Choice.{IsNoLater}
+use Rattle.g_rules.specs.declared.choice.Candidate.{Candidate}
+use Rattle.g_rules.specs.Choice.{IsNoLater}
 use Rattle.g_job_table.proofs.ChoiceLemmas.{less-here, less-kept, less-more, seen-more, seen-same, seen-whole}
 use Rattle.g_job_table.proofs.WeightLemmas.{weight-at}
 use Rattle.g_job_table.proofs.choice.first_of.Goals as goal

@@ -1,4 +1,4 @@
--- Of the jobs so far that can step the first is kept, whose number no later job's is below.
+-- Of the jobs so far that can step the first is remembered; no later job has a smaller number.
 use Rattle.std.proofs.Common.{◌≤◌}
 use Rattle.g_store_model.specs.State.{State}
 use Rattle.g_job_table.specs.Choice.{TellsMounted}

@@ -1,8 +1,8 @@
--- By whether there is a job of the number.
+-- By whether a job has the number.
 use Rattle.std.proofs.Common.{List, ap, subst, sym, ◌∙◌, ℕ}
 use Rattle.std.specs.Fn.{FnReturnsAt}
 use Rattle.std.proofs.lemmas.Option.{get_or_from_slice_get}
-use Rattle.g_sched.specs.declared.rule.Standing.{Standing}
+use Rattle.g_rules.specs.declared.rule.Standing.{Standing}
 use Rattle.g_job.specs.Beginning.{standing_of}
 use Rattle.g_job_table.specs.Weights.{AreWeights}
 use Rattle.g_job_table.proofs.WeightLemmas.{weights-again, weights-same}

@@ -1,6 +1,6 @@
 use Rattle.std.proofs.Common.{arith, subst}
 use Rattle.std.specs.Fn.{FnReturnsAt}
-use Rattle.g_sched.specs.declared.rule.Standing.{Standing}
+use Rattle.g_rules.specs.declared.rule.Standing.{Standing}
 use Rattle.g_job_table.proofs.WeightLemmas.{front-more, front-none, front-whole}
 use Rattle.g_job_table.proofs.choice.weigh_each.Goals as goal
 

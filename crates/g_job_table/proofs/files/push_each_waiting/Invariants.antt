@@ -1,4 +1,4 @@
--- The files so far stand behind the text.
+-- The files so far follow the text.
 use Rattle.std.proofs.Common.{◌≡◌, ◌++◌, take}
 use Rattle.g_run_model.specs.Texts.{waiting_files}
 use Rattle.g_job_table.proofs.files.push_each_waiting.Given as goal

@@ -1,6 +1,6 @@
--- The next job hasn't the number.
+-- The next job doesn't have the number.
 use Rattle.std.proofs.Common.{ap, ne_eqb, ◌==◌, ◌∙◌}
-use Rattle.g_sched.specs.declared.rule.Standing.{Standing}
+use Rattle.g_rules.specs.declared.rule.Standing.{Standing}
 use Rattle.g_job.specs.State.{JobState}
 use Rattle.g_job_table.proofs.AccountLemmas.{find_more}
 use Rattle.g_job_table.proofs.place.searched.Goals as goal

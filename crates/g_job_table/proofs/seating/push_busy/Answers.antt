@@ -1,4 +1,4 @@
--- The terminal's number as it is written.
+-- The decimal number of the terminal.
 use Rattle.g_job_table.proofs.seating.push_busy.Goals as goal
 
 pub returns : goal.returns

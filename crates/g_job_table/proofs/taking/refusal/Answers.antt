@@ -1,4 +1,4 @@
--- In every world of the crew the user is looked for before the room.
+-- In every world of the crew the user is checked before the room.
 use Rattle.std.proofs.Common.{◌∙◌}
 use Rattle.g_job_table.proofs.TakingLemmas.{refused-known, refused-unknown}
 use Rattle.g_job_table.proofs.taking.refusal.Goals as goal

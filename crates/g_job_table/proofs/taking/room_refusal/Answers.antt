@@ -1,4 +1,4 @@
--- In every world of the crew the reasons are looked at in this order.
+-- In every world of the crew the reasons are checked in this order.
 use Rattle.g_job_table.proofs.TakingLemmas.{room-not, room-poor, room-short}
 use Rattle.g_job_table.proofs.taking.room_refusal.Goals as goal
 

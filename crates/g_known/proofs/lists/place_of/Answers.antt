@@ -1,4 +1,4 @@
--- The list found is the first of its serial; where the loop ends none has it.
+-- The list that was found is the first with its serial; if the loop ends, no list has the serial.
 use Rattle.std.proofs.Common.{sym, ap, ◌∙◌, arith}
 use Rattle.std.proofs.lemmas.List.{get_or_default}
 use Rattle.g_known.specs.declared.lists.NotedReel.{NotedReel}

@@ -1,4 +1,4 @@
--- Where the reader stands, the rest of the text goes wrong where the whole does.
+-- From the reader's state on, the rest of the text goes wrong where the whole text does.
 use Rattle.std.proofs.Common.{◌≡◌, ◌≤◌, drop, take}
 use Rattle.g_lang.specs.LineReader.{Front, wrong_from}
 use Rattle.g_lang.specs.Places.{state_of, depth_of, word_start}

@@ -1,4 +1,4 @@
--- Where the reader stands, the rest of the parameters goes wrong where all of them do.
+-- From the reader's state on, the rest of the parameters goes wrong where all of them do.
 use Rattle.std.proofs.Common.{◌+◌, ◌≡◌, ◌≤◌, drop}
 use Rattle.g_lang.specs.LineReader.{Params, wrong_from}
 use Rattle.g_lang.proofs.reader.wrong_in_params.Given as goal

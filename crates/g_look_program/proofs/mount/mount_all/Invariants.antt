@@ -1,4 +1,4 @@
--- What was mounted so far.
+-- The reels mounted so far.
 use Rattle.g_look_program.proofs.MountLemmas.{OnlyMounts}
 use Rattle.g_look_program.proofs.mount.mount_all.Given as goal
 

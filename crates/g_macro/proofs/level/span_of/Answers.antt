@@ -4,7 +4,7 @@ use Rattle.g_macro.specs.Levels.{is_closing}
 use Rattle.g_macro.proofs.SpanLemmas.{span-fits, span-next, span-stop}
 use Rattle.g_macro.proofs.level.span_of.Goals as goal
 
--- what the test of a line tells
+-- the result of testing a line
 closing : (line to : List ℕ) (is same : Bool) → to ≡ codes "////" → is ≡ same_text line to → is ≡ same → is_closing line ≡ same
 closing line to is same text told tells = ap (same_text line) (sym text) ∙ sym told ∙ tells
 

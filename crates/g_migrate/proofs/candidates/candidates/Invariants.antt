@@ -1,4 +1,4 @@
--- The candidates among the files so far, and the records that are left stand behind these.
+-- The candidates among the files so far, followed by the remaining records.
 use Rattle.g_migrate.proofs.CandidateLemmas.{IsListed}
 use Rattle.g_migrate.proofs.candidates.candidates.Given as goal
 

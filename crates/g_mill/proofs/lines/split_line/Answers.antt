@@ -4,7 +4,7 @@ use Rattle.std.proofs.lemmas.Bool.{eqb-false}
 use Rattle.g_mill.proofs.LineLaws.{NoneBefore, first_line, only_line, suffix_of}
 use Rattle.g_mill.proofs.lines.split_line.Goals as goal
 
--- the bytes behind a place are all of what stands there
+-- the bytes after a place are the whole rest of the text
 all_behind : (text : List ℕ) (end : ℕ) → take (length text - (end + 1)) (drop (end + 1) text) ≡ drop (end + 1) text
 all_behind text end = take_all (length text - (end + 1)) (drop (end + 1) text) (omega (arith, length-drop (end + 1) text))
 

@@ -1,4 +1,4 @@
--- Where the words are long, what was put is the fault's text by its variant.
+-- If the words are long, the appended text is that of the fault's variant.
 use Rattle.std.proofs.Common.{sym}
 use Rattle.g_monitor.proofs.faults.push_fault.Goals as goal
 

@@ -1,4 +1,4 @@
--- The bytes so far are shown as they are, as long as no other was met.
+-- The bytes so far are shown unchanged, as long as each of them can be printed.
 use Rattle.std.proofs.Common.{IsTrue, take, ◌≡◌}
 use Rattle.std.specs.Prelude.{map}
 use Rattle.g_monitor.specs.Listing.{shown}

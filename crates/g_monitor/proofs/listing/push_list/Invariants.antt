@@ -1,4 +1,4 @@
--- The lines that were shown, and those that are left.
+-- The lines that were appended, and those that are left.
 use Rattle.std.proofs.Common.{◌≡◌, ◌++◌, length}
 use Rattle.std.specs.Prelude.{map}
 use Rattle.g_lines.specs.Lines.{text_of}

@@ -1,4 +1,4 @@
--- The files that were put, and those that are left.
+-- The files that were appended, and those that are left.
 use Rattle.std.proofs.Common.{◌≡◌, ◌++◌, drop}
 use Rattle.std.specs.Prelude.{map}
 use Rattle.g_lines.specs.Lines.{text_of}

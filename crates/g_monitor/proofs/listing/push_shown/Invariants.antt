@@ -1,4 +1,4 @@
--- The bytes that were shown stand behind `| `.
+-- The bytes that were shown follow `| `.
 use Rattle.std.proofs.Common.{◌≡◌, ◌++◌, take}
 use Rattle.std.specs.Prelude.{map, codes}
 use Rattle.g_monitor.specs.Listing.{shown}

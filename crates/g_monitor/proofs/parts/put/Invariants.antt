@@ -1,4 +1,4 @@
--- The bytes so far stand behind the name.
+-- The bytes so far follow the name.
 use Rattle.std.proofs.Common.{◌≡◌, ◌++◌, take}
 use Rattle.g_monitor.proofs.parts.put.Given as goal
 

@@ -4,7 +4,7 @@ use Rattle.g_lines.specs.Lines.{ended}
 use Rattle.g_mop.specs.TerminalLines.{mark_of, shown_at}
 use Rattle.g_mop.proofs.shown.push_mark.Given as goal
 
--- what was put so far, and the lines that are left, are all that is to be put
+-- the lines appended so far and the lines that are left are all of them
 abbrev pub invariant-loop-line : goal.invariant-loop-line
 invariant-loop-line l = l.text ++ flat_map (λ (line : List ℕ). ended (mark_of l.terminal ++ line)) l.lines ≡ l.fn.text ++ shown_at l.terminal l.added
 

@@ -1,4 +1,4 @@
--- The files so far, and behind them those that are left.
+-- The files so far, followed by those that remain.
 use Rattle.std.proofs.Common.{◌≡◌, ◌++◌, map}
 use Rattle.g_disc_contents.specs.Contents.{copied_rec}
 use Rattle.g_online.proofs.adopt.copied_files.Given as goal

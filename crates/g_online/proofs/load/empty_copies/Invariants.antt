@@ -1,4 +1,4 @@
--- The copies so far, and behind them those of the files that are left.
+-- The copies so far, followed by those of the remaining files.
 use Rattle.std.proofs.Common.{◌≡◌, ◌++◌}
 use Rattle.g_online.specs.Beginning.{empty_copies}
 use Rattle.g_online.proofs.load.empty_copies.Given as goal

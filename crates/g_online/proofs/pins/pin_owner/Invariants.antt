@@ -1,4 +1,4 @@
--- The versions of the files so far were put, and the files that are left stand behind these.
+-- The versions of the files so far were pinned, and the remaining files follow.
 use Rattle.g_online.proofs.PinPutLemmas.{IsPutting}
 use Rattle.g_online.proofs.pins.pin_owner.Given as goal
 

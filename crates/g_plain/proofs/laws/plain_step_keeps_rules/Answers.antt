@@ -1,4 +1,4 @@
--- The rules hold at first and are kept by each call.
+-- The rules hold initially, and each call preserves them.
 use Rattle.g_plain.proofs.StepKept.{formatted_kept, step_kept}
 use Rattle.g_plain.proofs.laws.plain_step_keeps_rules.Goals as goal
 

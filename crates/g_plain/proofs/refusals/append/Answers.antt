@@ -1,4 +1,4 @@
--- What is missing or closed is told before the size, and that before the stamps.
+-- Missing users and files and closed modes are checked before the size, and the size before the stamps.
 use Rattle.std.proofs.Common.{[], ◌∷◌, ◌++◌, ◌+◌, length, sym, ◌∙◌}
 use Rattle.g_trap.specs.declared.mode_set.Mode.TheVariants as mode
 use Rattle.g_plain.specs.declared.calls.StoreCall.TheVariants.{Fetch}

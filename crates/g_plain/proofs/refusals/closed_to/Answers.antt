@@ -1,4 +1,4 @@
--- What is missing is told before what is closed.
+-- Missing users and files are checked before closed modes.
 use Rattle.std.proofs.Common.{[], ◌∷◌, not, sym, ◌∙◌}
 use Rattle.g_plain.specs.declared.faults.StoreFault.TheVariants.{Trapped}
 use Rattle.g_plain.specs.PlainTree.{is_allowed, file_row, input_name}

@@ -1,4 +1,4 @@
--- A call is granted as any such call, whatever it names besides.
+-- A call is granted the name of its file, independent of its other arguments.
 use Rattle.std.proofs.Common.{None, refl, sym, ap, ◌∙◌}
 use Rattle.g_plain.specs.declared.refusals.CallName.TheVariants.{Nothing}
 use Rattle.g_plain.specs.declared.refusals.GrantedName.{GrantedName}

@@ -1,4 +1,4 @@
--- What is missing is told before whose the file is, and that before its new name.
+-- Missing users and files are checked before the owner, and the owner before the new name.
 use Rattle.std.proofs.Common.{[], ◌∷◌, not, sym, ap, ◌∙◌}
 use Rattle.g_name.specs.Order.{same_text}
 use Rattle.g_plain.specs.declared.faults.StoreFault.TheVariants.{Exists, NotOwner}

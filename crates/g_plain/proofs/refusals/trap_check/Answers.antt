@@ -1,4 +1,4 @@
--- What is missing is told before who may ask.
+-- Missing users and files are checked before the caller's right to the reply.
 use Rattle.std.proofs.Common.{[], ◌∷◌, ◌||◌, not, sym, ap, ◌∙◌}
 use Rattle.g_name.specs.Order.{same_text}
 use Rattle.g_plain.specs.declared.faults.StoreFault.TheVariants.{NotOwner, NoUser}

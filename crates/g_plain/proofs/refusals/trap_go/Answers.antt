@@ -1,4 +1,4 @@
--- The tests of a mode that is taken come before that of a ninth user.
+-- The checks of closing modes precede that of a ninth user.
 use Rattle.std.proofs.Common.{◌≡◌, ◌∙◌, Bool, [], ◌∷◌, List, ℕ, not, ◌&&◌, ◌==◌, nat_le, is_none, sym, ap}
 use Rattle.std.specs.FinMap.{get, len}
 use Rattle.g_name.specs.declared.full.Full.{Full}

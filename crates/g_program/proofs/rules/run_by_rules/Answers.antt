@@ -1,9 +1,9 @@
 -- What the rules of this program answer is what their formulas say, so a run by them is one by the formulas.
 use Rattle.std.proofs.Common.{rules, ◌≡◌, ℕ, ◌+◌, ◌*◌, ◌/◌}
 use Rattle.std.specs.Fn.{FnReturnsAt}
-use Rattle.g_budget.specs.declared.tariff.Charge.{Charge}
-use Rattle.g_budget.specs.declared.tariff.Usage.{Usage}
-use Rattle.g_sched.specs.declared.rule.Standing.{Standing}
+use Rattle.g_rules.specs.declared.tariff.Charge.{Charge}
+use Rattle.g_rules.specs.declared.tariff.Usage.{Usage}
+use Rattle.g_rules.specs.declared.rule.Standing.{Standing}
 use Rattle.g_program.specs.Rules.{answering, price, share_used}
 use Rattle.g_program.proofs.RuleLemmas.{anew_as, demo_as, ends_as}
 use Rattle.g_program.proofs.rules.run_by_rules.Goals as goal

@@ -1,4 +1,4 @@
--- What the call is granted is what the record of its version wants.
+-- What the call is granted is what the record of its version requires.
 use Rattle.std.proofs.Common.{◌≤◌, ap, arith, length, List, ℕ, subst, sym}
 use Rattle.g_store_calls.proofs.NextLemmas.{is_next}
 use Rattle.g_store_calls.proofs.PutLemmas.{put_granted}

@@ -1,4 +1,4 @@
--- The file of the number is there, and so is its owner.
+-- The file of the number exists, and so does its owner.
 use Rattle.std.proofs.Common.{◌<◌, length, sym, ap, subst, ◌∙◌}
 use Rattle.g_tree.specs.Records.{full_of}
 use Rattle.g_tree.proofs.RightLemmas.{numbered_there, owner_used}

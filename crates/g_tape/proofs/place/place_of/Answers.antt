@@ -1,4 +1,4 @@
--- The reel found is the first of its serial; where the loop ends none has it.
+-- The reel that was found is the first with its serial; if the loop ends, no reel has the serial.
 use Rattle.std.proofs.Common.{sym, ap, ◌∙◌, arith}
 use Rattle.std.proofs.lemmas.List.{get_or_default}
 use Rattle.g_tape.specs.Reel.{Reel}

@@ -1,4 +1,4 @@
--- A user who has modes has a pair at the place; one who has none has no pair, and would stand there.
+-- A user with modes has a pair at the place; a user without modes has no pair, and the place is where it would fit.
 use Rattle.std.proofs.Common.{◌≡◌, ◌≤◌, arith, ◌∙◌, sym, true≢false, refl, length, set, get_or, None}
 use Rattle.std.specs.List.{length_refill}
 use Rattle.std.specs.Ordering.{nat_cmp}

@@ -1,4 +1,4 @@
--- The user's pair stands at the place, or there is none.
+-- The user's pair is at the place, or there is none.
 use Rattle.std.proofs.Common.{◌∙◌, sym, ap, unwrap_or}
 use Rattle.g_trap.proofs.Places.{found, absent}
 use Rattle.g_trap.proofs.trap_list.other_modes.Goals as goal

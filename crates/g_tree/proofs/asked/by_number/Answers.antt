@@ -1,4 +1,4 @@
--- A file that is there has a number.
+-- An existing file has a number.
 use Rattle.std.proofs.Common.{is_some, sym, ap, ◌∙◌, true≢false}
 use Rattle.g_plain.specs.Grants.{number_in}
 use Rattle.g_tree.specs.AskedRecords.{zeros}

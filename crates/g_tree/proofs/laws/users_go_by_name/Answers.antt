@@ -1,4 +1,4 @@
--- A name is another's exactly where the number is.
+-- Names are equal if and only if the numbers are.
 use Rattle.std.proofs.Common.{inr}
 use Rattle.g_tree.proofs.RecordLemmas.{same_user}
 use Rattle.g_tree.proofs.RightLemmas.{owner_used}

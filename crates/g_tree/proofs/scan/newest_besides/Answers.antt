@@ -1,4 +1,4 @@
--- The owner of the first of those that are left is there.
+-- The owner of the first of the remaining files exists.
 use Rattle.std.proofs.Common.{rules, ◌<◌, length, subst}
 use Rattle.std.specs.List.{All}
 use Rattle.std.proofs.lemmas.List.Elements.{All-head, All-tail}

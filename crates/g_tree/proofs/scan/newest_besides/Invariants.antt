@@ -1,4 +1,4 @@
--- The greatest generation so far, taken on over the files that are left, whose owners are there.
+-- The greatest generation so far, combined with those of the remaining files, whose owners exist.
 use Rattle.std.proofs.Common.{◌≡◌, ◌<◌, length, fold, max, map, filter}
 use Rattle.std.specs.List.{All}
 use Rattle.g_plain.specs.PlainTree.{is_version_of}

@@ -1,4 +1,4 @@
--- The names and numbers of the files behind those that are left.
+-- The names and numbers of the files after the remaining ones.
 use Rattle.std.proofs.Common.{◌≡◌, ◌==◌, ◌++◌, List, map, filter, length}
 use Rattle.std.specs.FinMap.{from_entries}
 use Rattle.g_entry.specs.declared.file_rec.FileRec.{FileRec}

@@ -1,4 +1,4 @@
--- The numbers so far, and behind them those that are left.
+-- The numbers so far, followed by the remaining ones.
 use Rattle.std.proofs.Common.{◌≡◌, ◌++◌, map}
 use Rattle.g_tree.proofs.sorted.numbers_in.Given as goal
 

@@ -1,4 +1,4 @@
--- The job goes on, and the store takes calls.
+-- The job continues, and the store accepts calls.
 use Rattle.std.proofs.Common.{◌≡◌, false}
 use Rattle.store_rows.proofs.jobs.finish.Given as goal
 

@@ -1,4 +1,4 @@
--- A block that wasn't given back yet is still taken; the next one given back joins the first.
+-- A block that hasn't been freed yet is still taken; the next freed block is added to the earlier ones.
 use Rattle.g_blocks.proofs.Marks.{IsTaken-still, HasGiven-next}
 use Rattle.g_blocks.proofs.pool.Pool.give.Goals as goal
 

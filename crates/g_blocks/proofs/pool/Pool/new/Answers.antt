@@ -1,4 +1,4 @@
--- Of a pool without taken blocks just the used ones were taken.
+-- In a pool that had no taken blocks, exactly the used ones were taken.
 use Rattle.g_blocks.proofs.Marks.{IsFresh-taken}
 use Rattle.g_blocks.proofs.pool.Pool.new.Goals as goal
 

@@ -1,4 +1,4 @@
--- The least free blocks rise, so they are apart. Where the search begins is not seen.
+-- The least free blocks are strictly increasing, so they are distinct. Contracts don't see where the search begins.
 use Rattle.std.proofs.Common.{◌≢◌, AllPairs, Bool, List, ℕ, sym, subst}
 use Rattle.g_blocks.specs.Pool.{HasTaken}
 use Rattle.g_blocks.proofs.Marks.{apart-rising}

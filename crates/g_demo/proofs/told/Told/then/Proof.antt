@@ -1,4 +1,4 @@
--- `then` picks the text with the piece behind it. Assumes `Logic`.
+-- `then` picks the text followed by the piece. Assumes `Logic`.
 use Rattle.std.proofs.Common.{List, [], ◌∷◌, ◌++◌, length, refl}
 use seplogic.Ra.Ura.{Ura}
 use mir.Syntax.{Fn}

@@ -1,4 +1,4 @@
--- The pair of this serial is made durable; another serial isn't there.
+-- The pair of this serial is made durable, or the rack has no such serial.
 use Rattle.std.proofs.Common.{◌∙◌, refl, sym}
 use Rattle.g_duplex.specs.Meaning.{pair_of}
 use Rattle.g_duplex.proofs.MountLemmas.{none_seen}

@@ -1,4 +1,4 @@
--- The rules of the job stand, and whether it is ready was told of the levels with the line.
+-- The job's rules still hold, and `ready` was computed for the levels with the line.
 use Rattle.std.proofs.Common.{List, ap, subst, sym, ℕ, ◌∙◌}
 use Rattle.g_turn.specs.State.{Work}
 use Rattle.g_turn.specs.Typing.{with_stack}

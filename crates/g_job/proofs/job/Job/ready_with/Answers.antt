@@ -1,4 +1,4 @@
--- What is ready stays so with a line more.
+-- A ready job is still ready after one more line.
 use Rattle.std.proofs.Common.{ap, sym, ◌∙◌}
 use Rattle.g_job.specs.Terminal.{is_ready}
 use Rattle.g_job.specs.declared.parts.Parts.{Parts}

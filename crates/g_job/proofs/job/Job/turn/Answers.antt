@@ -14,7 +14,7 @@ use Rattle.g_turn.proofs.ReadyLemmas.{on_err}
 use Rattle.g_turn.proofs.WellThen.{part_whole}
 use Rattle.g_job.proofs.job.Job.turn.Goals as goal
 
--- the rules behind the end of the work that was made
+-- the rules at the end of the work
 pub invariant_of-self : goal.invariant_of-self
 invariant_of-self g c =
     let made : Makes g.S.Filestore.answers g.S.Filestore.is_spent g.S.Filestore.can_wait c.args.self.now c.args.store.now c.make.new.self.work c.make.new.store =

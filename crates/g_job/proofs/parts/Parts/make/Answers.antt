@@ -1,4 +1,4 @@
--- Nothing waits, so the turn begins with a run of the program or with a line.
+-- Nothing is pending, so the turn begins with a run of the program or with a line.
 use Rattle.std.proofs.Common.{None, Option, ap, length, option_map, sym, ◌-◌, ◌∙◌, ◌≡◌}
 use Rattle.g_job.specs.JobValue.{job_of}
 use Rattle.g_job.specs.State.{JobState}

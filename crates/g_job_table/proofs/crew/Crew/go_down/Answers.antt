@@ -1,4 +1,4 @@
--- Nobody is a crew.
+-- A crew without jobs satisfies the rules.
 use Rattle.std.proofs.Common.{refl}
 use Rattle.g_job_table.proofs.NumberLemmas.{AreJobs-none}
 use Rattle.g_job_table.proofs.crew.Crew.go_down.Goals as goal

@@ -1,4 +1,4 @@
--- In every world of the crew the reasons are looked at in this order.
+-- In every world of the crew the reasons are checked in this order.
 use Rattle.std.proofs.Common.{List, None, Option, ap, refl, subst, sym, ◌∙◌, ◌≡◌}
 use Rattle.std.specs.Prelude.{is_some}
 use Rattle.g_job.specs.State.{JobState}

@@ -1,4 +1,4 @@
--- The job that sits there is the one of the number that is kept.
+-- The job at the terminal is the one of the stored number.
 use Rattle.std.proofs.Common.{List, None, Option, Some, ap, arith, refl, set, slice_get, subst, sym, ◌∙◌, ◌≡◌}
 use Rattle.std.specs.Prelude.{Err, Ok, Result}
 use Rattle.std.proofs.lemmas.Option.{get_or_from_slice_get, slice_get_within}

@@ -1,4 +1,4 @@
--- The job goes behind the others.
+-- The job is appended to the others.
 use Rattle.std.proofs.Common.{ap, arith, length, sym, ◌∙◌}
 use Rattle.g_job_table.specs.Crew.{CrewState}
 use Rattle.g_job_table.proofs.NumberLemmas.{AreJobs-push}

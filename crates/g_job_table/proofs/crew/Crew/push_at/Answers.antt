@@ -1,4 +1,4 @@
--- The job goes behind the others, and its seat behind theirs.
+-- The job is appended to the others, and its seat to theirs.
 use Rattle.std.proofs.Common.{List, [], ap, arith, length, sym, ◌++◌, ◌∙◌, ◌∷◌, ◌≡◌, ℕ}
 use Rattle.g_job_table.specs.Crew.{CrewState}
 use Rattle.g_job_table.specs.Numbers.{job_in}

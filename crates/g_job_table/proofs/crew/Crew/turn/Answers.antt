@@ -1,4 +1,4 @@
--- The job at the place is the one of its number, and stays so.
+-- The job at the place is the one of its number, also afterwards.
 use Rattle.std.proofs.Common.{List, Ok, Result, Some, ap, arith, length, length-set, slice_get, subst, sym, ◌∙◌, ◌≡◌}
 use Rattle.std.proofs.lemmas.Option.{get_or_from_slice_get, slice_get_within}
 use Rattle.g_base.specs.declared.memory.NoMemory.{NoMemory}

@@ -1,4 +1,4 @@
--- What each place goes on with doesn't look at the text.
+-- The state after each place doesn't depend on the text.
 use Rattle.std.proofs.Common.{◌∷◌, ◌++◌, []}
 use Rattle.g_lang.proofs.reader.Place.step.Goals as goal
 

@@ -5,7 +5,7 @@ use Rattle.g_lines.specs.Documents.{IsPlace, Taking, lines_left}
 use Rattle.g_lines.specs.Lines.{text_of}
 use Rattle.g_lines.proofs.cursor.Cursor.pass.Goals as goal
 
--- the place that it comes to, by the fields of the cursor
+-- the offset after these lines, by the fields of the cursor
 come : (lines : List (List ℕ)) (taken at count bytes : ℕ) (now : Taking) → record { lines = lines; taken = taken } ≡ now → IsPlace lines taken at → count ≤ length (lines_left now) → bytes ≡ length (text_of (take count (lines_left now)))
     → IsPlace lines (taken + count) (at + bytes)
 come lines taken at count bytes now is place within bytes_are =

@@ -1,4 +1,4 @@
--- A command that a level keeps is a command's text.
+-- A command stored in a level is the text of a command.
 use Rattle.std.proofs.Common.{◌≡◌, ◌<◌, ◌∙◌, List, ap, sym, subst, get_or, length, arith}
 use Rattle.g_lang.specs.Lines.{IsCommandText}
 use Rattle.g_macro.specs.declared.entry.Entry.{Entry}

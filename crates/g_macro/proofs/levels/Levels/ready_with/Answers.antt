@@ -1,4 +1,4 @@
--- The document is the first of the levels that the code keeps.
+-- The document is the first level in the code's list.
 use Rattle.std.proofs.Common.{List, ap, slice_get, ◌∙◌}
 use Rattle.g_macro.proofs.HoldingLemmas.{typed_first}
 use Rattle.g_macro.specs.Levels.{Level}

@@ -1,4 +1,4 @@
--- The empty ones behind those that were given don't show.
+-- The empty parameters after the given ones aren't observable.
 use Rattle.std.proofs.Common.{List, ap, length, sym, ℕ, ◌-◌, ◌∙◌}
 use Rattle.g_macro.specs.Expansion.{param_of}
 use Rattle.g_macro.proofs.ParamLemmas.{padded_at}

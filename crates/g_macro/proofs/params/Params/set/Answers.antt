@@ -1,4 +1,4 @@
--- All 24 are there before one of them is set.
+-- All 24 parameters are stored before one of them is set.
 use Rattle.std.proofs.Common.{List, ap, arith, length, refl, set, ℕ, ◌-◌, ◌∙◌, ◌≡◌, ◌<◌}
 use Rattle.g_macro.proofs.FrontLemmas.{letter-inside}
 use Rattle.g_macro.proofs.ParamLemmas.{padded_long, padded_set}

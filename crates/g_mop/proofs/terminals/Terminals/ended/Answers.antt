@@ -1,4 +1,4 @@
--- The seats of other jobs stay.
+-- The seats of other jobs are unchanged.
 use Rattle.std.proofs.Common.{ap, not, rules, subst, sym, ◌==◌, ◌∙◌, ◌≡◌}
 use Rattle.arrayvec.proofs.ArrayVecLemmas.{filter-from_retain}
 use Rattle.g_mop.specs.Seats.{AreSeats, without_seat}

@@ -1,4 +1,4 @@
--- There is room for one terminal more, and nobody is at it.
+-- There is room for one more terminal, and this one is free.
 use Rattle.std.proofs.Common.{None, arith, ap, subst, sym, ◌∙◌, ◌≡◌}
 use Rattle.g_mop.specs.Seats.{AreSeats, seat_at}
 use Rattle.g_mop.proofs.SeatLemmas.{has_room, nobody_at, seats_push}

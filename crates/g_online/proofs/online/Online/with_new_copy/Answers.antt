@@ -171,7 +171,7 @@ returns-in-Err-write_new g c =
     c.in-Err-write_new.ensures.counts c.in-Err-write_new.ensures.stopped c.write_new.ensures.whole c.in-Err-write_new.ensures.dies
     c.in-Err-write_new.ensures.only).1
 
--- when the bytes are written, and when all is put in
+-- when the bytes are written, and when all is inserted
 abbrev written_in : (g : _) (c : After-put_record g) → List Bool → Memory
 written_in g c pool =
     memory c.unjam_first.new.slots c.unjam_first.new.pages pool c.make_ready.new.tree.users c.make_ready.new.tree.files c.unjam_first.new.head

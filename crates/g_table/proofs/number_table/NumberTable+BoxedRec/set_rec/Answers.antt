@@ -1,4 +1,4 @@
--- A record stands at the number, since the table has one.
+-- The table has a record of the number, so one is at its place.
 use Rattle.std.proofs.Common.{rules, ◌≡◌, ◌<◌, length, Some, Option, refl, sym, ap, ◌∙◌, arith, true}
 use Rattle.std.specs.Prelude.{is_some, slice_set}
 use Rattle.g_entry.specs.declared.file_rec.FileRec.{FileRec}

@@ -1,4 +1,4 @@
--- All numbers in front are taken: those of the groups in front, and those of its own.
+-- All lower numbers are taken: those of the groups before, and those of its own group.
 use Rattle.std.proofs.Common.{◌≡◌, ◌≤◌, ◌<◌, ◌*◌, ℕ, Option, get_or, length, true, refl, subst, sym, ap, arith, ◌∙◌}
 use Rattle.std.specs.Prelude.{is_some}
 use Rattle.g_table.specs.Table.{AreTaken, item_at, standing_at}

@@ -1,4 +1,4 @@
--- Behind the end no item stands.
+-- The places after the end are empty.
 use Rattle.std.proofs.Common.{take, ap, map, sym, ◌∙◌}
 use Rattle.g_table.specs.Table.{present}
 use Rattle.g_table.proofs.TableLemmas.{Items, items_present}

@@ -1,4 +1,4 @@
--- Where none stood one more is counted.
+-- If the place was empty, the count rises by one.
 use Rattle.std.proofs.Common.{◌≤◌, Option, not, refl, ap, arith, ◌∙◌}
 use Rattle.std.specs.Prelude.{slice_set}
 use Rattle.g_table.proofs.TableLemmas.{found_listed, put_listed}

@@ -1,4 +1,4 @@
--- Where one stood it is counted no more.
+-- If the place had an item, the count falls by one.
 use Rattle.std.proofs.Common.{◌≤◌, Option, None, refl, sym, ap, arith, drop, ◌∙◌}
 use Rattle.std.specs.Prelude.{slice_set}
 use Rattle.g_table.specs.Table.{present}

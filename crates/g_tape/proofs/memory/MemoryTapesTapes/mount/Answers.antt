@@ -1,4 +1,4 @@
--- The reel that was found is changed where it stands.
+-- The reel that was found is changed at its place.
 use Rattle.std.proofs.Common.{true, refl}
 use Rattle.g_tape.specs.Rack.{refuses_mount}
 use Rattle.g_tape.specs.Memory.{rack_of}

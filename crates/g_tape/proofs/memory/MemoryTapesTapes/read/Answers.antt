@@ -1,4 +1,4 @@
--- The reel that was found is read where it stands.
+-- The reel that was found is read at its place.
 use Rattle.std.proofs.Common.{List, Some, subst, ap, ◌∙◌}
 use Rattle.g_tape.specs.Reel.{Reel}
 use Rattle.g_tape.specs.Rack.{refuses_read}

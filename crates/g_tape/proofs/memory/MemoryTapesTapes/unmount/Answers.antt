@@ -1,4 +1,4 @@
--- The reel that was found is changed where it stands.
+-- The reel that was found is changed at its place.
 use Rattle.std.proofs.Common.{List, Some, false, ap, subst, ◌∙◌}
 use Rattle.g_tape.specs.Reel.{Reel}
 use Rattle.g_tape.specs.Rack.{refuses_unmount}

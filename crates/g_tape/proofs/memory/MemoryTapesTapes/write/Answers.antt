@@ -1,4 +1,4 @@
--- The reel that was found is written, or torn, where it stands.
+-- The reel that was found is written, or torn, at its place.
 use Rattle.std.proofs.Common.{◌≡◌, List, Some, true, subst, ap, ◌∙◌}
 use Rattle.g_base.proofs.FuseLemmas.{fused_failed, fused_well}
 use Rattle.g_tape.specs.Reel.{Reel}

@@ -1,4 +1,4 @@
--- Where the store wasn't asked each user has an account.
+-- If the store wasn't used each user has an account.
 use Rattle.std.proofs.Common.{◌∙◌, sym}
 use Rattle.g_ticks.proofs.WatchedLemmas.{opens_none}
 use Rattle.g_ticks.proofs.day_up.DayUp.open_accounts.Goals as goal

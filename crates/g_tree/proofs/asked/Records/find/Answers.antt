@@ -1,4 +1,4 @@
--- A file is there where its name has a number.
+-- A file exists if its name has a number.
 use Rattle.g_tree.specs.AskedRecords.{zeros}
 use Rattle.g_tree.proofs.asked.Records.find.Goals as goal
 

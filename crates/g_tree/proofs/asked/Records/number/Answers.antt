@@ -1,4 +1,4 @@
--- A file that is there has a number, by which it has its name.
+-- An existing file has a number, and the number gives its name.
 use Rattle.std.proofs.Common.{sym, ap, is_some, ◌∙◌, true≢false}
 use Rattle.g_tree.specs.AskedRecords.{zeros}
 use Rattle.g_tree.proofs.NamedLemmas.{name_found}

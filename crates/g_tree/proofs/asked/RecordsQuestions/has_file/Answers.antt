@@ -1,4 +1,4 @@
--- A file is there where it has a number.
+-- A file exists if it has a number.
 use Rattle.std.proofs.Common.{◌∙◌}
 use Rattle.g_tree.specs.AskedRecords.{zeros}
 use Rattle.g_tree.proofs.asked.RecordsQuestions.has_file.Goals as goal

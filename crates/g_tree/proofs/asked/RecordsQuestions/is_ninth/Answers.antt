@@ -1,4 +1,4 @@
--- The file and the user are there, and their numbers have their names.
+-- The file and the user exist, and their numbers give their names.
 use Rattle.std.proofs.Common.{◌≡◌, ℕ, ◌==◌, Bool, ◌&&◌, List, not, nat_le, is_none, IfSome, sym, ap, subst, ◌∙◌, true≢false}
 use Rattle.std.specs.FinMap.{FinMap, get, len}
 use Rattle.g_name.specs.Order.{text_cmp}

@@ -1,4 +1,4 @@
--- Both users are there, and their numbers have their names.
+-- Both users exist, and their numbers give their names.
 use Rattle.std.proofs.Common.{sym, ◌∙◌, true≢false}
 use Rattle.g_name.specs.Order.{same_text}
 use Rattle.g_plain.specs.PlainTree.{user_row}

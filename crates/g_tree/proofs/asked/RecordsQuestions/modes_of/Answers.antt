@@ -1,4 +1,4 @@
--- The file and the user are there, and their numbers have their names.
+-- The file and the user exist, and their numbers give their names.
 use Rattle.std.proofs.Common.{◌≡◌, IfSome, sym, ap, subst, ◌∙◌, true≢false}
 use Rattle.g_plain.specs.PlainTree.{file_row, modes_of}
 use Rattle.g_tree.specs.Records.{name_of, tree_of}

@@ -1,4 +1,4 @@
--- Without a generation it is one more than the newest, which isn't there.
+-- Without a generation it is one more than the newest, and doesn't exist.
 use Rattle.std.proofs.Common.{sym, ap, unwrap_or, ◌+◌, ◌∙◌}
 use Rattle.g_plain.specs.PlainTree.{named, newest}
 use Rattle.g_plain.specs.Grants.{file_named}

@@ -1,4 +1,4 @@
--- The second of two leaves the first; else the greatest that is left is looked for.
+-- Removing the second of two generations leaves the first; otherwise the greatest remaining one is searched for.
 use Rattle.std.proofs.Common.{◌≡◌, ◌+◌, Some, None, true, get_or, is_some, sym, ap, subst, ◌∙◌, arith, true≢false}
 use Rattle.std.specs.FinMap.{get}
 use Rattle.std.proofs.lemmas.List.{get_or_default}

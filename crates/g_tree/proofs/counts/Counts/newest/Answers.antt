@@ -1,4 +1,4 @@
--- The newest stands under the name of the first.
+-- The newest version is recorded under the name of generation 1.
 use Rattle.std.proofs.Common.{sym, ap, ◌∙◌}
 use Rattle.g_tree.specs.State.{newest_at, top_at}
 use Rattle.g_tree.proofs.EntryLemmas.{newest_under, top_under}

@@ -1,4 +1,4 @@
--- The newest stays where the file isn't it, and is the version before where that is there.
+-- The newest is unchanged if the file isn't it; otherwise it is the version before, if that exists.
 use Rattle.std.proofs.Common.{◌≡◌, ◌+◌, ◌-◌, get_or, sym, ap, ◌∙◌, arith}
 use Rattle.std.proofs.lemmas.List.{get_or_default}
 use Rattle.g_tree.specs.Answers.{newest_of}

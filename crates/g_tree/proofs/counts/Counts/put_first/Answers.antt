@@ -1,4 +1,4 @@
--- The name is put in with the generation 1, or with the newest of those that outlived the one before.
+-- The name is inserted with generation 1, or with the newest of those that outlived an earlier generation 1.
 use Rattle.std.proofs.Common.{◌≡◌, ◌≤◌, Some, None, max, sym, ap, subst, ◌∙◌, arith}
 use Rattle.std.specs.FinMap.{get, insert}
 use Rattle.g_tree.specs.Records.{full_of}

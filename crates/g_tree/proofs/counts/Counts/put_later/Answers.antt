@@ -1,4 +1,4 @@
--- The greatest generation is known under the name of the first, and then the name is put in.
+-- The greatest generation is recorded under the name of generation 1, and then the name is inserted.
 use Rattle.std.proofs.Common.{None, max, ap, subst, ◌∙◌, arith}
 use Rattle.std.specs.FinMap.{insert}
 use Rattle.g_tree.specs.Records.{full_of}

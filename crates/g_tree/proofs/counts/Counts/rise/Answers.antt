@@ -1,4 +1,4 @@
--- Where something is known of the first the newest is raised, and else it is this one.
+-- If the index has the name of generation 1, its newest version is raised; otherwise it is this one.
 use Rattle.std.proofs.Common.{sym, ap, ◌∙◌, arith}
 use Rattle.std.specs.FinMap.{insert}
 use Rattle.g_tree.specs.State.{newest_in, number_in, top_in}

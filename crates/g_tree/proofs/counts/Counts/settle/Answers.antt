@@ -1,4 +1,4 @@
--- An entry that says nothing any more goes; the others' numbers stay.
+-- An entry without any data is removed; the numbers of the others are unchanged.
 use Rattle.std.proofs.Common.{cond, sym, ap, ◌∙◌}
 use Rattle.g_plain.specs.PlainTree.{is_version_of}
 use Rattle.g_tree.specs.State.{newest_in, number_in, top_in}

@@ -1,4 +1,4 @@
--- Where others are left the name stays without a number.
+-- If other versions are left, the name remains without a number.
 use Rattle.std.proofs.Common.{ap, ◌∙◌}
 use Rattle.g_tree.specs.State.{newest_in, number_in, top_in}
 use Rattle.g_tree.proofs.EntryLemmas.{newest_closed, numbers_closed, top_closed}

@@ -1,4 +1,4 @@
--- The entry that is found is written back with 1 where there are two versions, in the room that it had.
+-- If there are two versions, the entry is written back in place with generation 1.
 use Rattle.std.proofs.Common.{◌≡◌, Some, None, sym, ap, ◌∙◌}
 use Rattle.std.specs.FinMap as map
 use Rattle.g_name.specs.Order.{full_cmp}

@@ -1,4 +1,4 @@
--- Where the name is found its entry is written back with the newer of the two, in the room that it had.
+-- If the name is found, its entry is written back in place with the newer of the two.
 use Rattle.std.proofs.Common.{◌≡◌, Some, None, is_some, ap, ◌∙◌}
 use Rattle.std.specs.FinMap as map
 use Rattle.g_name.specs.Order.{full_cmp}

@@ -1,4 +1,4 @@
--- An entry that is taken out makes the map without it.
+-- Removing an entry gives the map without it.
 use Rattle.std.proofs.Common.{◌∙◌, ap}
 use Rattle.std.specs.FinMap as map
 use Rattle.g_tree.proofs.IndexLemmas.{indexed_remove}

@@ -1,4 +1,4 @@
--- An entry that is put in makes the map with it inserted.
+-- Inserting an entry gives the map with it inserted.
 use Rattle.std.proofs.Common.{◌∙◌, ap}
 use Rattle.std.specs.FinMap as map
 use Rattle.g_plain.proofs.Maps.{made_insert}

@@ -1,4 +1,4 @@
--- The numbers of users stand for the same names, and there is one row more.
+-- The numbers of users represent the same names, and there is one more row.
 use Rattle.std.proofs.Common.{◌≡◌, [], ◌∷◌, ◌++◌, cond, not, sym, ap, subst, ◌∙◌}
 use Rattle.g_tree.specs.Records.{IsRecords, tree_of}
 use Rattle.g_tree.specs.State.{IsKept}

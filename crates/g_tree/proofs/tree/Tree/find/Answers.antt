@@ -1,4 +1,4 @@
--- A file is looked up by its full name; where there is no user of the number there is none.
+-- A file is looked up by its full name; if there is no user of the number, there is no file.
 use Rattle.std.proofs.Common.{sym, ap, is_some, ◌∙◌}
 use Rattle.g_plain.specs.PlainTree.{has_file, input_name}
 use Rattle.g_tree.specs.Records.{name_of, number_of, tree_of}

@@ -1,4 +1,4 @@
--- The user stands among those that are left, if anywhere.
+-- The user is among the remaining ones, if it exists.
 use Rattle.std.proofs.Common.{◌≡◌, drop}
 use Rattle.std.specs.FinMap.{find}
 use Rattle.g_name.specs.Order.{text_cmp}

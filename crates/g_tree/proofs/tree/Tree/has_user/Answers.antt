@@ -1,4 +1,4 @@
--- A user is there where a record has the name.
+-- A user exists if a record has the name.
 use Rattle.std.proofs.Common.{◌∙◌}
 use Rattle.g_tree.proofs.tree.Tree.has_user.Goals as goal
 

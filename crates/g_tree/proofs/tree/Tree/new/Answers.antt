@@ -1,4 +1,4 @@
--- The first two users make the tree of a new filestore, whichever comes first.
+-- The first two users represent the tree of a new filestore, in either order.
 use Rattle.std.proofs.Common.{◌≡◌, rules, []}
 use Rattle.g_tree.specs.State.{first_users}
 use Rattle.g_tree.proofs.FirstLemmas.{first_made}

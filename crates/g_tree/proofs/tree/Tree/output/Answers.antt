@@ -1,4 +1,4 @@
--- The generation is the given one, or the one behind the newest.
+-- The generation is the given one, or the one after the newest.
 use Rattle.std.proofs.Common.{sym, ap, ◌∙◌}
 use Rattle.g_tree.proofs.AnswerLemmas.{nobodys_output, output_given, output_past, output_next, newest_there}
 use Rattle.g_tree.proofs.tree.Tree.output.Goals as goal

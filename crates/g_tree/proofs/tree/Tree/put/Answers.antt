@@ -15,11 +15,11 @@ use Rattle.g_tree.proofs.LawLemmas.{tree_put}
 use Rattle.g_tree.proofs.CountLemmas.{new_newest, new_used, used_few, owner_few}
 use Rattle.g_tree.proofs.tree.Tree.put.Goals as goal
 
--- a name whose number is new is no file's
+-- A name whose number is new belongs to no file.
 unnamed : (users : List UserRec) (files : List FileRec) (file : FileRec) → IsRecords users files → is_some (rec_at files file.number) ≡ false → number_of users files (full_of users file) ≡ Some file.number → ⊥
 unnamed users files file is none e = let (place, fits) = fits_at files is.numbers file.number none in named_fits users files is file.number (full_of users file) place e fits
 
--- where no file has the number there is room
+-- If no file has the number, memory is reserved.
 room_there : (users : List UserRec) (files : List FileRec) (file : FileRec) (spare : ℕ) → IsRecords users files → is_some (rec_at files file.number) ≡ false
     → (1 ≤ spare) ⊎ (number_of users files (full_of users file) ≡ Some file.number) → 1 ≤ spare
 room_there users files file spare is none room = still_room users files (full_of users file) file.number spare room (unnamed users files file is none)

@@ -1,4 +1,4 @@
--- The one file goes with its name, its version and its blocks, and the other comes with its own.
+-- The old file is removed with its name, its version and its blocks, and the new one is added with its own.
 use Rattle.std.proofs.Common.{◌≡◌, ◌≤◌, ◌<◌, ◌-◌, Some, is_some, max, get_or, length, refl, sym, ap, subst, ◌∙◌, arith, true≢false}
 use Rattle.std.proofs.Math.ListN.{set}
 use Rattle.std.proofs.lemmas.List.{length-set}

@@ -1,4 +1,4 @@
--- The blocks of the one file go, and those of the other come.
+-- The blocks of the old file are subtracted, and those of the new one added.
 use Rattle.std.proofs.Common.{◌≡◌, Some, is_some, length, sym, ap, subst, ◌∙◌, arith, true≢false}
 use Rattle.std.proofs.Math.ListN.{set}
 use Rattle.std.proofs.lemmas.List.{length-set}

@@ -1,4 +1,4 @@
--- What is remembered is the sum over the records, and so that over the tree's entries.
+-- The stored count is the sum over the records, and so that over the tree's entries.
 use Rattle.std.proofs.Common.{◌≤◌, sym, ap, subst, ◌∙◌}
 use Rattle.g_tree.specs.Records.{IsRecords}
 use Rattle.g_tree.specs.State.{used_of}

@@ -13,7 +13,7 @@ returns-in-Appended-clause-err g c =
     append_asked g.S.Filestore.answers c.args.asker.now.who.now c.args.store.now c.ask_any.new.store c.args.asker.now.room c.args.path c.args.bytes c.args.self.now c.in-Ok.reply c.in-Appended.full
     c.say_handed.result c.in-Appended.is c.in-Ok.ensures.answers
 
--- the fault isn't want of memory
+-- the fault isn't out of memory
 memory : (g : given.Over) (c : In-Err g) → is_memory c.in-Err.fault ≡ false
 memory g c = search rules
 

@@ -1,4 +1,4 @@
--- What the rest of the orders gives is what all give, and nothing was handed over.
+-- The rest of the orders returns what all of them return, and no blocks were transferred.
 use Rattle.std.proofs.Common.{◌≡◌, ◌-◌}
 use Rattle.g_turn.specs.Runs.{goes_on}
 use Rattle.g_turn.proofs.work.Work.go_on.Given as goal

@@ -13,7 +13,7 @@ returns-in-Made-clause-err g c =
     put_asked g.S.Filestore.answers c.args.asker.now.who.now c.args.store.now c.ask_any.new.store c.args.asker.now.room c.args.comes_well c.args.file.0 c.args.file.1 c.args.self.now c.in-Ok.reply c.in-Made.full
     c.say_handed.result c.in-Made.is c.in-Ok.ensures.answers
 
--- the fault isn't want of memory
+-- the fault isn't out of memory
 memory : (g : given.Over) (c : In-Err g) → is_memory c.in-Err.fault ≡ false
 memory g c = search rules
 

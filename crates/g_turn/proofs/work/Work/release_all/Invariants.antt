@@ -1,4 +1,4 @@
--- What the places to come give is what all give.
+-- The remaining places return what all of them return.
 use Rattle.std.proofs.Common.{◌≡◌, ℕ, ◌+◌, ◌*◌, ◌≤◌, false, drop, length}
 use Rattle.g_turn.specs.Releases.{release_all, release_each}
 use Rattle.g_turn.specs.Outcomes.{is_over}

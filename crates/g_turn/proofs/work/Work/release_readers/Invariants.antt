@@ -1,4 +1,4 @@
--- The first readers are emptied, and the others are as they were.
+-- The first readers are empty, and the others are unchanged.
 use Rattle.std.proofs.Common.{◌≡◌, ◌<◌, length}
 use Rattle.g_turn.proofs.UnitsLemmas.{emptied}
 use Rattle.g_turn.proofs.work.Work.release_readers.Given as goal

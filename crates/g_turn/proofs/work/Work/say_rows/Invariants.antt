@@ -1,4 +1,4 @@
--- What the rest of the files gives is what all give.
+-- The rest of the files returns what all of them return.
 use Rattle.std.proofs.Common.{◌≡◌, drop}
 use Rattle.std.specs.Prelude.{map}
 use Rattle.g_turn.specs.Outcomes.{say_all}

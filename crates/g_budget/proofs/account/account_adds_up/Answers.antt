@@ -1,6 +1,0 @@
--- A new account is balanced, and each posting keeps it so.
-use Rattle.g_budget.proofs.Balances.{AddsUp-posted}
-use Rattle.g_budget.proofs.account.account_adds_up.Goals as goal
-
-pub returns : goal.returns
-returns c = AddsUp-posted

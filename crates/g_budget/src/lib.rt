@@ -1,9 +1,0 @@
-//! Budgets: what a job's turn costs by the tariff that was handed in, and the accounts of TIME and of
-//! MONEY that pay for it.
-#![tactic(auto)]
-
-mod account;
-mod tariff;
-
-pub use account::{Account, NoMoney, NoTime, Refusal, account_adds_up};
-pub use tariff::{Charge, MAX_BLOCKS, MAX_ORDERS, Tariff, Usage};

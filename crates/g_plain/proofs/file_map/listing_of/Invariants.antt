@@ -1,7 +1,0 @@
--- The files so far, and behind them those that are left.
-use Rattle.std.proofs.Common.{◌≡◌, ◌++◌}
-use Rattle.g_plain.specs.PlainTree.{lengths}
-use Rattle.g_plain.proofs.file_map.listing_of.Given as goal
-
-abbrev pub invariant-loop-full : goal.invariant-loop-full
-invariant-loop-full l = l.listing ++ lengths l.user l.full-iterator ≡ lengths l.user l.rows.entries

@@ -1,7 +1,0 @@
--- The greatest generation so far, taken on over the files that are left.
-use Rattle.std.proofs.Common.{◌≡◌, fold, max}
-use Rattle.g_plain.specs.PlainTree.{generations}
-use Rattle.g_plain.proofs.file_map.newest_in.Given as goal
-
-abbrev pub invariant-loop-full : goal.invariant-loop-full
-invariant-loop-full l = fold max l.newest (generations l.name l.full-iterator) ≡ fold max 0 (generations l.name l.rows.entries)
