@@ -96,6 +96,12 @@ file_more users online files i r begun text next disc dmid dnew old mid new with
           ∙ ap (λ (xs : List ℕ). begun ++ xs) (sym (line_more (rec_line blocks (told_reels old) users online) files i r within at));
     }
 
+pub file_next : {P Q : Type 0} (users : List UserRec) (online : List (ℕ × DiscCopy)) (files slice : List FileRec) (i : ℕ) (r : FileRec) (begun text next : List ℕ) (disc dmid dnew : DiscState) (old mid new : Rack)
+    → slice ≡ files → i < length slice → r ≡ get_or slice i r → FileLines users online files i begun text disc dmid old mid → (P → ⊥) → (Q → ⊥) → ReadsByCause P dmid dnew → ReadsRackByCause Q mid new
+    → (ReelsTold (told_reels mid) → ForSome dmid.held (λ blocks. next ≡ text ++ ended (rec_line blocks (told_reels mid) users online r))) → FileLines users online files (i + 1) begun next disc dnew old new
+file_next users online files slice i r begun text next disc dmid dnew old mid new same inside is =
+    file_more users online files i r begun text next disc dmid dnew old mid new (subst (λ (xs : List FileRec). i < length xs) same inside) (subst (λ (xs : List FileRec). r ≡ get_or xs i r) same is)
+
 pub all_files_there : (users : List UserRec) (online : List (ℕ × DiscCopy)) (files slice : List FileRec) (i : ℕ) (begun text : List ℕ) (disc dnow : DiscState) (old now : Rack) → slice ≡ files → length slice ≤ i
     → FileLines users online files i begun text disc dnow old now → ReelsTold (told_reels old) → ForSome disc.held (λ blocks. text ≡ begun ++ text_of (map (rec_line blocks (told_reels old) users online) files))
 all_files_there users online files slice i begun text disc dnow old now same all so told blocks is =
