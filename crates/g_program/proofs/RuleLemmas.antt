@@ -1,4 +1,4 @@
--- A run by rules that answer as others may is a run by those: a run asks them, and looks at nothing else of them.
+-- A run by rules whose answers are also answers of other rules is a run by those: a run depends only on the answers.
 -- serves: run_by_rules (anew, demo, ends)
 use Rattle.std.proofs.Common.{◌≡◌, ℕ, List, [], ◌∷◌, Option, Some, None, inl, inr}
 use Rattle.std.specs.Fn.{Shared, FnReturnsAt}
@@ -92,7 +92,7 @@ module _ {F G U V : Type 0}
   ends_by Words left old new before after it = it
   ends_by ScriptFault left old new before after it = it
 
-  -- to begin anew
+  -- starting over
   anew_by : (status : Status) (left : List ℕ) (old new : Devices) (before after : Option (List ℕ))
       → EndsAnew tariffs tariff rules rule status left old new before after → EndsAnew others other ways way status left old new before after
   anew_by status left old new before after (inl took) = inl (record { ends = ends_by status left (with_new_disc old) new before after took.ends; together = took.together })

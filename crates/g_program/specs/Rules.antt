@@ -14,7 +14,7 @@ price usage = record { units = 1 + usage.orders / 64 + usage.blocks / 64; money 
 abbrev pub share_used : Standing → ℕ
 share_used standing = standing.used * 1000000 / standing.allowance
 
--- the rule that may be asked of everything, and answers as f does and in no other way
+-- the rule that accepts every argument, and whose only answer is that of f
 abbrev pub answering : {T R : Type 0} → (T → R) → Shared (Unit {0}) (Bor T × Unit {0}) R
 answering f = record {
   pre = λ rule asked. Unit {0};

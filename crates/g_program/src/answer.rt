@@ -21,7 +21,7 @@ use g_tape::{MemoryTapes, Tapes};
 use std::alloc::Global;
 use std::io::{self, ErrorKind};
 
-/// The exit status where the image or the rack can't be used.
+/// The exit status if the image or the rack can't be used.
 const NO_IMAGE: u8 = 7;
 
 /// The disc's image, in the present folder.
@@ -33,10 +33,10 @@ pub(crate) const RACK: &str = "george.tapes";
 /// The folder of each reel's second image, where that is kept.
 pub(crate) const SECOND_RACK: &str = "george.tapes2";
 
-/// The blocks of a disc on which nothing is looked for: no disc has fewer.
+/// The blocks of a disc that is never read; no disc may have fewer.
 const LEAST_BLOCKS: u32 = 2_178;
 
-/// Does what the words ask for, and gives the exit status. The words are looked at before anything is opened or made.
+/// Does what the words request, and returns the exit status. It reads the words before it opens or creates anything.
 pub(crate) fn answer(rt: &HostRuntime, words: &[&str]) -> u8
     ensures unknown { AskNothing (texts_of words.now) → IsExit IsOfWords result }
     ensures known { IsRun words.now → (result ≡ 7) ⊎ IsExit IsOfRun result }
@@ -48,7 +48,7 @@ pub(crate) fn answer(rt: &HostRuntime, words: &[&str]) -> u8
     }
 }
 
-/// Runs on image and rack. 7 where they can't be used, which is told, and 5 where memory is wanting before the run.
+/// Runs on image and rack. The exit status is 7 if they can't be used, which standard error explains, and 5 if memory runs out before the run.
 fn on_files(rt: &HostRuntime, words: &[&str]) -> u8
     ensures known { IsRun words.now → (result ≡ 7) ⊎ IsExit IsOfRun result }
 {
@@ -62,8 +62,8 @@ fn on_files(rt: &HostRuntime, words: &[&str]) -> u8
     }
 }
 
-/// Opens the image, and then the rack, for this run alone, and runs on them; each is made where it isn't there. Where anything
-/// has the second rack's name, that is opened too, and both are one rack.
+/// Opens the image, and then the rack, exclusively for this run, and runs on them; it creates each if it is missing. If anything
+/// has the second rack's name, it opens that too, and both are one rack.
 fn run_on_files(rt: &HostRuntime, words: &[&str]) -> Result<u8, PairFault>
     ensures known { IfOk result (λ code. IsRun words.now → IsExit IsOfRun code) }
 {
@@ -77,7 +77,7 @@ fn run_on_files(rt: &HostRuntime, words: &[&str]) -> Result<u8, PairFault>
     Ok(closed(run(rt, words, disc, tapes)))
 }
 
-/// Brings image and rack to the device, and gives the exit status of the run.
+/// Syncs image and rack, and returns the exit status of the run.
 fn closed(finish: Finish<FileDisc<HostFile>, FileTapes>) -> u8
     ensures { result ≡ code_of finish.status }
 {
@@ -87,7 +87,7 @@ fn closed(finish: Finish<FileDisc<HostFile>, FileTapes>) -> u8
     finish.status.code()
 }
 
-/// Brings image and both racks to the device, tells which reels were lost in the run, and gives its exit status.
+/// Syncs image and both racks, reports which reels were lost in the run, and returns its exit status.
 fn closed_pair(rt: &HostRuntime, finish: Finish<FileDisc<HostFile>, Duplex<FileTapes>>) -> u8
     ensures { result ≡ code_of finish.status }
 {
@@ -101,7 +101,7 @@ fn closed_pair(rt: &HostRuntime, finish: Finish<FileDisc<HostFile>, Duplex<FileT
     code
 }
 
-/// Does what needs no image and no rack, over devices in memory in their place.
+/// Does what needs neither image nor rack, on devices in memory instead.
 fn without_files(rt: &HostRuntime, words: &[&str]) -> u8
     ensures unknown { AskNothing (texts_of words.now) → IsExit IsOfWords result }
 {

@@ -15,11 +15,10 @@ use std::process::ExitCode;
 /// Does what the words of the command line ask for. The word `run` runs the script of standard input on the image
 /// `george.disc` and the rack `george.tapes` of the present folder, with the text to standard output; with all other words
 /// no file is opened or made. Where `george.tapes2` is there too, each reel is kept in both folders (docs/MANUAL.md, "A second
-/// rack"), and one line on standard error tells of each reel that was rebuilt before the run, and of each that was lost in it.
+/// rack"), and standard error has one line for each reel that was rebuilt before the run, and for each that was lost in it.
 ///
-/// The exit status is the run's; 7 where the image or the rack can't be opened, is another run's or keeps no disc's or
-/// rack's limits (docs/MANUAL.md, "Exit status"); 5 where memory is wanting before the run. With the last two nothing
-/// is printed.
+/// The exit status is the run's; 7 if the image or the rack can't be opened, is in use by another run or isn't within the limits
+/// of a disc or rack (docs/MANUAL.md, "Exit status"); 5 if memory runs out before the run. With the last two nothing is printed.
 pub fn run_program(rt: &HostRuntime) -> ExitCode {
     let Ok(words) = words_of(rt) else {
         return ExitCode::from(Status::NoMemory.code());

@@ -1,4 +1,4 @@
-//! The rules of this program: what a turn of a job costs, and which job goes next; and a run by them.
+//! The rules of this program: what a turn of a job costs, and which job takes the next turn; and a run by them.
 ghost use Rattle.std.specs.Prelude.{◌≡◌, ◌<◌, ◌≤◌, ◌^◌, ℕ, List, [], Option, Some, drop, length};
 ghost use Rattle.g_base.specs.Counts.{Rose};
 ghost use Rattle.g_day.specs.System.{BelongTogether, DumpsGrow, SameDevices};
@@ -46,7 +46,7 @@ fn weight_of(standing: &Standing) -> u64
     standing.used * 1_000_000 / standing.allowance
 }
 
-/// Runs the script by the rules of this program, on any disc and rack; both are handed back with every status
+/// Runs the script by the rules of this program, on any disc and rack; both are returned with every status
 /// (docs/MANUAL.md, "Exit status").
 pub fn run_by_rules<S: Source, K: Sink, D: Disc, T: Tapes>(
     alloc: Global,
@@ -58,7 +58,7 @@ pub fn run_by_rules<S: Source, K: Sink, D: Disc, T: Tapes>(
 ) -> Finish<D, T>
     requires size { (2177 < (D.state disc).size) × ((D.state disc).size ≤ 1048576) }
 
-    // Which statuses come with which words, and when a script is too long.
+    // The statuses that each kind of words allows, and when a script is too long.
     ensures unknown { AskNothing (texts_of words.now) → top.IsOfWords result.status }
     ensures known { IsRun words.now → top.IsOfRun result.status }
     ensures long { (left : List ℕ) → S.left script.old ≡ Some left → IsRun words.now → 16777216 < length left → top.IsNotDone result.status }
@@ -80,8 +80,8 @@ pub fn run_by_rules<S: Source, K: Sink, D: Disc, T: Tapes>(
     ensures ends { IsRun words.now → (left : List ℕ) → S.left script.old ≡ Some left →
         top.EndsAs (answering price) tt (answering share_used) tt result.status left (both (D.state disc) (T.rack tapes)) (both (D.state result.disc) (T.rack result.tapes))
         (K.written out.old) (K.written out.new) }
-    // To begin anew, over a disc that may name copies which no reel has, so that disc and rack don't belong together: with every status the run
-    // is one from the state of a new disc beside the same reels. Where a FORMAT took, they belong together at its end.
+    // Starting over, on a disc that may name copies which no reel has, so that disc and rack don't belong together: with every status the run
+    // is one from the state of a new disc with the same reels. If a FORMAT took effect, they belong together at its end.
     ensures anew { IsRun words.now → (left : List ℕ) → S.left script.old ≡ Some left → top.BeginsAnew left (both (D.state disc) (T.rack tapes))
         → top.EndsAnew (answering price) tt (answering share_used) tt result.status left (both (D.state disc) (T.rack tapes)) (both (D.state result.disc) (T.rack result.tapes))
         (K.written out.old) (K.written out.new) }
@@ -89,20 +89,20 @@ pub fn run_by_rules<S: Source, K: Sink, D: Disc, T: Tapes>(
         → IsCutWords (both (D.state disc) (T.rack tapes)) (both (D.state result.disc) (T.rack result.tapes)) (K.written out.old) (K.written out.new) }
     ensures enough { AskNothing (texts_of words.now) → top.IsForMemory result.status → ⊥ }
 
-    // A demonstration: the devices that were handed in come back unchanged, and the summary of its text is put.
+    // A demonstration: the devices that were passed in are returned unchanged, and the summary of its text is printed.
     ensures demo { (demo : Demonstration) → IsDemonstration demo → texts_of words.now ≡ demo_words demo
         → (both (D.state result.disc) (T.rack result.tapes) ≡ both (D.state disc) (T.rack tapes))
         × top.EndsDemo (answering price) tt (answering share_used) tt result.status demo (K.written out.old) (K.written out.new) }
 
-    // With every status, of all devices, whether they tell or not: what armed them, what their fuses are, and that they are the same.
+    // With every status, for all devices, whether or not they expose their contents: what armed them, what their fuses are, and that they are the same.
     ensures arms { IsRun words.now → (left : List ℕ) → S.left script.old ≡ Some left → (lines : List Timed) (bad : Option ℕ) → IsParsed (lines_of left) lines bad →
         AreArmings lines (top.IsThrough result.status) (both (D.state disc) (T.rack tapes)) (both (D.state result.disc) (T.rack result.tapes)) }
     ensures fuses { AreFused (both (D.state result.disc) (T.rack result.tapes)) }
     ensures same { SameDevices (both (D.state disc) (T.rack tapes)) (both (D.state result.disc) (T.rack result.tapes)) }
 
-    // With every status, of devices that tell and belong together: they go on doing so, and a disc that holds a filestore goes on to
-    // hold one. Each dump that was completed stays so, whole and in its place, or its whole reel was released, and a newer one stands
-    // that has the directory of each of its users; where no line of the script is a PROCESS, all stay.
+    // With every status, if the devices expose their contents and belong together: they still do afterwards, and a disc that holds a filestore still
+    // holds one. Each completed dump is still complete, whole and in its place; or its whole reel was released, and there is a newer dump
+    // that has the directory of each of its users. If no line of the script is a PROCESS, all stay.
     ensures belongs { BelongTogether (both (D.state disc) (T.rack tapes)) → BelongTogether (both (D.state result.disc) (T.rack result.tapes)) }
     ensures dumps { BelongTogether (both (D.state disc) (T.rack tapes)) → DumpsMove (T.rack tapes) (T.rack result.tapes) }
     ensures stay { BelongTogether (both (D.state disc) (T.rack tapes)) → (left : List ℕ) → S.left script.old ≡ Some left → (lines : List Timed) (bad : Option ℕ) → IsParsed (lines_of left) lines bad

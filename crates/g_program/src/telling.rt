@@ -1,12 +1,12 @@
-//! What is told on standard error, of the reels of two racks and of image and rack that can't be used: the text of a run is alone
-//! on standard output. What can't be told there is dropped.
+//! Messages on standard error, about the reels of two racks and about an image or a rack that can't be used: standard output has only
+//! the text of a run. A message that can't be printed is dropped.
 
 use crate::answer::{RACK, SECOND_RACK};
 use g_devices::PairFault;
 use g_duplex::Twin;
 use std::io::ErrorKind;
 
-/// Tells which reels were made again from the other rack's before the run.
+/// Reports which reels were rebuilt from the other rack's before the run.
 pub(crate) fn tell_rebuilt(rt: &HostRuntime, rebuilt: &[(u32, Twin)]) {
     for entry in rebuilt {
         let serial = entry.0;
@@ -15,7 +15,7 @@ pub(crate) fn tell_rebuilt(rt: &HostRuntime, rebuilt: &[(u32, Twin)]) {
     }
 }
 
-/// Tells which reels were lost in the run: what was written behind that is on the other rack alone.
+/// Reports which reels were lost in the run: later writes are only on the other rack.
 pub(crate) fn tell_lost(rt: &HostRuntime, lost: &[(u32, Twin)]) {
     for entry in lost {
         let serial = entry.0;

@@ -1,4 +1,4 @@
--- TO BEGIN ANEW: lines one behind the other over devices to begin anew with, the first of which beside MOUNT, UNMOUNT and STOP is a FORMAT.
+-- STARTING OVER: lines in sequence on blank devices. Apart from MOUNT, UNMOUNT and STOP, the first of them is a FORMAT.
 -- serves: LineLemmas, OverLemmas
 use Rattle.std.proofs.Common.{◌≡◌, ◌⊎◌, ◌≤◌, ◌++◌, ℕ, true, List, [], ◌∷◌, Some, None, All, refl, sym, ◌∙◌, ap, subst, inl, inr}
 use Rattle.std.proofs.lemmas.List.Elements.{All-cons, All-head, All-nil, All-pop, All-tail, All-weaker}
@@ -79,7 +79,7 @@ one_more_line done next begin = by (split done begin.front begin.rest next begin
     )
     by (inr (more, same)) = inr (record { front = begin.front; format = begin.format; rest = more; are = same; aside = begin.aside; formats = begin.formats })
 
--- the one line of a list that begins anew is a FORMAT
+-- if a list of one line starts over, that line is a FORMAT
 pub is_format : (next : Timed) → BeginAnew (next ∷ []) → next.what ≡ line.Format
 is_format next begin = by (split [] begin.front begin.rest next begin.format begin.are)
   where
@@ -121,7 +121,7 @@ first_one next is = All-cons (λ (t : Timed). is_first t.what ≡ true) next [] 
 pub first_head : (next : Timed) → AreFirst (next ∷ []) → is_first next.what ≡ true
 first_head next all = All-head (λ (t : Timed). is_first t.what ≡ true) next [] all
 
--- WHAT IS AT HAND over devices to begin anew with
+-- THE STATE OF A RUN on blank devices
 pub blank_devices : (f : SystemFacts) → IsBlank f → AreBlank (devices_in f)
 blank_devices (Up s) blank = absurd blank
 blank_devices (Down d) blank = blank

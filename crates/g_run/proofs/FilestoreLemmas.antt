@@ -1,4 +1,4 @@
--- A disc that holds a filestore holds one behind the run, whatever cut it short.
+-- A disc that holds a filestore still holds one after the run, even if it was cut short.
 -- serves: george (stands)
 use Rattle.std.proofs.Common.{◌≡◌, ℕ, false, List, Option, Some, None, ap}
 use Rattle.std.specs.Fn.{Shared}
@@ -18,8 +18,8 @@ use Rattle.g_day.specs.System.{BelongTogether}
 use Rattle.g_day.specs.declared.progress.Failure.{Failure}
 use Rattle.g_run.specs.Top.{EndsBy}
 
--- the state of such devices
-state_there : (d : Devices) → BelongTogether d → HasFilestore d → (s : State) × StandFor d s
+-- the state that such devices represent
+pub state_there : (d : Devices) → BelongTogether d → HasFilestore d → (s : State) × StandFor d s
 state_there d both has =
     let (s, reads) = have_states.devices d.disc.size d.disc.held (told_reels d.rack) (Some has.contents)
     (record { are = (has.blocks, has.held, has.holds); none = λ no. absurd (let never : ⊥ = cc in never) }) both.belong in

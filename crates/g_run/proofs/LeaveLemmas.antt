@@ -1,5 +1,5 @@
 -- What a line leaves of the world but for what it does: it is taken between two ticks, and stays there.
--- serves: LineLemmas
+-- serves: LineLemmas, NextLemmas
 use Rattle.std.proofs.Common.{◌≡◌, ◌+◌, ◌++◌, ℕ, Bool, true, false, List, [], Option, Some, None, append-nil, refl, sym, ◌∙◌, ap, subst, arith}
 use Rattle.std.specs.Prelude.{not, MatchBool, Result, Ok, Err, codes, if◌then◌else◌}
 use Rattle.std.specs.Fmt.{decimal}

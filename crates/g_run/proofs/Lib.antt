@@ -6,6 +6,7 @@ pub mod LawLemmas
 pub mod LeaveLemmas
 pub mod LineLemmas
 pub mod LittleLemmas
+pub mod NextLemmas
 pub mod OverLemmas
 pub mod ReadingLemmas
 pub mod TopLemmas

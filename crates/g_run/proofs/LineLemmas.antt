@@ -1,5 +1,5 @@
--- A line behind the ticks that come before it, and lines one behind the other.
--- serves: do_lines, next_line, run_lines
+-- A line after the ticks that precede it, and lines in sequence.
+-- serves: do_lines, next_line, run_lines, NextLemmas
 use Rattle.std.proofs.Common.{◌≡◌, ◌⊎◌, ◌≤◌, ◌++◌, ℕ, Bool, true, false, List, [], ◌∷◌, Option, Some, None, is_some, append_assoc, append-nil, refl, sym, ◌∙◌, subst, inl, inr, arith}
 use Rattle.std.proofs.lemmas.Option.{none-some}
 use Rattle.std.proofs.lemmas.List.Elements.{All-cons, All-head, All-nil, All-pop}
@@ -60,7 +60,7 @@ line_keeps next old failure new before after faults faults' did still = record {
   cause = did.cause;
 }
 
--- THE COUNT behind a line: its ticks leave it, or come to its turn at most
+-- THE COUNT after a line: its ticks leave it unchanged, or raise it at most to the line's turn
 late_by : (turn most old mid new : ℕ) → turn ≤ most → old ≤ most → new ≡ mid → (mid ≤ turn) ⊎ (mid ≡ old) → new ≤ most
 late_by turn most old mid new due few same (inl early) = omega (arith, due, same, early)
 late_by turn most old mid new due few same (inr is) = omega (arith, few, same, is)
@@ -69,11 +69,11 @@ due_parts : (most : ℕ) (done : List Timed) (next : Timed) → AreDueBy most (d
 due_parts most done next due = All-pop (λ (t : Timed). t.turn ≤ most) (done ++ next ∷ []) done (Some next) refl due
 
 module _ {F U : Type 0} (tariffs : Shared F (Bor Usage × Unit {0}) Charge) (tariff : F) (rules : Shared U (Bor Standing × Unit {0}) ℕ) (rule : U) where
-  -- the world in front of the line's step
-  abbrev without : List Timed → World → World
+  -- the world before the line's step
+  abbrev pub without : List Timed → World → World
   without rest w = record w { lines = rest }
 
-  matches_without : (w : World) (rest : List Timed) (s : Seen) → Matches w s → Matches (without rest w) s
+  pub matches_without : (w : World) (rest : List Timed) (s : Seen) → Matches w s → Matches (without rest w) s
   matches_without w rest s m = record {
     stands = m.stands;
     crew = record { jobs = m.crew.jobs; accounts = m.crew.accounts; next_job = m.crew.next_job };
@@ -81,7 +81,7 @@ module _ {F U : Type 0} (tariffs : Shared F (Bor Usage × Unit {0}) Charge) (tar
   }
 
   -- the line is a move
-  line_leads : (w : World) (next : Timed) (rest : List Timed) → IsBetween w → IsAtRest w → w.lines ≡ next ∷ rest → (old new : SystemFacts) (added : List ℕ) (d : DoesLine next.what (without rest w) old new added)
+  pub line_leads : (w : World) (next : Timed) (rest : List Timed) → IsBetween w → IsAtRest w → w.lines ≡ next ∷ rest → (old new : SystemFacts) (added : List ℕ) (d : DoesLine next.what (without rest w) old new added)
       → Leads tariffs tariff rules rule w old new (TakeLine (is_process next.what) d.outcome ∷ []) d.next added
   line_leads w next rest between due is old new added d =
       let left = line_leaves d.outcome next.what (without rest w) d.next d.gives in record {
@@ -142,7 +142,7 @@ module _ {F U : Type 0} (tariffs : Shared F (Bor Usage × Unit {0}) Charge) (tar
         put = part;
       }
 
-  -- behind its ticks
+  -- after its ticks
   behind_ticks : (next : Timed) (old mid : Seen) (failure : Option Failure) (new : Seen) (before middle after : Option (List ℕ))
       → ((lines : List Timed) → turn_of lines ≡ Some next.turn → PartGoes tariffs tariff rules rule IsAtRest lines lines old None mid before middle) → LineGoes next.what mid failure new middle after
       → (rest : List Timed) → PartGoes tariffs tariff rules rule Anything ((next ∷ []) ++ rest) rest old failure new before after
@@ -150,7 +150,7 @@ module _ {F U : Type 0} (tariffs : Shared F (Bor Usage × Unit {0}) Charge) (tar
       let a = went (next ∷ rest) refl w m between is in
       goes_then tariffs tariff rules rule IsAtRest Anything w (next ∷ rest) rest old mid before middle a failure new after (line_goes next rest mid failure new middle after goes a.next a.matches a.between a.rests a.lines)
 
-  -- to begin anew: a FORMAT, or a line that asks the filestore for nothing
+  -- starting over: a FORMAT, or a line that requests nothing of the filestore
   first_done : (next : Timed) (old mid : Seen) (failure : Option Failure) (new : Seen) (before middle after : Option (List ℕ)) (faults1 faults2 : ℕ) → SameDevices (devices_in old.system) (devices_in mid.system)
       → ((lines : List Timed) → turn_of lines ≡ Some next.turn → PartGoes tariffs tariff rules rule IsAtRest lines lines (beside old) None (beside mid) before middle)
       → IsUntaken next.what mid failure new middle after faults1 faults2 ⊎ DidLine next.what (beside mid) failure new middle after faults1 faults2
@@ -163,7 +163,7 @@ module _ {F U : Type 0} (tariffs : Shared F (Bor Usage × Unit {0}) Charge) (tar
   first_done next old mid failure new before middle after faults1 faults2 same went (inr took) =
       inr (behind_ticks next (beside old) (beside mid) failure new before middle after went took.goes)
 
-  -- A LINE behind its ticks
+  -- A LINE after its ticks
   pub line_done : (next : Timed) (old mid : Seen) (failure : Option Failure) (new : Seen) (before middle after : Option (List ℕ)) (faults faults1 faults2 : ℕ)
       → DidTicks tariffs tariff rules rule IsAtRest (Some next.turn) old None mid before middle faults faults1 → new.count ≡ mid.count → DidLine next.what mid failure new middle after faults1 faults2
       → AnewLine next.what mid failure new middle after faults1 faults2
@@ -237,7 +237,7 @@ module _ {F U : Type 0} (tariffs : Shared F (Bor Usage × Unit {0}) Charge) (tar
     text = grown_then (with_more before missed.added) middle after missed.text more;
   }
 
-  -- two parts, one behind the other
+  -- two parts in sequence
   both_go : (done : List Timed) (next : Timed) (s mid : Seen) (failure : Option Failure) (new : Seen) (before middle after : Option (List ℕ))
       → ((rest : List Timed) → PartGoes tariffs tariff rules rule Anything (done ++ rest) rest s None mid before middle)
       → ((rest : List Timed) → PartGoes tariffs tariff rules rule Anything ((next ∷ []) ++ rest) rest mid failure new middle after)
@@ -246,7 +246,7 @@ module _ {F U : Type 0} (tariffs : Shared F (Bor Usage × Unit {0}) Charge) (tar
       let a = first (next ∷ rest) w m between (is ∙ append_assoc done (next ∷ []) rest) in
       goes_then tariffs tariff rules rule Anything Anything w (next ∷ rest) rest s mid before middle a failure new after (one rest a.next a.matches a.between a.lines)
 
-  -- to begin anew
+  -- starting over
   module _ (done : List Timed) (next : Timed) (s mid : Seen) (failure : Option Failure) (new : Seen) (before middle after : Option (List ℕ))
       (here : SameDevices (devices_in s.system) (devices_in mid.system)) (behind : SameDevices (devices_in mid.system) (devices_in new.system)) (grows : HasGrown middle after)
       (goes : (rest : List Timed) → PartGoes tariffs tariff rules rule Anything ((next ∷ []) ++ rest) rest mid failure new middle after) where
@@ -279,7 +279,7 @@ module _ {F U : Type 0} (tariffs : Shared F (Bor Usage × Unit {0}) Charge) (tar
         by (inr took) = inr (both_go done next (beside s) (beside mid) failure new before middle after u.goes took)
     then_first (inr took) one = inr (both_go done next (beside s) mid failure new before middle after took goes)
 
-    -- a line that is another is come to
+    -- the run reaches a line of another kind
     missed_here : NoneOfSome → BeginAnew done → is_first next.what ≡ false → (rest : List Timed) → PartMisses tariffs tariff rules rule ((done ++ next ∷ []) ++ rest) s new before after
     missed_here u begin isnt rest w m between is =
         let a = u.goes (next ∷ rest) w m between (is ∙ append_assoc done (next ∷ []) rest) in record {
@@ -378,7 +378,7 @@ module _ {F U : Type 0} (tariffs : Shared F (Bor Usage × Unit {0}) Charge) (tar
       (subst (λ (ls : List Timed). DidLines tariffs tariff rules rule ls s (Some f) new before after faults faults2) (append_assoc done (next ∷ []) rest ∙ sym is)
       (lines_short (done ++ next ∷ []) rest s f new before after faults faults2 cut))
 
-  -- ALL LINES, and the ticks behind them
+  -- ALL LINES, and the ticks after them
   pub all_done : (lines : List Timed) (s mid : Seen) (failure : Option Failure) (new : Seen) (before middle after : Option (List ℕ)) (faults faults1 faults2 : ℕ)
       → DidLines tariffs tariff rules rule lines s None mid before middle faults faults1 → DidTicks tariffs tariff rules rule IsAtRest None mid failure new middle after faults1 faults2
       → DidAll tariffs tariff rules rule lines s failure new before after faults faults2

@@ -33,6 +33,6 @@ little f c count are short =
     let few : length c.jobs ≤ 64 = are.few in
     omega (arith, jobs, few, short)
 
--- THE COUNT HAS ROOM FOR IT behind the greatest turn of a line
+-- THE COUNT HAS ROOM FOR IT after the greatest turn of a line
 pub room_left : (count n : ℕ) → count ≤ 1000000000 → n ≤ 4358967360 → count + n < 18446744073709551615
 room_left count n most few = omega (arith, most, few)

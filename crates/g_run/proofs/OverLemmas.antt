@@ -1,4 +1,4 @@
--- The end of a run, behind all its lines, and both devices behind it.
+-- The end of a run, after all its lines, and both devices after it.
 -- serves: run_boxed, run_script, taken_down
 use Rattle.std.proofs.Common.{◌≡◌, ◌⊎◌, ◌+◌, ◌++◌, ℕ, true, false, List, [], ◌∷◌, Option, Some, None, is_some, append_assoc, append-nil, refl, sym, ◌∙◌, ap, subst, inl, inr, arith}
 use Rattle.std.specs.Fn.{Shared}
@@ -73,12 +73,12 @@ up_taken_down s clause disc rack disc_is rack_is =
 pub down_taken_down : (d : Devices) → TakenDown (Down d) d
 down_taken_down d = record { devices = refl; stands = λ u is. devices_down d u is.1 }
 
--- beside a new disc
+-- with a new disc
 taken_beside : (f : SystemFacts) (new : Devices) → TakenDown f new → IsBlank f → TakenDown (beside_new f) (with_new_disc new)
 taken_beside (Up s) new is blank = absurd blank
 taken_beside (Down d) new is blank = subst (λ (x : Devices). TakenDown (Down (with_new_disc d)) (with_new_disc x)) (sym is.devices) (down_taken_down (with_new_disc d))
 
-belongs_of : (f : SystemFacts) → SystemBelongs f → BelongTogether (devices_in f)
+pub belongs_of : (f : SystemFacts) → SystemBelongs f → BelongTogether (devices_in f)
 belongs_of (Up s) is = record { told = is.0; belong = is.1.devices }
 belongs_of (Down d) is = is
 
@@ -204,7 +204,7 @@ module _ {F U : Type 0} (tariffs : Shared F (Bor Usage × Unit {0}) Charge) (tar
   dumps_down : (failure : Option Failure) (faults faults' : ℕ) → Keeps lines at_start failure (seen f c count) faults faults' → BelongTogether old → DumpsKept lines old.rack new.rack
   dumps_down failure faults faults' keeps was = subst (λ (d : Devices). DumpsKept lines old.rack d.rack) (sym down_is.devices) (keeps.dumps was)
 
-  -- TO BEGIN ANEW: no FORMAT took, one did, or it was missed
+  -- STARTING OVER: no FORMAT took effect, one did, or the run passed it by
   unwell_down : (failure : Option Failure) → (failure ≡ None → BeginAnew lines → NoDiscFault old (devices_in f) → ⊥) → BeginAnew lines → failure ≡ None → NoDiscFault old new → ⊥
   unwell_down failure it begin none well = it none begin (subst (λ (d : Devices). NoDiscFault old d) down_is.devices well)
 
@@ -319,7 +319,7 @@ module _ {F U : Type 0} (tariffs : Shared F (Bor Usage × Unit {0}) Charge) (tar
       (subst (λ (t : Option (List ℕ)). DidScript tariffs tariff rules rule lines bad old (Some came) new before t faults faults2) (sym same)
       (subst (λ (n : ℕ). DidScript tariffs tariff rules rule lines bad old (Some came) new before middle faults n) (sym still) (script_short came before middle faults faults1 did)))
 
--- NOTHING WAS DONE, for want of memory
+-- NOTHING WAS DONE, because memory ran out
 module _ {F U : Type 0} (tariffs : Shared F (Bor Usage × Unit {0}) Charge) (tariff : F) (rules : Shared U (Bor Standing × Unit {0}) ℕ) (rule : U) (lines : List Timed) (bad : Option ℕ) where
   none_done : (d : Devices) (before : Option (List ℕ)) → EndsShort tariffs tariff rules rule lines bad d d before before
   none_done d before s stands = record {

@@ -40,7 +40,7 @@ bare_within turn (line.Typed t text) is typed = (is, one_line turn t text typed)
 bare_within turn (line.Logout t) is typed = is
 bare_within turn what is typed = tt
 
-within_what : (turn : ℕ) (what : WrittenOperator) → IsWrittenOperator what → IsTypedWithin turn what → IsWithin (operator_said what)
+pub within_what : (turn : ℕ) (what : WrittenOperator) → IsWrittenOperator what → IsTypedWithin turn what → IsWithin (operator_said what)
 within_what turn (Bare what) is typed = bare_within turn what is typed
 within_what turn (Job name user time money lines) is typed = (is.time_within, is.money_within)
 

@@ -1,4 +1,4 @@
--- A run that was ended, whole or cut short, as its status tells.
+-- The end of a run, complete or cut short, by its status.
 -- serves: george (anew, arms, demo, ends, enough, quiet, words), top
 use Rattle.std.proofs.Common.{◌≡◌, ◌⊎◌, ◌<◌, ◌∙◌, ℕ, List, Option, Some, None, length, refl, sym, ap, subst, inl, inr, arith}
 use Rattle.std.specs.Fn.{Shared}
@@ -48,7 +48,7 @@ went_through bad (Some failures.Memory) went = absurd went
 
 -- TO BEGIN ANEW
 module _ {F U : Type 0} (tariffs : Shared F (Bor Usage × Unit {0}) Charge) (tariff : F) (rules : Shared U (Bor Standing × Unit {0}) ℕ) (rule : U) where
-  -- the devices belong together at the end, since there is a state of a new disc beside emptied reels
+  -- the devices belong together at the end, since a new disc with emptied reels represents a state
   belongs_anew : (failure : Option Failure) (lines : List Timed) (bad : Option ℕ) (old new : Devices) (before after : Option (List ℕ)) → 2177 < old.disc.size → AreBlank old
       → EndsBy tariffs tariff rules rule failure lines bad (with_new_disc old) new before after → BelongTogether new
   belongs_anew None lines bad old new before after more blank ends =
@@ -113,7 +113,7 @@ arms_as left lines said bad said_bad failure old new was is arms =
 whole_part : (before after : Option (List ℕ)) (text : List ℕ) → after ≡ with_more before text → HasPutPart before text after
 whole_part before after text is = (length text, omega arith, is ∙ ap (λ (t : List ℕ). with_more before t) (sym (take_all (length text) text (omega arith))))
 
--- unknown words are told, whole or in part
+-- the line of unknown words is printed, whole or in part
 pub cut_words : (failure : Option Failure) (d : Devices) (before after : Option (List ℕ)) → PutsBy failure words_line before after → IsCutWords d d before after
 cut_words None d before after put = (refl, whole_part before after words_line put)
 cut_words (Some failure) d before after put = (refl, put)
@@ -123,13 +123,13 @@ quiet_words None d before after put = (refl, put)
 quiet_words (Some failures.Output) d before after put = tt
 quiet_words (Some failures.Memory) d before after put = tt
 
--- words that aren't known never answer want of memory
+-- unknown words never lead to the status of exhausted memory
 pub of_words : (failure : Option Failure) → (failure ≡ Some failures.Memory → ⊥) → IsForMemory (words_status failure) → ⊥
 of_words None isnt is = let no : ⊥ = cc in no
 of_words (Some failures.Output) isnt is = let no : ⊥ = cc in no
 of_words (Some failures.Memory) isnt is = isnt refl
 
--- A DEMONSTRATION: the words tell which, and how it ended
+-- A DEMONSTRATION: which one the words name, and how it ended
 pub one_demo : (one other : Demonstration) → IsDemonstration one → IsDemonstration other → demo_words one ≡ demo_words other → one ≡ other
 one_demo one other is is_other same = by (one_reading (asked.Demo one) (asked.Demo other) is is_other same)
   where

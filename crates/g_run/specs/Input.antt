@@ -6,7 +6,7 @@ use Rattle.std.specs.Borrow.{Bor}
 abbrev pub IsRun : List (Bor (List ℕ)) → Type 0
 IsRun words = map (λ word. word.now) words ≡ codes "run" ∷ []
 
--- the text is what was read from the front of what a source had left, and the rest is what it has left now
+-- the text is a prefix of what a source had left, and the rest is what it has left now
 pub record HasRead (left text : List ℕ) (rest : Option (List ℕ)) : Type 0 where
   pub within : length text ≤ length left
   pub front : text ≡ take (length text) left

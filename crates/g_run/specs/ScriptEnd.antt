@@ -1,4 +1,4 @@
--- A SCRIPT that was read, done to its end: whose lines were done, the system taken down, and both devices handed back.
+-- A SCRIPT that was read and done to its end: its lines were done, the system was taken down, and both devices were returned.
 use Rattle.std.specs.Prelude.{◌≡◌, ◌⊎◌, ℕ, List, Option, Some, None}
 use Rattle.std.specs.Fn.{Shared}
 use denote.Ref.{Bor}
@@ -22,18 +22,18 @@ use Rattle.g_run.specs.Top.{EndsBy, HasMissed}
 abbrev pub both : DiscState → Rack → Devices
 both d r = record { disc = d; rack = r }
 
--- the text of the end is put, unless a failure came before it
+-- the text of the end is printed, unless a failure preceded it
 abbrev pub ClosesBy : Option Failure → List ℕ → Option Failure → Option (List ℕ) → Option (List ℕ) → ℕ → ℕ → Type 0
 ClosesBy None text failure before after old new = Puts failure text before after old new
 ClosesBy (Some came) text failure before after old new = (failure ≡ Some came) × (after ≡ before) × (new ≡ old)
 
--- A SYSTEM TAKEN DOWN: its devices, which stand for what it stood for, down
+-- A SYSTEM TAKEN DOWN: its devices, which represent the state that it represented, down
 pub record TakenDown (f : SystemFacts) (d : Devices) : Type 0 where
   pub devices : d ≡ devices_in f
   pub stands : (u : State) → StandsAs f u → AreReadAs d (down u)
 
 module _ {F U : Type 0} (tariffs : Shared F (Bor Usage × Unit {0}) Charge) (tariff : F) (rules : Shared U (Bor Standing × Unit {0}) ℕ) (rule : U) where
-  -- to begin anew: no FORMAT took, and nothing else was done
+  -- starting over: no FORMAT took effect, and nothing else was done
   pub record EndsBeside (failure : Option Failure) (lines : List Timed) (bad : Option ℕ) (old new : Devices) (before after : Option (List ℕ)) : Type 0 where
     pub ends : EndsBy tariffs tariff rules rule failure lines bad (with_new_disc old) (with_new_disc new) before after
     pub blank : AreBlank new
@@ -41,7 +41,7 @@ module _ {F U : Type 0} (tariffs : Shared F (Bor Usage × Unit {0}) Charge) (tar
 
   pub record DidScript (lines : List Timed) (bad : Option ℕ) (old : Devices) (failure : Option Failure) (new : Devices) (before after : Option (List ℕ)) (faults faults' : ℕ) : Type 0 where
     pub ends : EndsBy tariffs tariff rules rule failure lines bad old new before after
-    -- over devices to begin anew with: from the state of a new disc
+    -- on blank devices: from the state of a new disc
     pub anew : BeginAnew lines → AreBlank old → EndsBeside failure lines bad old new before after
         ⊎ (EndsBy tariffs tariff rules rule failure lines bad (with_new_disc old) new before after ⊎ HasMissed tariffs tariff rules rule lines bad old new before after)
     pub arms : AreArmings lines (failure ≡ None) old new

@@ -1,4 +1,4 @@
--- What the top call answers: each status with its cause, and with what stands then.
+-- THE TOP CALL: the cause of each status, and what holds with it.
 use Rattle.std.specs.Prelude.{◌≡◌, ◌⊎◌, ◌<◌, ℕ, Bool, true, false, List, Option, Some, None, length}
 use Rattle.std.specs.Fn.{Shared}
 use denote.Ref.{Bor}
@@ -30,11 +30,11 @@ use Rattle.g_run.specs.declared.status.Status.TheVariants.{Done, Words, BadScrip
 pub record Meaning : Type 0 where
   -- its number, the exit status of the program
   pub code : ℕ
-  -- it comes for words that ask for nothing; for the word `run`; for a script that is too long
+  -- whether this status occurs for words that request nothing, for the word `run`, and for a script that is too long
   pub of_words : Bool
   pub of_run : Bool
   pub of_long : Bool
-  -- it comes with known words, a script that isn't too long, and no fault of source or sink
+  -- whether it occurs with known words, a script that isn't too long, and no fault of source or sink
   pub complete : Bool
   -- the script was read whole and done to its end, or to its first bad line
   pub through : Bool
@@ -58,12 +58,12 @@ abbrev pub Holds : Bool → Type 0
 Holds true = Unit {0}
 Holds false = ⊥
 
--- a count rose, or stands still
+-- a count rose, or is unchanged
 abbrev pub RisesIf : Bool → ℕ → ℕ → Type 0
 RisesIf true old new = Rose old new
 RisesIf false old new = new ≡ old
 
--- the counts of faults of source and sink move with the statuses of their own alone
+-- the fault counters of source and sink rise only with their own statuses
 abbrev pub SourceCause : Status → ℕ → ℕ → Type 0
 SourceCause status old new = RisesIf (meaning status).source_rose old new
 
@@ -85,11 +85,11 @@ IsNotDone status = Holds (meaning status).of_long
 abbrev pub IsComplete : Status → Type 0
 IsComplete status = Holds (meaning status).complete
 
--- memory was wanting; so it never is for words that ask for nothing
+-- memory ran out, which never happens with words that request nothing
 abbrev pub IsForMemory : Status → Type 0
 IsForMemory status = status ≡ NoMemory
 
--- with the statuses at which nothing was done both devices are as they were, and no more was put than the line of unknown words
+-- if the status says that nothing was done, both devices are unchanged, and at most the line of unknown words was printed
 abbrev pub IsQuiet : Status → Devices → Devices → Option (List ℕ) → Option (List ℕ) → Type 0
 IsQuiet Words old new before after = (new ≡ old) × (after ≡ with_more before words_line)
 IsQuiet ScriptFault old new before after = (new ≡ old) × (after ≡ before)
@@ -97,7 +97,7 @@ IsQuiet TooLong old new before after = (new ≡ old) × (after ≡ before)
 IsQuiet status old new before after = Unit {0}
 
 module _ {F U : Type 0} (tariffs : Shared F (Bor Usage × Unit {0}) Charge) (tariff : F) (rules : Shared U (Bor Standing × Unit {0}) ℕ) (rule : U) where
-  -- WHAT STANDS WITH EACH STATUS of a run, where the source told that it had these bytes left.
+  -- WHAT HOLDS WITH EACH STATUS of a run, if the source exposed that it had these bytes left
   abbrev pub EndsAs : Status → List ℕ → Devices → Devices → Option (List ℕ) → Option (List ℕ) → Type 0
   EndsAs Done left old new before after = (lines : List Timed) × IsParsed (lines_of left) lines None × EndsWhole tariffs tariff rules rule lines None old new before after
   EndsAs (BadScript line) left old new before after =
@@ -112,15 +112,15 @@ module _ {F U : Type 0} (tariffs : Shared F (Bor Usage × Unit {0}) Charge) (tar
   EndsBy None lines bad old new before after = EndsWhole tariffs tariff rules rule lines bad old new before after
   EndsBy (Some failure) lines bad old new before after = EndsShort tariffs tariff rules rule lines bad old new before after
 
-  -- WHAT STANDS WITH EACH STATUS of a demonstration: no other comes than these
+  -- WHAT HOLDS WITH EACH STATUS of a demonstration; no other status occurs
   abbrev pub EndsDemo : Status → Demonstration → Option (List ℕ) → Option (List ℕ) → Type 0
   EndsDemo Done demo before after = PutsDemo tariffs tariff rules rule None demo before after
   EndsDemo OutputFault demo before after = PutsDemo tariffs tariff rules rule (Some failures.Output) demo before after
   EndsDemo NoMemory demo before after = PutsDemo tariffs tariff rules rule (Some failures.Memory) demo before after
   EndsDemo status demo before after = ⊥
 
--- TO BEGIN ANEW: the first line of the script beside MOUNT, UNMOUNT and STOP is a FORMAT, the devices tell and no reel holds anything, whatever
--- the disc holds
+-- STARTING OVER: apart from MOUNT, UNMOUNT and STOP, the first line of the script is a FORMAT; the devices expose their contents, and no reel holds
+-- anything. The disc may hold anything.
 pub record BeginsAnew (left : List ℕ) (old : Devices) : Type 0 where
   pub lines : List Timed
   pub bad : Option ℕ
@@ -129,20 +129,20 @@ pub record BeginsAnew (left : List ℕ) (old : Devices) : Type 0 where
   pub blank : AreBlank old
 
 module _ {F U : Type 0} (tariffs : Shared F (Bor Usage × Unit {0}) Charge) (tariff : F) (rules : Shared U (Bor Standing × Unit {0}) ℕ) (rule : U) where
-  -- A FORMAT TOOK: the run is one from the state of a new disc beside the same reels, and disc and rack belong together at its end.
+  -- A FORMAT TOOK EFFECT: the run is one from the state of a new disc with the same reels, and disc and rack belong together at its end.
   pub record Took (status : Status) (left : List ℕ) (old new : Devices) (before after : Option (List ℕ)) : Type 0 where
     pub ends : EndsAs tariffs tariff rules rule status left (with_new_disc old) new before after
     pub together : BelongTogether new
 
-  -- NONE DID, and nothing else was done but MOUNT, UNMOUNT and STOP: the run is one beside a new disc from its first state to its last, and the
-  -- devices are ones to begin anew with. A script that was done to its end had a FORMAT that failed at the disc, which counted it.
+  -- NONE DID, and only MOUNT, UNMOUNT and STOP were done: from its first state to its last the run is one with a new disc, and the devices are still
+  -- blank. If the script was done to its end, its FORMAT failed at the disc, which counted the failure.
   pub record NoneDid (status : Status) (left : List ℕ) (old new : Devices) (before after : Option (List ℕ)) : Type 0 where
     pub ends : EndsAs tariffs tariff rules rule status left (with_new_disc old) (with_new_disc new) before after
     pub blank : AreBlank new
     pub unwell : IsThrough status → NoDiscFault old new → ⊥
 
-  -- NONE DID, and another line was come to, over what the disc held or a cut FORMAT left: up to it the run is one beside a new disc, in which each
-  -- FORMAT failed at the disc, which counted it, and the text begins with that run's. What was done from there on is told by nothing.
+  -- NONE DID, and the run reached a line of another kind, on what the disc held or an interrupted FORMAT left. Up to that line the run is one with a
+  -- new disc, in which each FORMAT failed at the disc, which counted it; the text begins with that run's. Nothing is known of what was done after that.
   pub record Missed (lines : List Timed) (bad : Option ℕ) (s : State) (old new : Devices) (before after : Option (List ℕ)) : Type 0 where
     pub moves : List Move
     pub last : World
@@ -163,7 +163,7 @@ module _ {F U : Type 0} (tariffs : Shared F (Bor Usage × Unit {0}) Charge) (tar
   EndsAnew status left old new before after = Took status left old new before after
       ⊎ (NoneDid status left old new before after ⊎ ((lines : List Timed) × (bad : Option ℕ) × IsParsed (lines_of left) lines bad × HasMissed lines bad old new before after))
 
--- the status of a run behind its parts
+-- the status of a run, from its first bad line and its failure
 abbrev pub status_of : Option ℕ → Option Failure → Status
 status_of bad (Some failures.Output) = OutputFault
 status_of bad (Some failures.Memory) = NoMemory

@@ -2,10 +2,10 @@
 use g_base::{Block, ReadFailed, WriteFailed};
 use g_disc::Disc;
 
-/// A disc in a box. A system that is down holds its devices themselves, and is handed on by value: so what moves is a pointer.
+/// A disc in a box. A system that is down holds its devices themselves and is passed on by value, so that only a pointer moves.
 #[derive(Drop)]
-pub(crate) struct BoxedDisc<D: Disc> {
-    pub(crate) disc: Box<D>,
+pub struct BoxedDisc<D: Disc> {
+    pub disc: Box<D>,
 }
 
 impl<D: Disc> Disc for BoxedDisc<D> {

@@ -2,10 +2,10 @@
 use g_base::Block;
 use g_tape::{TapeFault, Tapes};
 
-/// A rack in a box, as the disc of `BoxedDisc`: a rack in memory has what the next failing write leaves in it, and is large.
+/// A rack in a box, for the same reason as the disc of `BoxedDisc`: a rack in memory holds what its next failing write will leave, and is large.
 #[derive(Drop)]
-pub(crate) struct BoxedTapes<T: Tapes> {
-    pub(crate) tapes: Box<T>,
+pub struct BoxedTapes<T: Tapes> {
+    pub tapes: Box<T>,
 }
 
 impl<T: Tapes> Tapes for BoxedTapes<T> {

@@ -43,7 +43,7 @@ pub(crate) fn run_demo<K: Sink, F: Fn(&Usage) -> Charge, U: Fn(&Standing) -> u64
     }
 }
 
-/// Puts the summary of what a sink was given.
+/// Prints the summary of the text that a sink received.
 fn put_summary<K: Sink>(
     alloc: Global,
     demo: &Demonstration,

@@ -25,12 +25,12 @@ use g_tape::Tapes;
 use g_ticks::{Rules, tick_until_due};
 use std::alloc::{AllocFailed, Global};
 
-/// Both devices behind a script, and why it was cut short, if it was.
+/// Both devices after a script, and the failure that cut it short, if one did.
 #[derive(Drop)]
-pub(crate) struct ScriptEnd<D: Disc, T: Tapes> {
-    pub(crate) disc: D,
-    pub(crate) tapes: T,
-    pub(crate) failure: Option<Failure>,
+pub struct ScriptEnd<D: Disc, T: Tapes> {
+    pub disc: D,
+    pub tapes: T,
+    pub failure: Option<Failure>,
 }
 
 /// Does a script over devices under no store, and takes the system down again.
@@ -75,8 +75,8 @@ pub(crate) fn run_script<
     }
 }
 
-/// The same over devices that are put into boxes for it: a run hands its system on at every line, and of a system that is down
-/// then two pointers move, and the list of what is known of the reels. Without memory for the boxes nothing is done.
+/// The same on devices that it moves into boxes: a run passes its system on at every line, so that for a system that is down only
+/// two pointers and the list of known reels move. If memory for the boxes runs out, nothing is done.
 pub(crate) fn run_boxed<
     K: Sink,
     D: Disc,
@@ -109,8 +109,8 @@ pub(crate) fn run_boxed<
     }
 }
 
-/// Both devices in boxes; without memory for them they come back as they are.
-fn in_boxes<D: Disc, T: Tapes>(
+/// Moves both devices into boxes. If memory for these runs out, it returns the devices unchanged.
+pub fn in_boxes<D: Disc, T: Tapes>(
     alloc: Global,
     devices: (D, T),
 ) -> Result<(BoxedDisc<D>, BoxedTapes<T>), (D, T)>
@@ -128,8 +128,8 @@ fn in_boxes<D: Disc, T: Tapes>(
     }
 }
 
-/// The end of a script, with the devices out of their boxes.
-fn unboxed<D: Disc, T: Tapes>(over: ScriptEnd<BoxedDisc<D>, BoxedTapes<T>>) -> ScriptEnd<D, T>
+/// The end of a script, with the devices moved out of their boxes.
+pub fn unboxed<D: Disc, T: Tapes>(over: ScriptEnd<BoxedDisc<D>, BoxedTapes<T>>) -> ScriptEnd<D, T>
     ensures disc { D.state result.disc ≡ D.state over.disc.disc.value }
     ensures tapes { T.rack result.tapes ≡ T.rack over.tapes.tapes.value }
     ensures failure { result.failure ≡ over.failure }
@@ -177,9 +177,9 @@ fn run_lines<K: Sink, D: Disc, T: Tapes, F: Fn(&Usage) -> Charge, U: Fn(&Standin
     }
 }
 
-/// Puts what stands at the end of a run, if it came to it: the files of unfinished jobs, and the bad line of the script, if there
-/// is one.
-fn close<K: Sink>(
+/// Prints the end of a run: the files of unfinished jobs, and the bad line of the script, if there is one. After a failure it prints
+/// nothing and returns that failure.
+pub fn close<K: Sink>(
     alloc: Global,
     crew: &Crew,
     bad: Option<u64>,
@@ -209,8 +209,8 @@ fn end_text(alloc: Global, crew: &Crew, bad: Option<u64>) -> Result<Text, NoMemo
     Ok(text)
 }
 
-/// Both devices of a day whose run is over.
-fn taken_down<D: Disc, T: Tapes>(day: Day<D, T>) -> (D, T)
+/// Takes the system down, and returns both devices.
+pub fn taken_down<D: Disc, T: Tapes>(day: Day<D, T>) -> (D, T)
     ensures { TakenDown day.system (both (D.state result.0) (T.rack result.1)) }
 {
     let Day { system, .. } = day;

@@ -1,10 +1,11 @@
 //! The lines of a script, each done when it is due, or when nothing can step.
-ghost use Rattle.std.specs.Prelude.{◌≡◌, ◌+◌, ◌<◌, [], ◌∷◌, All, length};
+ghost use Rattle.std.specs.Prelude.{◌≡◌, ◌+◌, ◌<◌, All, length};
 ghost use Rattle.g_rules.specs.Tariff.{IsTariff};
 ghost use Rattle.g_day.specs.Parts.{IsReady};
 ghost use Rattle.g_job_table.specs.Numbers.{AreOpen};
 ghost use Rattle.g_rules.specs.Rule.{IsWeighRule};
 ghost use Rattle.g_ticks.specs.Parts.{DidLines, IsTimedWithin};
+ghost use Rattle.g_run.specs.NextLine.{DidNext};
 
 use g_day::{Day, Ended};
 use g_disc::Disc;
@@ -45,8 +46,8 @@ pub(crate) fn do_lines<
     ended
 }
 
-/// Ticks until the line is due or nothing can step, and then does it.
-fn next_line<K: Sink, D: Disc, T: Tapes, F: Fn(&Usage) -> Charge, U: Fn(&Standing) -> u64>(
+/// Ticks until the line is due or nothing can step, and then does the line; nothing happens after it. A failure ends it earlier.
+pub fn next_line<K: Sink, D: Disc, T: Tapes, F: Fn(&Usage) -> Charge, U: Fn(&Standing) -> u64>(
     alloc: Global,
     next: Timed,
     day: Day<D, T>,
@@ -59,7 +60,7 @@ fn next_line<K: Sink, D: Disc, T: Tapes, F: Fn(&Usage) -> Charge, U: Fn(&Standin
     requires numbers { day.crew.next_job + 1 < 18446744073709551616 }
     requires tariff { IsTariff F.Fn rules.now.tariff.now }
     requires rule { IsWeighRule U.Fn rules.now.weigh.now }
-    ensures { DidLines F.Fn rules.now.tariff.now U.Fn rules.now.weigh.now (next ∷ []) day result.failure result.day
+    ensures { DidNext F.Fn rules.now.tariff.now U.Fn rules.now.weigh.now next day result.failure result.day
         (K.written out.old) (K.written out.new) (K.faults out.old) (K.faults out.new) }
 {
     let Timed { turn, what } = next;

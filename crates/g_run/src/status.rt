@@ -6,15 +6,15 @@ ghost use Rattle.std.specs.Prelude.{◌≡◌};
 pub enum Status {
     /// The script was read whole and done to its end.
     Done,
-    /// The words of the command line aren't known. Nothing was done but to say so.
+    /// The words of the command line are unknown. One line that says so was printed, and nothing was done.
     Words,
-    /// This line of the script, counted from 1, is the first that is no script's. All before it was done to its end.
+    /// This line, counted from 1, is the first that no script can have. Everything before it was done to its end.
     BadScript(u64),
     /// The source failed, and its count of faults rose. Nothing was done.
     ScriptFault,
-    /// The sink failed, and its count of faults rose. What went out is a front part of the run's text.
+    /// The sink failed, and its count of faults rose. A prefix of the run's text was printed.
     OutputFault,
-    /// Memory was wanting. What went out is a front part of the run's text.
+    /// Memory ran out. A prefix of the run's text was printed.
     NoMemory,
     /// The script has more than 16,777,216 bytes. Nothing was done.
     TooLong,

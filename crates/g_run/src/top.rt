@@ -34,7 +34,7 @@ use g_tape::Tapes;
 use g_ticks::Rules;
 use std::alloc::Global;
 
-/// The end of a run: its status, and both devices, which are handed back with every status.
+/// The end of a run: its status, and both devices, which are returned with every status.
 #[derive(Drop)]
 pub struct Finish<D: Disc, T: Tapes> {
     pub status: Status,
@@ -42,11 +42,11 @@ pub struct Finish<D: Disc, T: Tapes> {
     pub tapes: T,
 }
 
-/// Runs the script that the source has left, puts its text to the sink and keeps its files on the disc, which has 2,178 to
+/// Runs the script that the source has left, prints its text to the sink and stores its files on the disc, which has 2,178 to
 /// 1,048,576 blocks, and on the reels of the rack. Jobs are charged by the tariff and take their turns by the weigh rule.
 ///
-/// The words are looked at first: `run`, or `demo NUMBER N`, which runs a script that is made from these numbers on devices in
-/// memory and puts the summary of its text. The script is read whole before anything is done (docs/MANUAL.md, "Exit status").
+/// It first reads the words: `run`, or `demo NUMBER N`, which runs a script that is generated from these numbers on devices in
+/// memory and prints the summary of its text. The script is read whole before anything is done (docs/MANUAL.md, "Exit status").
 #[tactic(auto, using(g_day::proofs::GrowLemmas::grow_itself, g_ticks::proofs::KeepLemmas::moves_itself, crate::proofs::TopLemmas::anew_unread, crate::proofs::TopLemmas::anew_long, crate::proofs::TopLemmas::anew_none))]
 pub fn george<
     S: Source,
@@ -69,7 +69,7 @@ pub fn george<
     requires tariff { IsTariff F.Fn tariff.now }
     requires rule { IsWeighRule U.Fn weigh.now }
 
-    // Which statuses come with which words, and when a script is too long.
+    // The statuses that each kind of words allows, and when a script is too long.
     ensures unknown { AskNothing (texts_of words.now) → top.IsOfWords result.status }
     ensures enough { AskNothing (texts_of words.now) → top.IsForMemory result.status → ⊥ }
     ensures known { IsRun words.now → top.IsOfRun result.status }
@@ -91,8 +91,8 @@ pub fn george<
     ensures ends { IsRun words.now → (left : List ℕ) → S.left script.old ≡ Some left →
         top.EndsAs F.Fn tariff.now U.Fn weigh.now result.status left (both (D.state disc) (T.rack tapes)) (both (D.state result.disc) (T.rack result.tapes))
         (K.written out.old) (K.written out.new) }
-    // To begin anew, over a disc that may name copies which no reel has, so that disc and rack don't belong together: with every status the run
-    // is one from the state of a new disc beside the same reels. Where a FORMAT took, they belong together at its end.
+    // Starting over, on a disc that may name copies which no reel has, so that disc and rack don't belong together: with every status the run
+    // is one from the state of a new disc with the same reels. If a FORMAT took effect, they belong together at its end.
     ensures anew { IsRun words.now → (left : List ℕ) → S.left script.old ≡ Some left → top.BeginsAnew left (both (D.state disc) (T.rack tapes))
         → top.EndsAnew F.Fn tariff.now U.Fn weigh.now result.status left (both (D.state disc) (T.rack tapes)) (both (D.state result.disc) (T.rack result.tapes))
         (K.written out.old) (K.written out.new) }
@@ -100,20 +100,20 @@ pub fn george<
     ensures words { AskNothing (texts_of words.now)
         → IsCutWords (both (D.state disc) (T.rack tapes)) (both (D.state result.disc) (T.rack result.tapes)) (K.written out.old) (K.written out.new) }
 
-    // A demonstration: the devices that were handed in come back unchanged, and the summary of its text is put.
+    // A demonstration: the devices that were passed in are returned unchanged, and the summary of its text is printed.
     ensures demo { (demo : Demonstration) → IsDemonstration demo → texts_of words.now ≡ demo_words demo
         → (both (D.state result.disc) (T.rack result.tapes) ≡ both (D.state disc) (T.rack tapes))
         × top.EndsDemo F.Fn tariff.now U.Fn weigh.now result.status demo (K.written out.old) (K.written out.new) }
 
-    // With every status, of all devices, whether they tell or not: what armed them, what their fuses are, and that they are the same.
+    // With every status, for all devices, whether or not they expose their contents: what armed them, what their fuses are, and that they are the same.
     ensures arms { IsRun words.now → (left : List ℕ) → S.left script.old ≡ Some left → (lines : List Timed) (bad : Option ℕ) → IsParsed (lines_of left) lines bad →
         AreArmings lines (top.IsThrough result.status) (both (D.state disc) (T.rack tapes)) (both (D.state result.disc) (T.rack result.tapes)) }
     ensures fuses { AreFused (both (D.state result.disc) (T.rack result.tapes)) }
     ensures same { SameDevices (both (D.state disc) (T.rack tapes)) (both (D.state result.disc) (T.rack result.tapes)) }
 
-    // With every status, of devices that tell and belong together: they go on doing so, and a disc that holds a filestore goes on to
-    // hold one. Each dump that was completed stays so, whole and in its place, or its whole reel was released, and a newer one stands
-    // that has the directory of each of its users; where no line of the script is a PROCESS, all stay.
+    // With every status, if the devices expose their contents and belong together: they still do afterwards, and a disc that holds a filestore still
+    // holds one. Each completed dump is still complete, whole and in its place; or its whole reel was released, and there is a newer dump
+    // that has the directory of each of its users. If no line of the script is a PROCESS, all stay.
     ensures belongs { BelongTogether (both (D.state disc) (T.rack tapes)) → BelongTogether (both (D.state result.disc) (T.rack result.tapes)) }
     ensures dumps { BelongTogether (both (D.state disc) (T.rack tapes)) → DumpsMove (T.rack tapes) (T.rack result.tapes) }
     ensures stay { BelongTogether (both (D.state disc) (T.rack tapes)) → (left : List ℕ) → S.left script.old ≡ Some left → (lines : List Timed) (bad : Option ℕ) → IsParsed (lines_of left) lines bad
@@ -167,8 +167,8 @@ pub fn george<
     }
 }
 
-/// Nothing was done.
-fn not_begun<D: Disc, T: Tapes>(status: Status, disc: D, tapes: T) -> Finish<D, T>
+/// The end of a run that did nothing, with this status; both devices are returned unchanged.
+pub fn not_begun<D: Disc, T: Tapes>(status: Status, disc: D, tapes: T) -> Finish<D, T>
     ensures made { result ≡ record { status = status; disc = disc; tapes = tapes } }
     ensures fuses { AreFused (both (D.state disc) (T.rack tapes)) }
 {
@@ -180,8 +180,8 @@ fn not_begun<D: Disc, T: Tapes>(status: Status, disc: D, tapes: T) -> Finish<D, 
     }
 }
 
-/// Each device tells what its fuse is.
-fn tell_fuses<D: Disc, T: Tapes>(disc: &D, tapes: &T)
+/// States what the fuse of each device is; nothing is done.
+pub fn tell_fuses<D: Disc, T: Tapes>(disc: &D, tapes: &T)
     ensures { AreFused (both (D.state disc.now) (T.rack tapes.now)) }
 {
     let _blocks = disc.size();

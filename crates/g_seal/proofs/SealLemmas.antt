@@ -1,5 +1,5 @@
 -- The seal of devices, from the lines of what is in memory.
--- serves: push_held (text, no_copy), seal (text, no_copy, filestore)
+-- serves: push_held (no_copy, text), seal (disc, no_copy, text)
 use Rattle.std.proofs.Common.{◌≡◌, ℕ, List, [], ◌++◌, map, Option, Some, None, Result, Ok, Err, sym, ◌∙◌, ap, subst}
 use Rattle.std.specs.Prelude.{Contains, OnOk}
 use Rattle.std.specs.Option.{ForSome}

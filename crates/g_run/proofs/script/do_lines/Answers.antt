@@ -18,7 +18,7 @@ pub lines-preserved : goal.lines-preserved
 lines-preserved g c =
     let isnt : is_some c.next_line-ended.result.failure ≡ false = search rules in
     let none = none_of c.next_line-ended.result.failure isnt in
-    let one = rw none at c.next_line-ended.ensures in
+    let one = rw none at c.next_line-ended.ensures.did in
     let next = c.in-Some.next in
     let rest : List Timed = c.pop_front.new.self.items in
     let items : c.lines.lines.items ≡ next ∷ rest = c.in-Some.ensures.items in
@@ -45,4 +45,4 @@ returns-then-is_some g c =
     let items : c.lines.lines.items ≡ next ∷ rest = c.in-Some.ensures.items in
     let (done, all, did) = c.lines.invariant.did in
     lines_cut g.F.Fn c.args.rules.now.tariff.now g.U.Fn c.args.rules.now.weigh.now c.args.lines done rest next _ _ c.next_line-ended.result.failure _ _ _ _ _ _ _
-    (all ∙ ap (λ (ls : List Timed). done ++ ls) items) did c.next_line-ended.ensures f failed
+    (all ∙ ap (λ (ls : List Timed). done ++ ls) items) did c.next_line-ended.ensures.did f failed

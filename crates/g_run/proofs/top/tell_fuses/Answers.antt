@@ -1,4 +1,4 @@
--- A disc says what its fuse is where it is asked for its size, and a rack at any moment.
+-- The contract of `size` states a disc's fuse; a rack's fuse is known at any moment.
 use Rattle.g_run.proofs.top.tell_fuses.Goals as goal
 
 pub returns : goal.returns

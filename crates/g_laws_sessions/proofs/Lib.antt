@@ -1,0 +1,5 @@
+pub mod AfterLemmas
+pub mod EarlyLemmas
+pub mod LineLemmas
+pub mod ScriptLemmas
+pub mod SessionLemmas

@@ -1,0 +1,66 @@
+-- A line that nothing follows: the moves up to it, and its own move as the last one.
+-- serves: next_line
+use Rattle.std.proofs.Common.{◌≡◌, ◌++◌, ℕ, Bool, List, [], ◌∷◌, Option, Some, None, append_assoc, refl, sym, ◌∙◌, ap}
+use Rattle.std.specs.Fn.{Shared}
+use denote.Ref.{Bor}
+use Rattle.g_rules.specs.declared.tariff.Charge.{Charge}
+use Rattle.g_rules.specs.declared.tariff.Usage.{Usage}
+use Rattle.g_rules.specs.declared.rule.Standing.{Standing}
+use Rattle.g_io.specs.Streams.{with_more}
+use Rattle.g_script.specs.declared.operator.Timed.{Timed}
+use Rattle.g_run_model.specs.Lines.{is_process}
+use Rattle.g_run_model.specs.Moves.{Move, TakeLine}
+use Rattle.g_run_model.specs.World.{World}
+use Rattle.g_day.specs.declared.progress.Failure.{Failure}
+use Rattle.g_day.specs.Parts.{LineGoes, Matches, Seen}
+use Rattle.g_day.proofs.PutLemmas.{with_more-append}
+use Rattle.g_ticks.specs.Tick.{IsBetween}
+use Rattle.g_ticks.specs.Parts.{Anything, Arrives, IsAtRest, PartGoes, turn_of}
+use Rattle.g_ticks.proofs.PartLemmas.{leads_then}
+use Rattle.g_run.proofs.LeaveLemmas.{line_leaves}
+use Rattle.g_run.proofs.LineLemmas.{line_leads, matches_without, without}
+use Rattle.g_run.specs.NextLine.{EndsWithLine, HoldsGo}
+
+module _ {F U : Type 0} (tariffs : Shared F (Bor Usage × Unit {0}) Charge) (tariff : F) (rules : Shared U (Bor Standing × Unit {0}) ℕ) (rule : U) where
+  -- A LINE, and nothing after it
+  held_line : (next : Timed) (old new : Seen) (before after : Option (List ℕ)) → LineGoes next.what old None new before after
+      → (w : World) → Matches w old → IsBetween w → IsAtRest w → w.lines ≡ next ∷ [] → (a : Arrives tariffs tariff rules rule Anything w [] old new before after) × EndsWithLine a.moves
+  held_line next old new before after goes w m between due is =
+      let (added, d, matches, put) = goes (without tariffs tariff rules rule [] w) (matches_without tariffs tariff rules rule w [] old m) in
+      let left = line_leaves d.outcome next.what (without tariffs tariff rules rule [] w) d.next d.gives in (
+        record {
+          moves = TakeLine (is_process next.what) d.outcome ∷ [];
+          next = d.next;
+          added = added;
+          leads = line_leads tariffs tariff rules rule w next [] between due is old.system new.system added d;
+          matches = matches;
+          between = record { phase = left.phase ∙ between.phase; turn = left.turn ∙ between.turn };
+          lines = left.lines;
+          rests = tt;
+          put = put;
+        },
+        ([], is_process next.what, d.outcome, refl),
+      )
+
+  pub holds_done : (next : Timed) (old mid : Seen) (failure : Option Failure) (new : Seen) (before middle after : Option (List ℕ))
+      → ((lines : List Timed) → turn_of lines ≡ Some next.turn → PartGoes tariffs tariff rules rule IsAtRest lines lines old None mid before middle)
+      → LineGoes next.what mid failure new middle after
+      → PartGoes tariffs tariff rules rule Anything (next ∷ []) [] old failure new before after
+      → HoldsGo tariffs tariff rules rule next old failure new before after
+  holds_done next old mid None new before middle after went goes all = λ w m between is.
+      let a = went (next ∷ []) refl w m between is in
+      let (b, (front, tape, outcome, last)) = held_line next mid new middle after goes a.next a.matches a.between a.rests a.lines in (
+        record {
+          moves = a.moves ++ b.moves;
+          next = b.next;
+          added = a.added ++ b.added;
+          leads = leads_then tariffs tariff rules rule w a.next b.next old.system mid.system new.system a.moves b.moves a.added b.added a.leads b.leads;
+          matches = b.matches;
+          between = b.between;
+          lines = b.lines;
+          rests = tt;
+          put = b.put ∙ ap (λ (t : Option (List ℕ)). with_more t b.added) a.put ∙ with_more-append before a.added b.added;
+        },
+        (a.moves ++ front, tape, outcome, ap (λ (ms : List Move). a.moves ++ ms) last ∙ sym (append_assoc a.moves front (TakeLine tape outcome ∷ []))),
+      )
+  holds_done next old mid (Some failure) new before middle after went goes all = λ w m between is. all w m between is

@@ -1,0 +1,44 @@
+-- WHAT IS TYPED AT A CONSOLE: an item as it is typed when the count of ticks has some value, and lines with which no item begins.
+use Rattle.std.specs.Prelude.{◌≡◌, ◌⊎◌, ◌≤◌, ℕ, max, List, [], ◌∷◌, ◌++◌, length, codes}
+use Rattle.std.specs.Fmt.{decimal}
+use Rattle.g_lines.specs.Lines.{text_of}
+use Rattle.g_script.specs.Script.{IsItem, WrittenItem, behind_head, item_lines, written_text}
+
+-- an item without a time is taken at once, and then the system runs until nothing can step; one with a time is taken as a line of a script, and
+-- nothing runs after it
+pub data When : Type 0 where
+  AtOnce : When
+  AtTime : When
+
+-- its first line, as a script has it except for the time; a time in the past means now
+abbrev pub IsTypedHead : ℕ → WrittenItem → When → List ℕ → Type 0
+IsTypedHead count item AtOnce first = (first ≡ written_text item.what) × (item.turn ≡ count)
+IsTypedHead count item AtTime first = (t : ℕ) × (t ≤ 1000000000) × (first ≡ decimal t ++ (32 ∷ written_text item.what)) × (item.turn ≡ max t count)
+
+-- AN ITEM IS TYPED in these lines
+pub record IsTyped (count : ℕ) (item : WrittenItem) (when : When) (lines : List (List ℕ)) : Type 0 where
+  pub is_item : IsItem item
+  pub first : List ℕ
+  pub head : IsTypedHead count item when first
+  pub all : lines ≡ first ∷ behind_head item.what
+  pub short : length first ≤ 160
+  pub within : length (text_of (item_lines item)) ≤ 16777216
+
+-- some item has these lines, and this one after them
+abbrev pub CanFollow : ℕ → List (List ℕ) → List ℕ → Type 0
+CanFollow count lines next =
+    (item : WrittenItem) × (when : When) × (all : List (List ℕ)) × IsTyped count item when all × ((more : List (List ℕ)) × (all ≡ lines ++ next ∷ more))
+
+-- no lines, or the first lines of an item that isn't complete yet
+abbrev pub IsUnfinished : ℕ → List (List ℕ) → Type 0
+IsUnfinished count lines = (lines ≡ []) ⊎ ((next : List ℕ) × CanFollow count lines next)
+
+-- the first line of a JOB, good or bad: a document follows it
+abbrev pub BeginsDocument : List ℕ → Type 0
+BeginsDocument first =
+    ((rest : List ℕ) × (first ≡ codes "JOB " ++ rest))
+    ⊎ ((t : ℕ) × (rest : List ℕ) × (t ≤ 1000000000) × (first ≡ decimal t ++ (32 ∷ (codes "JOB " ++ rest))))
+
+abbrev pub first_of : List (List ℕ) → List ℕ → List ℕ
+first_of [] line = line
+first_of (first ∷ lines) line = first

@@ -1,0 +1,6 @@
+//! What is typed at a console, line by line: an item of the operator's language with or without a time, a document, or a line that is refused.
+#![tactic(auto)]
+
+mod item;
+
+pub use item::{ItemReader, Place, Reply};
