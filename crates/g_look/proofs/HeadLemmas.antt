@@ -1,5 +1,5 @@
 -- The rules 5 to 9, for the dumps in memory and for the dumps themselves.
--- serves: capacity_of, end_upto, judge_head (none, some), judge_intent (none, some), length_of, CheckedLemmas, CompareLemmas, CopyLemmas, and 6 more
+-- serves: capacity_of, end_upto, judge_head (none, some), judge_intent (none, some), length_of, CheckedLemmas, CompareLemmas, CopyLemmas, and 7 more
 use Rattle.std.proofs.Common.{◌≡◌, ◌≢◌, ◌⊎◌, inl, inr, ℕ, zero, suc, ◌+◌, ◌<◌, ◌≤◌, Bool, true, false, cond, ◌&&◌, List, [], ◌∷◌, ◌++◌, length, filter, map, take, Option, Some, None, Result, Ok, Err, refl, sym, ◌∙◌, ap, arith, subst, All}
 use Rattle.std.specs.Prelude.{◌==◌, AllPairs, Contains, IfNone, IfSome, get_or, if◌then◌else◌, is_some, nat_le}
 use Rattle.std.proofs.lemmas.Bool.{cases_eq, cond-false, cond-true, eq-eqb, ne_eqb}

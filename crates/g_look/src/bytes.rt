@@ -170,7 +170,7 @@ pub(crate) fn file_text<D: Disc>(
 }
 
 /// The copy on disc of the file of this number.
-pub(crate) fn copy_at(online: &[FileCopy], number: u16) -> Option<DiscCopy>
+pub fn copy_at(online: &[FileCopy], number: u16) -> Option<DiscCopy>
     ensures { result ≡ copy_at online.now number }
 {
     for one in online {

@@ -16,13 +16,13 @@ use std::alloc::Global;
 
 /// The current slot, and the directory there with its format, if the disc represents one.
 #[derive(Drop)]
-pub(crate) struct Standing {
+pub struct Standing {
     pub side: Side,
     pub dirs: Option<(Format, Dirs)>,
 }
 
 /// Reads the directory that the disc represents. `DiscUnread`, `NoMemory`.
-pub(crate) fn see_disc<D: Disc>(alloc: Global, disc: &mut D) -> Result<Standing, LookFault>
+pub fn see_disc<D: Disc>(alloc: Global, disc: &mut D) -> Result<Standing, LookFault>
     requires size { 2177 < (D.state disc.old).size }
     ensures standing { IfOk result (IsStanding (D.state disc.old).size (D.state disc.old).held) }
     ensures reads { ReadsByCause (result ≡ Err LookFault.DiscUnread) (D.state disc.old) (D.state disc.new) }

@@ -27,10 +27,14 @@ mod tape;
 ghost use Rattle.g_look.specs.Rules.{BrokenIsNot, FitsBelong, RackHasNone, VerdictIsRight};
 
 pub use broken::{Broken, DumpAt, Lie, Verdict};
+pub use bytes::copy_at;
 pub use checking::{Checked, check};
+pub use disc::{Standing, see_disc};
 pub use fault::LookFault;
 pub use holding::dumps;
 pub use listing::list;
+pub use parts::{push_copy, push_lie, push_told};
+pub use rack::see_rack;
 pub use restoring::{Given, restorable};
 pub use showing::show;
 

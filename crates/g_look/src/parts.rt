@@ -11,7 +11,7 @@ use g_lines::push_decimal;
 use g_name::Text;
 
 /// Appends words and a number.
-pub(crate) fn push_told(text: &mut Text, words: &[u8], number: u64) -> Result<(), NoMemory>
+pub fn push_told(text: &mut Text, words: &[u8], number: u64) -> Result<(), NoMemory>
     ensures { OnOk result (text.new ≡ text.old ++ told words.now number) }
 {
     text.extend(words)?;
@@ -27,7 +27,7 @@ pub(crate) fn push_told_line(text: &mut Text, words: &[u8], number: u64) -> Resu
 }
 
 /// Appends a place on tape.
-pub(crate) fn push_copy(text: &mut Text, copy: &TapeCopy) -> Result<(), NoMemory>
+pub fn push_copy(text: &mut Text, copy: &TapeCopy) -> Result<(), NoMemory>
     ensures { OnOk result (text.new ≡ text.old ++ copy_text copy.now) }
 {
     push_told(text, b" TAPE ", u64::from(copy.serial))?;
@@ -43,7 +43,7 @@ pub(crate) fn push_at(text: &mut Text, at: &DumpAt) -> Result<(), NoMemory>
 }
 
 /// Appends a place of a version.
-pub(crate) fn push_lie(text: &mut Text, lie: &Lie) -> Result<(), NoMemory>
+pub fn push_lie(text: &mut Text, lie: &Lie) -> Result<(), NoMemory>
     ensures { OnOk result (text.new ≡ text.old ++ lie_text lie.now) }
 {
     match lie {

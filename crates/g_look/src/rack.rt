@@ -18,7 +18,7 @@ use g_tape::Tapes;
 use std::alloc::Global;
 
 /// The completed dumps of all reels. `TapeUnread`, `NoMemory`.
-pub(crate) fn see_rack<T: Tapes>(alloc: Global, tapes: &mut T) -> Result<Vec<Found>, LookFault>
+pub fn see_rack<T: Tapes>(alloc: Global, tapes: &mut T) -> Result<Vec<Found>, LookFault>
     requires mounted { All (λ r. r.mounted ≡ true) (T.rack tapes.old).reels }
     ensures seen { IfOk result (λ found. AreSeen (told_reels (T.rack tapes.old)) found.items) }
     ensures few { IfOk result (λ found. All HasFew found.items) }

@@ -1,5 +1,5 @@
 -- The promises of a check, from what its result says.
--- serves: look (check, dumps, list, restorable, show)
+-- serves: look (check, dumps, list, restorable, seal, show)
 use Rattle.std.proofs.Common.{◌≡◌, ◌⊎◌, ◌↔◌, ℕ, List, Bool, true, false, Option, Some, None, Result, Ok, Err, IfOk, IfErr, IsTrue, refl, subst, sym, ◌∙◌, inl, inr}
 use Rattle.std.specs.Prelude.{codes}
 use Rattle.std.specs.Option.{ForSome}
@@ -19,11 +19,13 @@ use Rattle.g_look.specs.Lists.{IsListed, IsNobody, IsRestorable}
 use Rattle.g_look.specs.Looks.{IsOfList, OfDumps}
 use Rattle.g_look.specs.ShownBytes.{IsLost, IsNoFile, IsShown}
 use Rattle.g_look.specs.Text.{IsChecked, rack_lines}
+use Rattle.g_seal.specs.declared.sealing.Sealed.{Sealed}
+use Rattle.g_seal.specs.Sealing.{HasLost, IsOfSeal, IsSealed}
 use Rattle.g_look_program.specs.declared.status.Status.{Status}
 use Rattle.g_look_program.specs.declared.status.Status.TheVariants as status
 use Rattle.g_look_program.specs.declared.words.Asked.{Asked}
 use Rattle.g_look_program.specs.declared.words.Asked.TheVariants as asked
-use Rattle.g_look_program.specs.Telling.{Written, IsCut, IsFaultLine, IsQuiet, IsWhole, Puts, EndsQuietly, TellsFault, Tells, TellsBytes, TellsCheck, TellsGiven, verdict, outcome, HoldsOne, EndsCheck, EndsDumps, EndsGiven, EndsList, EndsShow}
+use Rattle.g_look_program.specs.Telling.{Written, IsCut, IsFaultLine, IsQuiet, IsWhole, Puts, EndsQuietly, TellsFault, Tells, TellsBytes, TellsCheck, TellsGiven, TellsSeal, verdict, outcome, seal_status, HoldsOne, EndsCheck, EndsDumps, EndsGiven, EndsList, EndsSeal, EndsShow}
 
 -- A TEXT WAS PRINTED, or the sink failed
 ends_put : (size : ℕ) (held : Option (List (List ℕ))) (reels : List Reel) (broken : Option Broken) (missing : Option ℕ) (filestore : Bool) (text : List ℕ) (w : Written)
@@ -114,7 +116,7 @@ module _ (blocks : List (List ℕ)) (only : Option (List ℕ)) (ended : Status) 
       → IfErr found IsOfList → Tells found ended w → EndsList ended blocks only w
   ends_list (Ok text) is none nobody faults tells = put_ends Listing status.Done ended text w (λ whole. (text, is, whole)) (λ cut. (text, inl is, cut)) tells
   ends_list (Err fault.NoFilestore) is none nobody faults tells = put_ends Listing status.No ended (codes "NO FILESTORE\n") w (λ whole. inl (none refl, whole)) (λ cut. (codes "NO FILESTORE\n", inr (inr (inr (inl refl))), cut)) tells
-  ends_list (Err fault.NoUser) is none nobody faults tells = put_ends Listing status.No ended (codes "NO USER\n") w (λ whole. inr (nobody refl, whole)) (λ cut. (codes "NO USER\n", inr (inr (inr (inr refl))), cut)) tells
+  ends_list (Err fault.NoUser) is none nobody faults tells = put_ends Listing status.No ended (codes "NO USER\n") w (λ whole. inr (nobody refl, whole)) (λ cut. (codes "NO USER\n", inr (inr (inr (inr (inl refl)))), cut)) tells
   ends_list (Err fault.DiscUnread) is none nobody faults tells = put_ends Listing status.Unread ended (codes "DISC READ\n") w (λ whole. whole) (λ cut. (codes "DISC READ\n", inr (inl refl), cut)) tells
   ends_list (Err fault.NoMemory) is none nobody faults tells = quiet_ends Listing status.NoMemory ended w (λ quiet. quiet) tells
   ends_list (Err fault.TapeUnread) is none nobody faults tells = absurd faults
@@ -179,3 +181,25 @@ of_dumps rack P (Err e) is told shelf shelved = tt
 pub of_blocks : {X E : Type 0} (held : Option (List (List ℕ))) (P : List (List ℕ) → X → Type 0) (found : Result X E) (blocks : List (List ℕ)) → held ≡ Some blocks → IfOk found (λ x. ForSome held (λ bs. P bs x)) → IfOk found (P blocks)
 of_blocks held P (Ok x) blocks told is = is blocks told
 of_blocks held P (Err e) blocks told is = tt
+
+-- A SEAL
+module _ (held : Option (List (List ℕ))) (reels : List Reel) (ended : Status) (w : Written) where
+  abbrev Sealing : Status → Type 0
+  Sealing s = EndsSeal s held reels w
+
+  by_store : (filestore : Bool) (text : List ℕ) → IsSealed held reels text → IsTrue filestore ↔ HoldsOne held → Puts (seal_status filestore) text ended w → EndsSeal ended held reels w
+  by_store true text is one puts = put_ends Sealing status.Done ended text w (λ whole. ((text, is, whole), one.0 refl)) (λ cut. (text, inl is, cut)) puts
+  by_store false text is one puts =
+      put_ends Sealing status.Nothing ended text w (λ whole. ((text, is, whole), λ holds. (let not : false ≡ true = one.1 holds in cc))) (λ cut. (text, inl is, cut)) puts
+
+  pub ends_seal : (found : Result Sealed LookFault) → IfOk found (λ s. IsSealed held reels s.text) → ForSome held (λ blocks. IfOk found (λ s. IsTrue s.filestore ↔ ((d : Directory) × StandsFor blocks d)))
+      → (found ≡ Err fault.NoCopy → ForSome held (λ blocks. HasLost blocks reels)) → IfErr found IsOfSeal → TellsSeal found ended w → EndsSeal ended held reels w
+  ends_seal (Ok s) is store lost faults tells = by_store s.filestore s.text is (holds_one held is.blocks s.filestore is.is_told store) tells
+  ends_seal (Err fault.DiscUnread) is store lost faults tells = put_ends Sealing status.Unread ended (codes "DISC READ\n") w (λ whole. inl whole) (λ cut. (codes "DISC READ\n", inr (inl refl), cut)) tells
+  ends_seal (Err fault.TapeUnread) is store lost faults tells = put_ends Sealing status.Unread ended (codes "TAPE READ\n") w (λ whole. inr whole) (λ cut. (codes "TAPE READ\n", inr (inr (inl refl)), cut)) tells
+  ends_seal (Err fault.NoCopy) is store lost faults tells =
+      put_ends Sealing status.No ended (codes "NO COPY\n") w (λ whole. (lost refl, whole)) (λ cut. (codes "NO COPY\n", inr (inr (inr (inr (inr refl)))), cut)) tells
+  ends_seal (Err fault.NoMemory) is store lost faults tells = quiet_ends Sealing status.NoMemory ended w (λ quiet. quiet) tells
+  ends_seal (Err fault.NoFilestore) is store lost faults tells = absurd faults
+  ends_seal (Err fault.NoUser) is store lost faults tells = absurd faults
+  ends_seal (Err fault.NoFile) is store lost faults tells = absurd faults

@@ -23,6 +23,7 @@ pub shows_nothing : (word of : List ℕ) (same : Bool) → same ≡ bytes_eq wor
 shows_nothing word of same is true_is none asked.Check good e = one_word word of (codes "check") e
 shows_nothing word of same is true_is none asked.Dumps good e = one_word word of (codes "dumps") e
 shows_nothing word of same is true_is none asked.Restorable good e = one_word word of (codes "restorable") e
+shows_nothing word of same is true_is none asked.Seal good e = one_word word of (codes "seal") e
 shows_nothing word of same is true_is none (asked.List None) good e = one_word word of (codes "list") e
 shows_nothing word of same is true_is none (asked.List (Some user)) good e =
     let show : word ≡ codes "show" = (bytes_eq-Decides word (codes "show")).0 (sym is ∙ true_is) in

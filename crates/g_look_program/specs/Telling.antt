@@ -1,5 +1,6 @@
 -- The text that a look prints, the status with which it ends, and the cause of each.
 use Rattle.std.specs.Prelude.{◌≡◌, ◌⊎◌, ℕ, List, Option, Some, None, Bool, true, false, Result, Ok, Err, codes}
+use Rattle.std.specs.Option.{ForSome}
 use Rattle.g_base.specs.Counts.{Rose}
 use Rattle.g_dirs.specs.Directory.{Directory}
 use Rattle.g_dirs.specs.Image.{StandsFor}
@@ -19,6 +20,8 @@ use Rattle.g_look.specs.declared.restoring.Given.{Given}
 use Rattle.g_look.specs.Lists.{IsListed, IsNobody, IsRestorable}
 use Rattle.g_look.specs.ShownBytes.{IsLost, IsNoFile, IsShown}
 use Rattle.g_look.specs.Text.{IsChecked, rack_lines}
+use Rattle.g_seal.specs.declared.sealing.Sealed.{Sealed}
+use Rattle.g_seal.specs.Sealing.{HasLost, IsSealed}
 use Rattle.g_look_program.specs.declared.status.Status.{Status}
 use Rattle.g_look_program.specs.declared.status.Status.TheVariants as status
 
@@ -50,7 +53,7 @@ IsCutOf IsSo w = (text : List ℕ) × IsSo text × IsCut text w
 
 -- The line that is printed instead of a text.
 abbrev pub IsFaultLine : List ℕ → Type 0
-IsFaultLine text = (text ≡ codes "DISC READ\n") ⊎ ((text ≡ codes "TAPE READ\n") ⊎ ((text ≡ codes "NO FILESTORE\n") ⊎ (text ≡ codes "NO USER\n")))
+IsFaultLine text = (text ≡ codes "DISC READ\n") ⊎ ((text ≡ codes "TAPE READ\n") ⊎ ((text ≡ codes "NO FILESTORE\n") ⊎ ((text ≡ codes "NO USER\n") ⊎ (text ≡ codes "NO COPY\n"))))
 
 -- A TEXT IS PRINTED; the status is `due`, unless the sink fails.
 abbrev pub Puts : Status → List ℕ → Status → Written → Type 0
@@ -67,7 +70,7 @@ TellsFault fault.TapeUnread ended w = Puts status.Unread (codes "TAPE READ\n") e
 TellsFault fault.NoFilestore ended w = Puts status.No (codes "NO FILESTORE\n") ended w
 TellsFault fault.NoUser ended w = Puts status.No (codes "NO USER\n") ended w
 TellsFault fault.NoFile ended w = EndsQuietly status.No ended w
-TellsFault fault.NoCopy ended w = EndsQuietly status.No ended w
+TellsFault fault.NoCopy ended w = Puts status.No (codes "NO COPY\n") ended w
 TellsFault fault.NoMemory ended w = EndsQuietly status.NoMemory ended w
 
 -- The status of a fault for which nothing is printed.
@@ -101,6 +104,16 @@ verdict None None false = status.Nothing
 abbrev pub TellsCheck : Result Checked LookFault → Status → Written → Type 0
 TellsCheck (Ok c) ended w = Puts (verdict c.verdict.broken c.verdict.missing c.filestore) c.text ended w
 TellsCheck (Err why) ended w = TellsFault why ended w
+
+-- The status of a seal: whether the disc holds a filestore.
+abbrev pub seal_status : Bool → Status
+seal_status true = status.Done
+seal_status false = status.Nothing
+
+-- What is printed of a seal.
+abbrev pub TellsSeal : Result Sealed LookFault → Status → Written → Type 0
+TellsSeal (Ok s) ended w = Puts (seal_status s.filestore) s.text ended w
+TellsSeal (Err why) ended w = TellsFault why ended w
 
 -- The status of what a restore would give, with the dump that is missing, or of its refusal.
 abbrev pub outcome : Bool → Option ℕ → Status
@@ -173,6 +186,20 @@ EndsGiven status.Unread dumps w = IsWhole (codes "TAPE READ\n") w
 EndsGiven status.OutputFault dumps w = IsCutOf (λ text. ((given : Bool) × (missing : Option ℕ) × IsRestorable dumps given missing text) ⊎ IsFaultLine text) w
 EndsGiven status.NoMemory dumps w = IsQuiet w
 EndsGiven other dumps w = ⊥
+
+-- The text of a seal was printed.
+abbrev pub IsSealOf : Option (List (List ℕ)) → List Reel → Written → Type 0
+IsSealOf held reels w = (text : List ℕ) × IsSealed held reels text × IsWhole text w
+
+-- THE END OF A SEAL of devices that expose their contents: its text, and whether the disc holds a filestore; or a file has its bytes nowhere.
+abbrev pub EndsSeal : Status → Option (List (List ℕ)) → List Reel → Written → Type 0
+EndsSeal status.Done held reels w = IsSealOf held reels w × HoldsOne held
+EndsSeal status.Nothing held reels w = IsSealOf held reels w × (HoldsOne held → ⊥)
+EndsSeal status.No held reels w = ForSome held (λ blocks. HasLost blocks reels) × IsWhole (codes "NO COPY\n") w
+EndsSeal status.Unread held reels w = IsWhole (codes "DISC READ\n") w ⊎ IsWhole (codes "TAPE READ\n") w
+EndsSeal status.OutputFault held reels w = IsCutOf (λ text. IsSealed held reels text ⊎ IsFaultLine text) w
+EndsSeal status.NoMemory held reels w = IsQuiet w
+EndsSeal status.Words held reels w = ⊥
 
 -- A LOOK LEAVES THE DISC unchanged, except for the count of failed reads.
 pub record LeavesDisc (before after : DiscState) : Type 0 where

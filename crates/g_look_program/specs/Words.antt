@@ -17,6 +17,7 @@ IsAsked asked.Dumps = Unit {0}
 IsAsked (asked.List user) = IfSome user (λ u. is_word u ≡ true)
 IsAsked (asked.Show path) = IsName (path_name path)
 IsAsked asked.Restorable = Unit {0}
+IsAsked asked.Seal = Unit {0}
 
 -- The words of a list, of all users or of one.
 abbrev pub list_words : Option (List ℕ) → List (List ℕ)
@@ -30,6 +31,7 @@ words_of asked.Dumps = codes "dumps" ∷ []
 words_of (asked.List user) = list_words user
 words_of (asked.Show path) = codes "show" ∷ name_text (path_name path) ∷ []
 words_of asked.Restorable = codes "restorable" ∷ []
+words_of asked.Seal = codes "seal" ∷ []
 
 -- The words request nothing.
 abbrev pub AskNothing : List (List ℕ) → Type 0

@@ -12,7 +12,7 @@ ghost use Rattle.g_look_program.specs.Telling as told;
 ghost use Rattle.g_look_program.specs.Words.{AskNothing, texts_of};
 
 use crate::mount::mount_all;
-use crate::tell::{put, tell, tell_bytes, tell_check, tell_restorable};
+use crate::tell::{put, tell, tell_bytes, tell_check, tell_restorable, tell_seal};
 use crate::{Asked, Status, asked_by};
 use g_devices::{HostOutput, look_at};
 use g_disc::Disc;
@@ -20,6 +20,7 @@ use g_files::StdSink;
 use g_io::Sink;
 use g_known::KnownReels;
 use g_look::{check, dumps, list, restorable, show};
+use g_seal::seal;
 use g_tape::Tapes;
 use std::alloc::Global;
 use std::io::{self, ErrorKind};
@@ -82,6 +83,9 @@ pub fn look<K: Sink, D: Disc, T: Tapes>(
         (record { before = K.written out.old; after = K.written out.new; faults_before = K.faults out.old; faults_after = K.faults out.new }))) }
     ensures restorable { asked.now ≡ Asked.Restorable → OfDumps (T.rack tapes.old) (λ dumps. told.EndsGiven result dumps
         (record { before = K.written out.old; after = K.written out.new; faults_before = K.faults out.old; faults_after = K.faults out.new })) }
+    ensures seal { asked.now ≡ Asked.Seal → AllTold (D.state disc.old).held (told_reels (T.rack tapes.old)) → told.EndsSeal result
+        (D.state disc.old).held (told_reels (T.rack tapes.old))
+        (record { before = K.written out.old; after = K.written out.new; faults_before = K.faults out.old; faults_after = K.faults out.new }) }
     ensures look { IsOfLook result }
     ensures sink { told.SinkCause result
         (record { before = K.written out.old; after = K.written out.new; faults_before = K.faults out.old; faults_after = K.faults out.new }) }
@@ -93,5 +97,6 @@ pub fn look<K: Sink, D: Disc, T: Tapes>(
         Asked::List(user) => tell(out, list(alloc, disc, user.as_ref())),
         Asked::Show(path) => tell_bytes(out, show(alloc, disc, tapes, path)),
         Asked::Restorable => tell_restorable(out, restorable(alloc, tapes)),
+        Asked::Seal => tell_seal(out, seal(alloc, disc, tapes)),
     }
 }

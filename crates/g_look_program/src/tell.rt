@@ -6,6 +6,7 @@ use crate::Status;
 use g_io::Sink;
 use g_look::{Checked, Given, LookFault};
 use g_name::Text;
+use g_seal::Sealed;
 
 /// Prints the text of a check, whatever the check found.
 pub(crate) fn tell_check<K: Sink>(out: &mut K, found: Result<Checked, LookFault>) -> Status
@@ -26,6 +27,28 @@ fn verdict(checked: &Checked) -> Status
         return Status::No;
     }
     if checked.filestore {
+        Status::Done
+    } else {
+        Status::Nothing
+    }
+}
+
+/// Prints a seal, or why there is none.
+pub(crate) fn tell_seal<K: Sink>(out: &mut K, found: Result<Sealed, LookFault>) -> Status
+    ensures { told.TellsSeal found result
+        (record { before = K.written out.old; after = K.written out.new; faults_before = K.faults out.old; faults_after = K.faults out.new }) }
+{
+    match found {
+        Ok(sealed) => put(out, sealed.text.as_slice(), seal_status(sealed.filestore)),
+        Err(fault) => tell_fault(out, fault),
+    }
+}
+
+/// The status of a seal.
+fn seal_status(filestore: bool) -> Status
+    ensures { result ≡ told.seal_status filestore }
+{
+    if filestore {
         Status::Done
     } else {
         Status::Nothing
@@ -87,7 +110,7 @@ fn tell_fault<K: Sink>(out: &mut K, fault: LookFault) -> Status
         LookFault::NoFilestore => put(out, b"NO FILESTORE\n", Status::No),
         LookFault::NoUser => put(out, b"NO USER\n", Status::No),
         LookFault::NoFile => Status::No,
-        LookFault::NoCopy => Status::No,
+        LookFault::NoCopy => put(out, b"NO COPY\n", Status::No),
         LookFault::NoMemory => Status::NoMemory,
     }
 }

@@ -17,9 +17,11 @@ pub enum Asked {
     Show(Path),
     /// What RESTORE would give.
     Restorable,
+    /// The seal of disc and rack.
+    Seal,
 }
 
-/// What the words request: `check`, `dumps`, `list`, `list :USER`, `show PATH` or `restorable`. Any other words request nothing.
+/// What the words request: `check`, `dumps`, `list`, `list :USER`, `show PATH`, `restorable` or `seal`. Any other words request nothing.
 pub fn asked_by(words: &[&str]) -> Option<Asked>
     ensures { MatchOption result (AskNothing (texts_of words.now)) (λ asked. IsAsked asked × (texts_of words.now ≡ words_of asked)) }
 {
@@ -45,6 +47,9 @@ fn asked_alone(word: &str) -> Option<Asked>
     }
     if word == "restorable" {
         return Some(Asked::Restorable);
+    }
+    if word == "seal" {
+        return Some(Asked::Seal);
     }
     None
 }

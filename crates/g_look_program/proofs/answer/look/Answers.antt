@@ -1,6 +1,6 @@
 use Rattle.g_look.specs.Looks.{OfDumps}
 use Rattle.g_look.specs.ShownBytes.{IsShown}
-use Rattle.g_look_program.proofs.LookLemmas.{ends_check, ends_dumps, ends_given, list_ends, of_blocks, of_dumps, show_ends}
+use Rattle.g_look_program.proofs.LookLemmas.{ends_check, ends_dumps, ends_given, ends_seal, list_ends, of_blocks, of_dumps, show_ends}
 use Rattle.g_look_program.proofs.answer.look.Goals as goal
 
 pub returns-in-Check-clause-check : goal.returns-in-Check-clause-check
@@ -25,3 +25,6 @@ returns-in-Show-clause-show g c = λ path is blocks told reels shelf shelved.
 
 pub returns-in-Restorable-clause-restorable : goal.returns-in-Restorable-clause-restorable
 returns-in-Restorable-clause-restorable g c = λ is reels shelf shelved. ends_given _ _ _ c.restorable.result (c.restorable.ensures.text reels shelf shelved) c.restorable.ensures.faults c.tell_restorable.ensures
+
+pub returns-in-Seal-clause-seal : goal.returns-in-Seal-clause-seal
+returns-in-Seal-clause-seal g c = λ is tells. ends_seal _ _ _ _ c.seal.result (c.seal.ensures.text tells) c.seal.ensures.filestore c.seal.ensures.no_copy c.seal.ensures.faults c.tell_seal.ensures

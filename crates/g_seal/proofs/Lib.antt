@@ -1,0 +1,4 @@
+mod DiscLemmas
+mod LineLemmas
+mod ReelLemmas
+mod SealLemmas
