@@ -1,0 +1,12 @@
+mod AnswerLemmas
+mod AsTypedLemmas
+mod BrokenLemmas
+mod EndLemmas
+mod EndingLemmas
+mod KeepLemmas
+mod LinesLemmas
+mod OverallLemmas
+mod ReplyLemmas
+mod SoFarLemmas
+mod StandsLemmas
+mod TakeLemmas

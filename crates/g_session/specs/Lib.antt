@@ -1,0 +1,6 @@
+pub mod Asking
+pub mod Ending
+pub mod Exchanging
+pub mod Parts
+pub mod Session
+pub mod Taking

@@ -1,0 +1,40 @@
+-- WHAT A SESSION DOES for an item or an empty line. Internal: public contracts cite `Session` only.
+use Rattle.std.specs.Prelude.{◌≡◌, ◌⊎◌, ℕ, Bool, true, false, List, [], ◌∷◌, Option, Some, None}
+use Rattle.std.specs.Fn.{Shared}
+use denote.Ref.{Bor}
+use Rattle.g_rules.specs.declared.tariff.Charge.{Charge}
+use Rattle.g_rules.specs.declared.tariff.Usage.{Usage}
+use Rattle.g_rules.specs.declared.rule.Standing.{Standing}
+use Rattle.g_io.specs.Streams.{HasPutPart, with_more}
+use Rattle.g_script.specs.declared.operator.Timed.{Timed}
+use Rattle.g_laws_sessions.specs.Session.{tick_line}
+use Rattle.g_day.specs.declared.progress.Failure.{Failure}
+use Rattle.g_day.specs.Parts.{Seen}
+use Rattle.g_run.specs.NextLine.{HoldsGo}
+use Rattle.g_ticks.specs.Parts.{IsAtRest, Keeps, PartGoes}
+
+module _ {F U : Type 0} (tariffs : Shared F (Bor Usage × Unit {0}) Charge) (tariff : F) (rules : Shared U (Bor Standing × Unit {0}) ℕ) (rule : U) where
+  -- THE SYSTEM RUNS until nothing can step
+  pub record DidRest (old : Seen) (failure : Option Failure) (new : Seen) (before after : Option (List ℕ)) (faults faults' : ℕ) : Type 0 where
+    pub goes : PartGoes tariffs tariff rules rule IsAtRest [] [] old failure new before after
+    pub keeps : Keeps [] old failure new faults faults'
+
+  -- it does, and the count of ticks is printed
+  abbrev pub RestsAndTells : Seen → Option Failure → Seen → Option (List ℕ) → Option (List ℕ) → Type 0
+  RestsAndTells old None new before after =
+      (middle : Option (List ℕ)) × PartGoes tariffs tariff rules rule IsAtRest [] [] old None new before middle × (after ≡ with_more middle (tick_line new.count))
+  RestsAndTells old (Some failure) new before after = PartGoes tariffs tariff rules rule IsAtRest [] [] old (Some failure) new before after
+      ⊎ ((middle : Option (List ℕ)) × PartGoes tariffs tariff rules rule IsAtRest [] [] old None new before middle × HasPutPart middle (tick_line new.count) after)
+
+  pub record DidRestAndTell (old : Seen) (failure : Option Failure) (new : Seen) (before after : Option (List ℕ)) (faults faults' : ℕ) : Type 0 where
+    pub goes : RestsAndTells old failure new before after
+    pub keeps : Keeps [] old failure new faults faults'
+
+  -- AN ITEM IS TAKEN: with a time as a line of a script; without one everything runs after it until nothing can step
+  abbrev pub TakesItem : Bool → Timed → Seen → Option Failure → Seen → Option (List ℕ) → Option (List ℕ) → Type 0
+  TakesItem true next old failure new before after = HoldsGo tariffs tariff rules rule next old failure new before after
+  TakesItem false next old failure new before after = PartGoes tariffs tariff rules rule IsAtRest (next ∷ []) [] old failure new before after
+
+  pub record DidTake (timed : Bool) (next : Timed) (old : Seen) (failure : Option Failure) (new : Seen) (before after : Option (List ℕ)) (faults faults' : ℕ) : Type 0 where
+    pub goes : TakesItem timed next old failure new before after
+    pub keeps : Keeps (next ∷ []) old failure new faults faults'
