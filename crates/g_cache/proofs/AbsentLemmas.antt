@@ -1,4 +1,4 @@
--- Blocks that are known to be absent, when one is asked for, kept or written.
+-- Blocks that are known to be absent: when one is used, cached or written.
 -- serves: forget (absent, others), new, read
 use Rattle.std.proofs.Common.{◌≡◌, ◌≢◌, ◌⊎◌, ◌∙◌, ℕ, zero, suc, ◌%◌, ◌==◌, Bool, true, false, cond, List, [], ◌∷◌, take, replicate, get_or, Option, Some, None, is_some, refl, sym, ap, subst, inl, inr, arith, nat_eq, true≢false}
 use Rattle.std.proofs.lemmas.Bool.Decides.{nat_tests}
@@ -37,7 +37,7 @@ none_taken (suc n) j (e ∷ kept) none =
     let parts = none_parts (nat_eq j e.0) e.1 (kept_block j kept) none in
     first_other j e.0 e.1 (take n kept) parts.0 (none_taken n j kept parts.1)
 
--- one that isn't kept is taken out by nothing
+-- removing a block that isn't cached changes nothing
 pub missing_stays : (k : ℕ) (kept : Kept) → kept_block k kept ≡ None → kept ≡ without_block k kept
 missing_stays k [] none = refl
 missing_stays k (e ∷ kept) none =
@@ -46,7 +46,7 @@ missing_stays k (e ∷ kept) none =
 
 -- WHAT IS NOTED
 
--- a block that isn't noted is none of those that are
+-- a block that isn't noted differs from each noted one
 pub others_noted : (k : ℕ) (numbers : List (Option ℕ)) → is_noted numbers k ≡ false → (j : ℕ) → is_noted numbers j ≡ true → (j ≢ k) × (is_noted numbers j ≡ true)
 others_noted k numbers not_noted j noted = (λ same. true≢false (sym noted ∙ ap (λ (i : ℕ). is_noted numbers i) same ∙ not_noted), noted)
 
@@ -70,14 +70,14 @@ module _ (k : ℕ) (numbers : List (Option ℕ)) (kept after : Kept) (absent : A
     | inr was ↦ ap (kept_block j) others ∙ none_left (nat_eq k) j kept (absent j was)
   ]
 
-  -- one that is kept is asked for
+  -- a cached block is used
   pub absent_found : (block into : List ℕ) → kept_block k kept ≡ Some block → after ≡ (k, into) ∷ without_block k kept → AreAbsent numbers after
   absent_found block into found first = λ j is.
       let none = absent j is in
       let other : j ≢ k = λ same. true≢false (ap is_some (sym found ∙ ap (λ (i : ℕ). kept_block i kept) (sym same) ∙ none)) in
       ap (kept_block j) first ∙ first_other j k into (without_block k kept) (nat_apart j k other) (none_left (nat_eq k) j kept none)
 
-  -- one is kept that wasn't, or isn't
+  -- a block is cached, or isn't
   pub absent_kept : (noted : List (Option ℕ)) (block : List ℕ) → ((j : ℕ) → is_noted noted j ≡ true → (j ≢ k) × (is_noted numbers j ≡ true)) → (after ≡ (k, block) ∷ take 63 kept) ⊎ (after ≡ kept) → AreAbsent noted after
   absent_kept noted block step either = λ j is.
       let was = step j is in

@@ -1,4 +1,4 @@
--- What is kept behind a cache, when a block is asked for, kept or written.
+-- What is cached, when a block is used, cached or written.
 -- serves: read, write
 use Rattle.std.proofs.Common.{◌≡◌, ◌≢◌, ◌⊎◌, ◌∙◌, ℕ, List, ◌∷◌, take, length, Contains, Option, Some, None, Ok, Err, refl, sym, ap, subst, inl, inr, nat_eq, eqb-true, true≢false, length-set, slice_get}
 use Rattle.std.proofs.Math.ListN.{set}
@@ -22,7 +22,7 @@ Contains-kept_block k kept block is =
     let on = Contains-lookup (nat_eq k) kept block is in
     subst (λ (j : ℕ). Contains kept (j, block)) (sym (eqb-true k on.0 on.2)) on.1
 
--- WHAT IS KEPT IS THE DISC'S
+-- CACHED BLOCKS ARE THE DISC'S
 
 pub Agrees-found : (k : ℕ) (kept after : List (ℕ × List ℕ)) (block : List ℕ) (held : Option (List (List ℕ))) → kept_block k kept ≡ Some block
     → after ≡ (k, block) ∷ without_block k kept → Agrees kept held → Agrees after held
@@ -42,13 +42,13 @@ Agrees-first k kept after block held read either agrees = elim either [
   | inr is ↦ subst (λ (l : List (ℕ × List ℕ)). Agrees l held) (sym is) agrees
 ]
 
--- a block was read from the disc, and was kept or not
+-- a block was read from the disc, and was cached or not
 pub Agrees-read : (k : ℕ) (kept asked after : List (ℕ × List ℕ)) (block : List ℕ) (before held : Option (List (List ℕ))) → asked ≡ kept → held ≡ before
     → ForSome before (λ blocks. slice_get blocks k ≡ Some block) → (after ≡ (k, block) ∷ take 63 asked) ⊎ (after ≡ asked) → Agrees kept before → Agrees after held
 Agrees-read k kept asked after block before held missed same read either agrees =
     subst (Agrees after) (sym same) (Agrees-first k asked after block before read either (subst (λ (l : List (ℕ × List ℕ)). Agrees l before) (sym missed) agrees))
 
--- a write leaves the blocks at other places
+-- a write leaves the blocks of other numbers
 place_kept : (blocks : List (List ℕ)) (k j : ℕ) (block other : List ℕ) → j ≢ k → slice_get blocks j ≡ Some other → slice_get (set blocks k block) j ≡ Some other
 place_kept blocks k j block other apart is =
     slice_get_read (set blocks k block) (length blocks) j other (sym (length-set blocks k block)) (slice_get_within blocks j other is)
@@ -67,7 +67,7 @@ Agrees-Writes (Ok t) k from x y kept after write others gone agrees = Agrees-wit
 Agrees-Writes (Err e) k from x y kept after write others gone agrees =
     let torn = write.torn in Agrees-without_block k kept after torn.0 x.held y.held others gone torn.2 agrees
 
--- A READ OF A BLOCK THAT IS KEPT
+-- A READ OF A CACHED BLOCK
 
 module _ {D T E : Type 0} (state : D → DiscState) (k : ℕ) (kept after : List (ℕ × List ℕ)) (into : List ℕ) where
   read_kept : (disc : D) (t : T) → kept_block k kept ≡ Some into → after ≡ (k, into) ∷ without_block k kept
@@ -80,6 +80,8 @@ module _ {D T E : Type 0} (state : D → DiscState) (k : ℕ) (kept after : List
       writes = refl;
       fuse = refl;
       arms = refl;
+      volatile = refl;
+      dropped = refl;
       block = agrees (k, into) (Contains-kept_block k kept into is);
       kept = refl;
       rose = tt;

@@ -1,4 +1,4 @@
--- Blocks at places: which is found, taken out and put in, and which places stay free.
+-- Cached blocks at places: finding, adding and removing one, and which places stay free.
 -- serves: forget (gone, others), keep, recall (block, first, found, missed)
 use Rattle.std.proofs.Common.{◌≡◌, ◌≢◌, ◌∙◌, ℕ, zero, suc, ◌+◌, ◌-◌, ◌<◌, ◌≤◌, Bool, true, false, cond, List, [], ◌∷◌, ◌++◌, take, length, get_or, Option, Some, None, is_some, Result, Ok, Err, is_ok, is_err, refl, sym, ap, subst, arith, nat_eq, eqb-true, true≢false, slice_get}
 use Rattle.std.proofs.Math.ListN.{set}
@@ -50,7 +50,7 @@ set_at blocks p block [] other = refl
 set_at blocks p block (e ∷ es) other =
     λ i. (e.0, get_or-set_other blocks p e.1 block [] (All-head (λ f. f.1 ≢ p) e es other) i) ∷ set_at blocks p block es (All-tail (λ f. f.1 ≢ p) e es other) i
 
--- a block that is put at a place that no other has
+-- a block is stored at a place that holds no other
 pub put_at : (blocks : List (List ℕ)) (k p : ℕ) (block : List ℕ) (es : List (ℕ × ℕ)) → p < length blocks → All (λ e. e.1 ≢ p) (take 63 es)
     → kept_at (set blocks p block) ((k, p) ∷ take 63 es) ≡ (k, block) ∷ take 63 (kept_at blocks es)
 put_at blocks k p block es within other =
@@ -123,7 +123,7 @@ module _ (test : ℕ → Bool) where
         | false ↦ λ is. place_holds P es p is (All-tail (λ f. P f.1) e es all)
       ] found
 
--- a place that no block has goes first
+-- an unused place moves to the front
 apart_first : (k p : ℕ) (es : List (ℕ × ℕ)) → Lacks p es → Apart es → Apart ((k, p) ∷ es)
 apart_first k p es lacks apart = AllPairs-cons (λ (d e : ℕ × ℕ). d.1 ≢ e.1) (k, p) es (All-weaker (λ e. e.1 ≢ p) (λ e. p ≢ e.1) (λ e h same. h (sym same)) es lacks) apart
 
@@ -133,7 +133,7 @@ apart_taken n es within apart = λ i j d lower inside same.
     apart i j d lower (omega (arith, inside, len)) (ap (λ (e : ℕ × ℕ). e.1) (sym (get_or-take n es i d (omega (arith, lower, inside, len)))) ∙ same ∙ ap (λ (e : ℕ × ℕ). e.1) (get_or-take n es j d (omega (arith, inside, len))))
 
 module _ (cap : ℕ) (es : List (ℕ × ℕ)) (free : List ℕ) (blocks : List (List ℕ)) (are : ArePlaces cap es free blocks) where
-  -- a block that is asked for goes first
+  -- a block that is used moves to the front
   pub recalled_places : (k p : ℕ) → lookup (nat_eq k) es ≡ Some p → ArePlaces cap ((k, p) ∷ remove_entry (nat_eq k) es) free blocks
   recalled_places k p found =
       let left = remove_entry (nat_eq k) es in
@@ -151,7 +151,7 @@ module _ (cap : ℕ) (es : List (ℕ × ℕ)) (free : List ℕ) (blocks : List (
             free are.unused;
       }
 
-  -- the place of a block that is kept no more is free
+  -- the place of a dropped block is free
   pub forgotten_places : (k p : ℕ) → lookup (nat_eq k) es ≡ Some p → ArePlaces cap (remove_entry (nat_eq k) es) (free ++ p ∷ []) blocks
   forgotten_places k p found =
       let left = remove_entry (nat_eq k) es in
@@ -170,7 +170,7 @@ module _ (cap : ℕ) (es : List (ℕ × ℕ)) (free : List ℕ) (blocks : List (
             (All-cons (λ q. Lacks q left) p [] (place_lacks (nat_eq k) es p are.apart found) (All-nil (λ q. Lacks q left)));
       }
 
-  -- a block comes to a free place
+  -- a block is stored at a free place
   module _ (rest : List ℕ) (p : ℕ) (is : free ≡ rest ++ p ∷ []) where
     few : length es + length rest ≡ 63
     few = let counted = are.counted in let len = ap length is ∙ length-append rest (p ∷ []) in omega (arith, counted, len)
@@ -211,7 +211,7 @@ module _ (cap : ℕ) (es : List (ℕ × ℕ)) (free : List ℕ) (blocks : List (
               (λ same. are.distinct i (length rest) d within all (at_rest i d within ∙ sym same ∙ sym (last_is d))) lack);
         }
 
-  -- a block comes to the place of the one that is pushed out
+  -- a block is stored at the place of the one that it evicts
   module _ (none : free ≡ []) (last : ℕ × ℕ) (is : slice_get es (length es - 1) ≡ Some last) where
     all_kept : length es ≡ 64
     all_kept = let counted = are.counted in let len = ap length none in omega (arith, counted, len)
@@ -292,7 +292,7 @@ module _ (c after : LruCache ℕ ℕ) (free : List ℕ) (blocks : List (List ℕ
       subst (λ es. ArePlaces after.cap es rest (set blocks p block)) (sym put_entries_are)
       (subst (λ n. ArePlaces n ((k, p) ∷ take 63 c.entries) rest (set blocks p block)) (sym (ap (λ (d : LruCache ℕ ℕ). d.cap) done)) so)
 
--- asking for a block
+-- finding a block
 
 module _ (c after : LruCache ℕ ℕ) (free : List ℕ) (blocks : List (List ℕ)) (are : ArePlaces c.cap c.entries free blocks) (kept : List (ℕ × List ℕ)) (view : kept_at blocks c.entries ≡ kept) (k : ℕ)
     (done : after ≡ lru_cache (promoted (nat_eq k) c.entries) c.cap) where
@@ -326,7 +326,7 @@ module _ (c after : LruCache ℕ ℕ) (free : List ℕ) (blocks : List (List ℕ
       let size = are.size in
       omega (arith, below, size)
 
--- keeping one no more
+-- dropping a block
 
 remove_none : (test : ℕ → Bool) (es : List (ℕ × ℕ)) → lookup test es ≡ None → remove_entry test es ≡ es
 remove_none test [] none = refl
@@ -358,7 +358,7 @@ module _ (c after : LruCache ℕ ℕ) (free : List ℕ) (blocks : List (List ℕ
   pub forget_others : kept_at blocks after.entries ≡ without_block k kept
   forget_others = ap (λ (d : LruCache ℕ ℕ). kept_at blocks d.entries) done ∙ sym (without_at blocks k c.entries) ∙ ap (without_block k) view
 
--- what a result says
+-- what a result means
 
 pub on_ok : {A E P : Type 0} (r : Result A E) → is_err r ≡ false → OnOk r P → P
 on_ok (Ok a) e p = p

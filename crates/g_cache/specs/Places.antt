@@ -1,11 +1,11 @@
--- Where the blocks lie that are kept, and which places are free.
+-- Where the cached blocks lie, and which places are free.
 use Rattle.std.specs.Prelude.{◌≡◌, ◌≢◌, ℕ, ◌+◌, ◌<◌, [], List, All, AllPairs, length, map, slice_index_or}
 
--- the blocks that are kept, by their places
+-- the cached blocks, from their places
 abbrev pub kept_at : List (List ℕ) → List (ℕ × ℕ) → List (ℕ × List ℕ)
 kept_at blocks places = map (λ e. (e.0, slice_index_or blocks e.1 [])) places
 
--- each of 64 places has a block that is kept, or is free
+-- each of 64 places holds a cached block, or is free
 pub record ArePlaces (cap : ℕ) (places : List (ℕ × ℕ)) (free : List ℕ) (blocks : List (List ℕ)) : Type 0 where
   pub room : cap ≡ 64
   pub size : length blocks ≡ 64

@@ -1,11 +1,11 @@
-//! Numbers of blocks that aren't kept, so that they needn't be looked for.
+//! Numbers of blocks that aren't cached, so that the cache needn't be searched for them.
 ghost use Rattle.std.specs.Prelude.{◌≡◌, ◌≢◌, ◌⊎◌, ℕ, true, false};
 ghost use Rattle.g_cache.specs.Absent.{is_noted};
 
 use std::marker::Model;
 
-/// Blocks that are known not to be kept, at most one for each remainder by 67. Those that are written again and again stand
-/// here nearly always: the heads of both slots, 1,088 blocks apart, have remainders of their own.
+/// Blocks that are known not to be cached, at most one for each remainder modulo 67. The heads of both slots, which are written
+/// most often, lie 1,088 blocks apart and have different remainders, so both are nearly always here.
 #[derive(Drop)]
 pub(crate) struct AbsentBlocks {
     blocks: [Option<u32>; 67],
@@ -37,14 +37,14 @@ impl AbsentBlocks {
         }
     }
 
-    /// Notes block k, in the place of any other of its remainder.
+    /// Notes block k, and replaces any other block with its remainder.
     pub fn note(&mut self, k: u32)
         ensures { (j : ℕ) → is_noted self.new j ≡ true → (j ≡ k) ⊎ (is_noted self.old j ≡ true) }
     {
         self.blocks[k as usize % 67] = Some(k);
     }
 
-    /// Block k is noted no more, if it was.
+    /// Removes block k, if it is noted.
     pub fn strike(&mut self, k: u32)
         ensures { (j : ℕ) → is_noted self.new j ≡ true → (j ≢ k) × (is_noted self.old j ≡ true) }
     {

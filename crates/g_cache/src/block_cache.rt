@@ -1,4 +1,4 @@
-//! Blocks that are kept in memory, the ones asked for last.
+//! Blocks cached in memory; the least recently used one is evicted first.
 ghost use Rattle.std.specs.Prelude.{◌≡◌, ◌<◌, ◌⊎◌, ℕ, [], ◌∷◌, IfOk, None, Some, is_some, length, slice_index_or, take, true, false};
 ghost use Rattle.g_cache.specs.CachedDisc.{kept_block, without_block};
 
@@ -9,8 +9,8 @@ use std::alloc::Global;
 use std::marker::Model;
 use std::num::NonZeroUsize;
 
-/// At most 64 blocks with their numbers. Contracts see a list, the one asked for last first. A block
-/// stays at its place from when it is kept until it is kept no more: the places go by use, and no
+/// At most 64 blocks with their numbers. Contracts see a list, the most recently used block first. A block
+/// stays at its place from when it is cached until it is dropped: only the places are ordered by use, and no
 /// block moves.
 #[derive(Drop)]
 pub(crate) struct BlockCache {
@@ -31,7 +31,7 @@ impl Model for BlockCache {
 }
 
 impl BlockCache {
-    /// No block, and the memory for 64.
+    /// An empty cache. Allocates the memory for 64 blocks.
     pub fn new(alloc: Global) -> Result<BlockCache, NoMemory>
         ensures { IfOk result (λ c. c ≡ []) }
     {
@@ -44,8 +44,8 @@ impl BlockCache {
         })
     }
 
-    /// Whether block k is kept; then it is copied, and is the one asked for last. Where it isn't, all
-    /// stays as it was, `into` too.
+    /// Whether block k is cached. If it is, it is copied into `into`, and is now the most recently used. If it isn't,
+    /// neither the cache nor `into` changes.
     pub fn recall(&mut self, k: u32, into: &mut Block) -> bool
         ensures found { result ≡ is_some (kept_block k self.old) }
         ensures block { result ≡ true → kept_block k self.old ≡ Some into.new }
@@ -62,7 +62,7 @@ impl BlockCache {
         }
     }
 
-    /// Keeps block k, which wasn't kept, as the one asked for last, unless there is no memory for it.
+    /// Caches block k, which wasn't cached, as the most recently used, unless memory for it runs out.
     pub fn keep(&mut self, k: u32, block: &Block)
         requires { kept_block k self.old ≡ None }
         ensures { (self.new ≡ (k, block.now) ∷ take 63 self.old) ⊎ (self.new ≡ self.old) }
@@ -84,12 +84,12 @@ impl BlockCache {
         }
     }
 
-    /// Keeps block k no more, and all else as it was.
+    /// Drops block k, if it is cached. All others stay.
     pub fn forget(&mut self, k: u32)
         ensures gone { kept_block k self.new ≡ None }
         ensures others { self.new ≡ without_block k self.old }
     {
-        // Its clause says that no number is kept twice.
+        // Its clause says that no number is cached twice.
         let _len = self.places.len();
         if let Some(place) = self.places.pop(&k) {
             if self.free.try_push(place).is_err() {

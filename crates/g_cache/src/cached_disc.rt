@@ -1,8 +1,9 @@
-//! A disc that is read through a cache.
+//! A disc with a cache.
 ghost use Rattle.std.specs.Prelude.{◌≡◌, ◌<◌, ◌≤◌, [], IfErr, IfOk, None, Some};
 ghost use Rattle.g_base.specs.Fuse.{armed_with};
 ghost use Rattle.g_cache.specs.Absent.{AreAbsent};
 ghost use Rattle.g_cache.specs.CachedDisc.{CachedReads, CachedWrites, cached_with, kept_block, without_block};
+ghost use Rattle.g_disc.specs.Disc.{Secures};
 
 use crate::absent::AbsentBlocks;
 use crate::block_cache::BlockCache;
@@ -11,13 +12,13 @@ use g_disc::{Disc, ReadFailed, WriteFailed};
 use std::alloc::Global;
 use std::marker::Model;
 
-/// A disc that is read through a cache of 64 blocks, the ones asked for last. It answers as the disc
-/// below would, which it owns. A write goes through to that disc and takes the block out of the cache.
+/// A disc with a cache of the 64 blocks that were used last. It owns the disc below, and answers as that disc
+/// would. A write goes through to the disc below and drops the block from the cache.
 #[derive(Drop)]
 pub struct CachedDisc<D: Disc> {
     disc: D,
     cache: BlockCache,
-    /// Blocks that the cache hasn't, so that a write needn't look for them there.
+    /// Blocks that aren't cached, so that a write needn't search the cache for them.
     absent: AbsentBlocks,
 }
 
@@ -35,8 +36,7 @@ impl<D: Disc> Model for CachedDisc<D> {
 }
 
 impl<D: Disc> CachedDisc<D> {
-    /// Puts an empty cache before the disc. Where there is no memory for it, the disc comes back as it
-    /// was.
+    /// Adds an empty cache to the disc. If memory runs out, the disc is returned unchanged.
     pub fn new(alloc: Global, disc: D) -> Result<CachedDisc<D>, (NoMemory, D)>
         ensures empty { IfOk result (λ c. c ≡ cached_with disc []) }
         ensures unchanged { IfErr result (λ e. e.1 ≡ disc) }
@@ -51,7 +51,7 @@ impl<D: Disc> CachedDisc<D> {
         }
     }
 
-    /// The disc below, as it then is.
+    /// The disc below.
     pub fn into_disc(self) -> D
         ensures { result ≡ self.disc }
     {
@@ -66,9 +66,9 @@ impl<D: Disc> Disc for CachedDisc<D> {
         self.disc.size()
     }
 
-    /// Reads block k. One that is kept is the answer, and the disc below isn't asked. A block that was
-    /// written since it was read last isn't kept yet: it may be written again before it is read again.
-    /// Where there is no memory to keep a block that was read, it is the answer all the same.
+    /// Reads block k, from the cache if it is there, otherwise from the disc below. A block that was
+    /// written since its last read isn't cached yet, because it may be written again before the next read.
+    /// If memory to cache a block runs out, it is returned all the same.
     fn read(&mut self, k: u32, into: &mut Block) -> Result<(), ReadFailed>
         requires { k < (D.state self.old.disc).size }
         ensures { CachedReads D.state k into.new self.old self.new result }
@@ -85,7 +85,16 @@ impl<D: Disc> Disc for CachedDisc<D> {
         Ok(())
     }
 
-    /// Writes block k through to the disc below. Whether that fails or not, the block is kept no more.
+    /// Makes the gate durable on the disc below. The cached blocks stay, since no block's content changes.
+    fn secure(&mut self) -> Result<(), ReadFailed>
+        requires { 0 < (D.state self.old.disc).size }
+        ensures secured { Secures (D.state self.old.disc) (D.state self.new.disc) result }
+        ensures kept { self.new.kept ≡ self.old.kept }
+    {
+        self.disc.secure()
+    }
+
+    /// Writes block k through to the disc below. Whether or not that fails, the block isn't cached afterwards.
     fn write(&mut self, k: u32, from: &Block) -> Result<(), WriteFailed>
         requires { k < (D.state self.old.disc).size }
         ensures { CachedWrites D.state k from.now self.old self.new result }
@@ -104,7 +113,7 @@ impl<D: Disc> Disc for CachedDisc<D> {
     }
 }
 
-/// Keeps block k no more, and looks for it only where it isn't known to be absent; then it is.
+/// Drops block k from the cache, and notes it as absent. Searches for it only if it isn't noted already.
 fn forget(cache: &mut BlockCache, absent: &mut AbsentBlocks, k: u32)
     requires { AreAbsent absent.old cache.old }
     ensures gone { kept_block k cache.new ≡ None }

@@ -1,4 +1,4 @@
-//! A disc behind a cache: what was read last is kept, so that it needn't be read again.
+//! A disc with a cache of the blocks that were read last.
 #![tactic(auto)]
 
 mod absent;

@@ -1,4 +1,4 @@
--- What is read from the copy area.
+-- Blocks of the copy area.
 -- serves: copies_stay
 use Rattle.std.proofs.Common.{◌≡◌, ℕ, ◌+◌, ◌-◌, ◌≤◌, List, [], ◌∷◌, ◌++◌, take, drop, refl, sym, ◌∙◌, ap, arith}
 use Rattle.std.specs.Prelude.{All, slice_index_or}

@@ -20,7 +20,7 @@ block-clipped bytes i =
     let long : min (s + 512) (length bytes) - s ≡ min 512 (length (drop s bytes)) = omega arith in
     ap (λ (n : ℕ). take n (drop s bytes)) long ∙ take_min 512 (drop s bytes) ∙ ap (take 512) (drop_min (512 * i) bytes)
 
--- what is taken of two texts, one behind the other
+-- the first n bytes of two concatenated texts
 pub take-append : (n : ℕ) (xs ys : List ℕ) → take n (xs ++ ys) ≡ take n xs ++ take (n - length xs) ys
 take-append n xs ys =
     elim (cases_lt n (length xs)) [
@@ -32,7 +32,7 @@ take-append n xs ys =
           ap (λ (m : ℕ). take m (xs ++ ys)) sum ∙ take-append-add xs ys (n - length xs) ∙ ap (λ (zs : List ℕ). zs ++ take (n - length xs) ys) (sym (take_all n xs past))
     ]
 
--- what is left of two texts behind the first n bytes
+-- two concatenated texts without their first n bytes
 pub drop-append : (n : ℕ) (xs ys : List ℕ) → drop n (xs ++ ys) ≡ drop n xs ++ drop (n - length xs) ys
 drop-append n xs ys =
     elim (cases_lt n (length xs)) [
@@ -44,17 +44,17 @@ drop-append n xs ys =
           ap (λ (m : ℕ). drop m (xs ++ ys)) sum ∙ drop-append-add xs ys (n - length xs) ∙ ap (λ (zs : List ℕ). zs ++ drop (n - length xs) ys) (sym (drop_all n xs past))
     ]
 
--- a text with zeros behind it, without its first s bytes
+-- a text padded with zeros, without its first s bytes
 drop_padded : (bytes : List ℕ) (zeros s : ℕ) → drop s (bytes ++ replicate zeros 0) ≡ drop s bytes ++ replicate (zeros - (s - length bytes)) 0
 drop_padded bytes zeros s =
     drop-append s bytes (replicate zeros 0) ∙ ap (λ (zs : List ℕ). drop s bytes ++ zs) (drop-replicate (s - length bytes) zeros 0)
 
--- the first block of a text with zeros enough behind it
+-- the first block of a text with enough zeros after it
 take_padded : (part : List ℕ) (zeros : ℕ) → 512 - length part ≤ zeros → take 512 (part ++ replicate zeros 0) ≡ take 512 part ++ replicate (512 - length part) 0
 take_padded part zeros room =
     take-append 512 part (replicate zeros 0) ∙ ap (λ (zs : List ℕ). take 512 part ++ zs) (take-replicate (512 - length part) zeros 0 room)
 
--- a text cut to a block wants as many zeros as the text itself
+-- a text cut to a block needs as many zeros as the text itself
 padded_cut : (part : List ℕ) → padded 512 (take 512 part) ≡ take 512 part ++ replicate (512 - length part) 0
 unfolding padded
 padded_cut part =
@@ -62,7 +62,7 @@ padded_cut part =
     let short : 512 - length (take 512 part) ≡ 512 - length part = omega arith in
     ap (λ (m : ℕ). take 512 part ++ replicate {A = ℕ} m 0) short
 
--- block i of the bytes with zeros behind them is block i of the bytes, with zeros behind it
+-- block i of the padded bytes is block i of the bytes, padded
 pub block-padded : (bytes : List ℕ) (n i : ℕ) → i < n → length bytes ≤ 512 * n → padded 512 (take 512 (drop (512 * i) bytes)) ≡ take 512 (drop (512 * i) (padded (512 * n) bytes))
 unfolding padded
 block-padded bytes n i within fits =
@@ -72,7 +72,7 @@ block-padded bytes n i within fits =
     ap (take 512) (drop_padded bytes (512 * n - length bytes) (512 * i))
     ∙ take_padded (drop (512 * i) bytes) (512 * n - length bytes - (512 * i - length bytes)) (omega arith))
 
--- a write into a block of another number leaves what stands at these
+-- a write into another block leaves these unchanged
 pub blocks_at-set_other : (places : List ℕ) (blocks : List (List ℕ)) (k : ℕ) (v : List ℕ) → All (λ p. p ≢ k) places → blocks_at places (set blocks k v) ≡ blocks_at places blocks
 unfolding blocks_at
 blocks_at-set_other [] blocks k v other = refl
@@ -81,14 +81,14 @@ blocks_at-set_other (p ∷ places) blocks k v other =
     let rest : blocks_at places (set blocks k v) ≡ blocks_at places blocks = blocks_at-set_other places blocks k v (λ j d within. other (suc j) d (omega arith)) in
     ap (λ (h : List ℕ). h ++ blocks_at places (set blocks k v)) head ∙ ap (λ (r : List ℕ). slice_index_or blocks p [] ++ r) rest
 
--- what stands at one number more
+-- one more block
 pub blocks_at-more : (places : List ℕ) (n : ℕ) (blocks : List (List ℕ)) → n < length places → blocks_at (take (n + 1) places) blocks ≡ blocks_at (take n places) blocks ++ slice_index_or blocks (get_or places n 0) []
 unfolding blocks_at
 blocks_at-more places n blocks within =
     let at : ℕ → List ℕ = λ k. slice_index_or blocks k [] in
     ap (flat_map at) (take_more places n 0 within) ∙ flat_map-append at (take n places) (get_or places n 0 ∷ []) ∙ ap (λ (zs : List ℕ). flat_map at (take n places) ++ zs) (append-nil (at (get_or places n 0)))
 
--- what stands at numbers none of which changed
+-- blocks none of which changed
 pub blocks_at-OnlyAt : (places others : List ℕ) (before after : List (List ℕ)) → OnlyAt places before after → All (λ k. Contains places k → ⊥) others → blocks_at others after ≡ blocks_at others before
 unfolding blocks_at
 blocks_at-OnlyAt places [] before after only apart = refl

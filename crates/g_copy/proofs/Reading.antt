@@ -1,4 +1,4 @@
--- Blocks that are read one behind the other from those of given numbers.
+-- Blocks that are read one after the other at given numbers.
 -- serves: read_copy (text)
 use Rattle.std.proofs.Common.{◌≡◌, ℕ, ◌+◌, ◌-◌, ◌*◌, ◌<◌, ◌≤◌, min, List, [], ◌++◌, length, take, get_or, Some, Ok, sym, ap, ◌∙◌, arith, length-append}
 use Rattle.std.specs.Prelude.{slice_index_or}

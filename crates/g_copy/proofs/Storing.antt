@@ -8,7 +8,7 @@ use Rattle.g_blocks.specs.Pool.{AreLeastFree}
 use Rattle.g_copy.specs.declared.copy.DiscCopy.{DiscCopy}
 use Rattle.g_copy.specs.Copy.{IsCopy}
 
--- as many free blocks as the bytes take, each once
+-- as many free blocks as the bytes need, each once
 pub IsCopy-from_free : (pool : List Bool) (size : ℕ) (copy : DiscCopy) → 2177 + length pool ≡ size → AreLeastFree pool (blocks_for copy.len) copy.blocks → IsCopy size copy
 IsCopy-from_free pool size copy whole free = record {
   count = free.count;

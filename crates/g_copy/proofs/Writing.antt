@@ -1,22 +1,24 @@
--- Blocks that are written one behind the other into those of given numbers.
--- serves: write_copy (ok, stopped)
-use Rattle.std.proofs.Common.{◌≡◌, ◌≢◌, ℕ, ◌+◌, ◌-◌, ◌*◌, ◌<◌, ◌≤◌, List, [], ◌++◌, length, take, drop, get_or, replicate, Some, Ok, Err, length-append, refl, sym, ap, subst, ◌∙◌, arith, length-set}
-use Rattle.std.specs.Prelude.{All, AllPairs, Contains, slice_index_or}
+-- Blocks that are written one after the other at given numbers.
+-- serves: write_copy (dirties, ok, stopped)
+use Rattle.std.proofs.Common.{◌≡◌, ◌≢◌, ℕ, ◌+◌, ◌-◌, ◌*◌, ◌<◌, ◌≤◌, List, [], ◌++◌, length, take, drop, get_or, replicate, Some, Ok, Err, length-append, inl, inr, refl, sym, ap, subst, ◌∙◌, arith, length-set}
+use Rattle.std.specs.Prelude.{◌⊎◌, All, AllPairs, Contains, Result, slice_index_or, true}
 use Rattle.std.proofs.Math.ListN.{set}
 use Rattle.std.proofs.Math.Seq.{take-add}
+use Rattle.std.proofs.lemmas.Bool.{cases_lt}
 use Rattle.std.proofs.lemmas.List.{get_or_default, get_or-take, length-take, get_or-set_same, take_all, take_at, length-replicate}
 use Rattle.g_base.specs.Counts.{RoseBy}
 use Rattle.g_base.specs.Fields.{padded}
 use Rattle.g_base.specs.ToldContent.{Changes}
 use Rattle.g_base.proofs.CountLemmas.{RoseBy-none, RoseBy-one, RoseBy-then}
 use Rattle.g_base.proofs.ToldLemmas.{Changes-none, Changes-then, Changes-with_block, Changes-weaken}
-use Rattle.g_disc.specs.Disc.{DiscState, Writes}
+use Rattle.g_disc.specs.Disc.{DiscState, StaySyncable, Writes, is_durable, is_syncable}
+use Rattle.g_disc.specs.Durable.{DirtiesOnly}
 use Rattle.g_disc.proofs.CallLemmas.{more_later, stands_later, then_later}
 use Rattle.g_copy.specs.Copy.{OnlyAt, Holds, blocks_at}
 use Rattle.g_blocks.proofs.Marks.{slice_get-set_other}
 use Rattle.g_copy.proofs.Blocks.{block-padded, blocks_at-set_other, blocks_at-more}
 
--- the first n of the blocks hold their part of the bytes, and nothing else changed
+-- the first n of the blocks hold their part of the bytes, and no other block has changed
 pub record HoldsTo (n : ℕ) (places bytes : List ℕ) (before after : List (List ℕ)) : Type 0 where
   pub only : OnlyAt places before after
   pub blocks_are : blocks_at (take n places) after ≡ take (512 * n) (padded (512 * length places) bytes)
@@ -30,6 +32,9 @@ pub record Written (n : ℕ) (places bytes : List ℕ) (before after : DiscState
   pub arms : after.arms ≡ before.arms
   pub writes : RoseBy n before.writes after.writes
   pub later : before.writes ≤ after.writes
+  pub durable : (j : ℕ) → (Contains places j → ⊥) → is_durable before j ≡ true → is_durable after j ≡ true
+  pub syncable : StaySyncable before after
+  pub here : (i : ℕ) → i < n → is_syncable after (get_or places i 0) ≡ true
 
 only_none : (places : List ℕ) (b : List (List ℕ)) → OnlyAt places b b
 only_none places b = record { size = refl; others = λ k other. refl }
@@ -37,6 +42,9 @@ only_none places b = record { size = refl; others = λ k other. refl }
 -- a number of the list is in it
 contains_at : (places : List ℕ) (n : ℕ) → n < length places → Contains places (get_or places n 0)
 contains_at places n within = (n, within, get_or_default places n (get_or places n 0) 0 within)
+
+outside_at : (places : List ℕ) (n j : ℕ) → n < length places → (Contains places j → ⊥) → j ≢ get_or places n 0
+outside_at places n j within outside same = outside (subst (Contains places) (sym same) (contains_at places n within))
 
 -- one write at a number of the list
 pub only_more : (places : List ℕ) (n : ℕ) (v : List ℕ) (a b : List (List ℕ)) → n < length places → OnlyAt places a b → OnlyAt places a (set b (get_or places n 0) v)
@@ -80,6 +88,9 @@ written_none places bytes s = record {
   arms = refl;
   writes = RoseBy-none refl;
   later = stands_later refl;
+  durable = λ j outside was. was;
+  syncable = λ j was. was;
+  here = λ i below. absurd (omega (arith, below));
 }
 
 -- the next block was written
@@ -95,7 +106,15 @@ written_more n places bytes before mid after x within fits apart inside was writ
   arms = write.arms ∙ was.arms;
   writes = RoseBy-then was.writes (RoseBy-one write.writes);
   later = then_later was.later (more_later write.writes);
+  durable = λ j outside is. write.durable j (outside_at places n j within outside) (was.durable j outside is);
+  syncable = λ j is. write.syncable j (was.syncable j is);
+  here = λ i below. by i (cases_lt i n) below;
 }
+  where
+    by : (i : ℕ) → (i < n) ⊎ (n ≤ i) → i < n + 1 → is_syncable after (get_or places i 0) ≡ true
+    by i (inl low) below = write.syncable (get_or places i 0) (was.here i low)
+    by i (inr high) below =
+        let same : n ≡ i = omega (arith, high, below) in subst (λ (m : ℕ). is_syncable after (get_or places m 0) ≡ true) same write.here
 
 -- the next write failed
 pub written_torn : {T E : Type 0} (n : ℕ) (places bytes : List ℕ) (from : List ℕ) (before mid after : DiscState) (e : E) → n < length places → Written n places bytes before mid
@@ -103,6 +122,24 @@ pub written_torn : {T E : Type 0} (n : ℕ) (places bytes : List ℕ) (from : Li
 written_torn n places bytes from before mid after e within was write =
     Changes-then was.content (Changes-with_block (λ b c. c ≡ set b (get_or places n 0) write.torn.0) _ _ mid.held after.held write.torn.2 (λ b told. refl))
     (λ a b c told one two. subst (OnlyAt places a) (sym two) (only_more places n write.torn.0 a b within one.only))
+
+-- and what it leaves durable
+pub dirties_torn : {T E F : Type 0} (n : ℕ) (places bytes : List ℕ) (from : List ℕ) (before mid after : DiscState) (e : E) (f : F) → n < length places → Written n places bytes before mid
+    → Writes {T = T} {E = E} (get_or places n 0) from mid after (Err e) → DirtiesOnly {T = T} {E = F} (Contains places) before after (Err f)
+dirties_torn n places bytes from before mid after e f within was write = record {
+  durable = λ j outside is. write.durable j (outside_at places n j within outside) (was.durable j outside is);
+  syncable = tt;
+  here = tt;
+}
+
+-- all blocks were written, and are syncable
+pub dirties_all : {T E : Type 0} (places bytes : List ℕ) (before after : DiscState) (t : T) → Written (length places) places bytes before after
+    → DirtiesOnly {T = T} {E = E} (Contains places) before after (Ok t)
+dirties_all places bytes before after t was = record {
+  durable = was.durable;
+  syncable = was.syncable;
+  here = λ j within. subst (λ (k : ℕ). is_syncable after k ≡ true) (get_or_default places within.0 0 j within.1 ∙ within.2) (was.here within.0 within.1);
+}
 
 -- all were written
 pub written_all : (places bytes : List ℕ) (before after : DiscState) → length bytes ≤ 512 * length places → Written (length places) places bytes before after → Changes (Holds places bytes) before.held after.held

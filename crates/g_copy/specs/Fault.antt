@@ -1,4 +1,4 @@
--- What a fault of the pool is to a copy.
+-- The fault of a copy that a fault of the pool becomes.
 use Rattle.g_blocks.specs.declared.pool.PoolFault.{PoolFault}
 use Rattle.g_blocks.specs.declared.pool.PoolFault.TheVariants as pool
 use Rattle.g_copy.specs.declared.fault.CopyFault.{CopyFault}

@@ -1,4 +1,4 @@
-//! Where a text's copy stands.
+//! Where a text's copy lies on a disc.
 ghost use Rattle.std.specs.Prelude.{◌≡◌};
 
 use g_base::BlockList;
@@ -11,7 +11,7 @@ pub struct DiscCopy {
 }
 
 impl DiscCopy {
-    /// The same copy once more, which takes no memory.
+    /// A clone, which allocates no memory.
     pub fn copy(&self) -> DiscCopy
         ensures { result ≡ self.now }
     {

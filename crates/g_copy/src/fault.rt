@@ -1,4 +1,4 @@
-//! What can stand in the way of a copy.
+//! Why a copy can't be written or read.
 use g_blocks::PoolFault;
 use std::alloc::AllocError;
 use thiserror::Error;
@@ -6,7 +6,7 @@ use thiserror::Error;
 /// Why a copy was not written or not read.
 #[derive(Clone, Copy, Debug, PartialEq, Eq, Error)]
 pub enum CopyFault {
-    /// The text takes `need` blocks, and only `room` are free.
+    /// The text needs `need` blocks, and only `room` are free.
     #[error("{need} blocks are needed and {room} are free")]
     DiscFull { need: u32, room: u32 },
     /// A read of the disc failed.
@@ -15,7 +15,7 @@ pub enum CopyFault {
     /// A write of the disc failed.
     #[error("the disc could not be written")]
     Stopped,
-    /// The memory was refused.
+    /// Memory ran out.
     #[error("out of memory")]
     NoMemory,
 }

@@ -1,7 +1,7 @@
-//! Laws of copies on disc. They do nothing; their clauses say what holds of every disc.
+//! A law about copies on disc. It has no code; its clause holds for every disc.
 ghost use Rattle.g_copy.specs.Laws.{CopiesStay};
 
-/// Where the copy area is as it was, the bytes at places of it are as they were.
+/// If the copy area is unchanged, so are the bytes of every copy.
 pub fn copies_stay()
     ensures { CopiesStay }
 {}

@@ -10,7 +10,7 @@ use g_disc::Disc;
 use g_name::Text;
 use std::alloc::Global;
 
-/// The bytes of a copy, read from the disc. It answers `ReadFault` or `NoMemory` alone.
+/// The bytes of a copy, read from the disc. The only errors are `ReadFault` and `NoMemory`.
 pub fn read_copy<D: Disc>(alloc: Global, disc: &mut D, copy: &DiscCopy) -> Result<Text, CopyFault>
     requires size { 2177 < (D.state disc.old).size }
     requires copy { IsCopy (D.state disc.old).size copy.now }

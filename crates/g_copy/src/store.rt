@@ -1,11 +1,12 @@
-//! Stores a text in free blocks, and gives the blocks of a copy back.
-ghost use Rattle.std.specs.Prelude.{◌≡◌, ◌≢◌, ◌+◌, ◌<◌, ◌≤◌, ◌⊎◌, ◌↔◌, All, AllPairs, Err, IfErr, IfOk, IsErr, IsErrOf, length};
+//! Stores a text in free blocks, and returns the blocks of a copy to the pool.
+ghost use Rattle.std.specs.Prelude.{◌≡◌, ◌≢◌, ◌+◌, ◌<◌, ◌≤◌, ◌⊎◌, ◌↔◌, All, AllPairs, Contains, Err, IfErr, IfOk, IsErr, IsErrOf, length};
 ghost use Rattle.g_base.specs.Block as block;
 ghost use Rattle.g_base.specs.Counts.{RoseBy};
 ghost use Rattle.g_base.specs.Limits.{max_file_blocks, max_file_bytes};
 ghost use Rattle.g_base.specs.ToldContent.{Changes};
 ghost use Rattle.g_blocks.specs.Pool.{HasGiven, IsTaken, free_count};
 ghost use Rattle.g_disc.specs.Disc.{Causes};
+ghost use Rattle.g_disc.specs.Durable.{DirtiesOnly};
 ghost use Rattle.g_copy.specs.Copy.{Holds, IsCopy};
 ghost use Rattle.g_copy.specs.Store.{StopsIn, Takes};
 
@@ -17,9 +18,9 @@ use g_blocks::Pool;
 use g_disc::Disc;
 use std::alloc::Global;
 
-/// Stores the bytes in the least free blocks of the pool, which is that of this disc. The blocks are
-/// looked for first: with `DiscFull` and `NoMemory` neither the disc nor the pool changes. With
-/// `Stopped` the blocks stay taken, and hold anything.
+/// Stores the bytes in the lowest free blocks of the pool, which is that of this disc. The blocks are taken
+/// from the pool first: on `DiscFull` and `NoMemory` neither the disc nor the pool changes. On `Stopped`
+/// the blocks stay taken, and may hold anything.
 pub fn store_copy<D: Disc>(
     alloc: Global,
     disc: &mut D,
@@ -36,8 +37,10 @@ pub fn store_copy<D: Disc>(
         Changes (Holds copy.blocks bytes.now) (D.state disc.old).held (D.state disc.new).held) }
     ensures writes { IfOk result (λ copy.
         RoseBy (length copy.blocks) (D.state disc.old).writes (D.state disc.new).writes) }
+    ensures dirties { IfOk result (λ copy.
+        DirtiesOnly (Contains copy.blocks) (D.state disc.old) (D.state disc.new) result) }
 
-    // A full disc is told exactly, and before anything is written.
+    // A full disc is reported exactly, and before anything is written.
     ensures full { IsErrOf result (CopyFault.DiscFull (block.blocks_for (length bytes.now)) (free_count pool.old))
         ↔ (free_count pool.old < block.blocks_for (length bytes.now)) }
     ensures unchanged { IfErr result (λ e. e ≢ CopyFault.Stopped
@@ -66,7 +69,7 @@ fn list_of(numbers: &[u32]) -> BlockList
     BlockList::from_slice(numbers).unwrap()
 }
 
-/// Gives the blocks of a copy back to the pool.
+/// Returns the blocks of a copy to the pool.
 pub fn drop_copy(pool: &mut Pool, copy: &DiscCopy)
     requires apart { AllPairs (λ j k. j ≢ k) copy.now.blocks }
     requires taken { All (IsTaken pool.old) copy.now.blocks }

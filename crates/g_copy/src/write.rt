@@ -1,7 +1,8 @@
 //! Writes a text into the blocks of its copy.
-ghost use Rattle.std.specs.Prelude.{◌≡◌, ◌*◌, ◌^◌, ◌<◌, OnErr, OnOk, Err, drop, length, take};
+ghost use Rattle.std.specs.Prelude.{◌≡◌, ◌*◌, ◌^◌, ◌<◌, Contains, OnErr, OnOk, Err, drop, length, take};
 ghost use Rattle.g_base.specs.ToldContent.{Changes};
 ghost use Rattle.g_disc.specs.Disc.{WritesOnly};
+ghost use Rattle.g_disc.specs.Durable.{DirtiesOnly};
 ghost use Rattle.g_copy.specs.Copy.{Holds, IsCopy, OnlyAt};
 
 use crate::copy::DiscCopy;
@@ -9,9 +10,9 @@ use crate::fault::CopyFault;
 use g_base::BlockWriter;
 use g_disc::Disc;
 
-/// Writes the bytes into the blocks of the copy, with zeros behind the last of them. It takes no
-/// memory: the blocks are made in `writer`, whatever it has. Where it answers `Stopped`, these blocks
-/// hold anything, and all others are as they were.
+/// Writes the bytes into the blocks of the copy, and zeros after the last of them. It allocates no
+/// memory: the blocks are built in `writer`, whose content doesn't matter. On `Stopped` these blocks may hold
+/// anything; all others are unchanged.
 pub fn write_copy<D: Disc>(
     disc: &mut D,
     writer: &mut BlockWriter,
@@ -26,6 +27,7 @@ pub fn write_copy<D: Disc>(
         (Changes (Holds copy.now.blocks bytes.now) (D.state disc.old).held (D.state disc.new).held) }
     ensures stopped { OnErr result
         (Changes (OnlyAt copy.now.blocks) (D.state disc.old).held (D.state disc.new).held) }
+    ensures dirties { DirtiesOnly (Contains copy.now.blocks) (D.state disc.old) (D.state disc.new) result }
     ensures only { OnErr result (result ≡ Err CopyFault.Stopped) }
 {
     let _size = disc.size();
@@ -40,7 +42,7 @@ pub fn write_copy<D: Disc>(
     Ok(())
 }
 
-/// Makes a writer hold the bytes of block i, in the place of what it held.
+/// Replaces the content of a writer by the bytes of block i.
 fn put_part(writer: &mut BlockWriter, bytes: &[u8], i: usize)
     requires { i < 2 ^ 32 }
     ensures { writer.new ≡ take 512 (drop (512 * i) bytes.now) }

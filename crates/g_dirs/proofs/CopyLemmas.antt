@@ -1,4 +1,4 @@
--- Files in order of number, with their copies in order of number beside them.
+-- Files in order of number, and their copies in order of number.
 -- serves: files_lie, put_all, ListingLemmas, ReadLemmas, RuleLemmas, TableLemmas, crates above
 use Rattle.std.proofs.Common.{◌≡◌, ◌≢◌, ⊎_elim, ℕ, zero, suc, ◌+◌, ◌<◌, ◌≤◌, ◌==◌, Bool, List, [], ◌∷◌, ◌++◌, length, get_or, map, find, drop, take, Option, Some, None, All, AllPairs, refl, sym, ◌∙◌, ap, arith, if◌then◌else◌, option_map, subst, Bor}
 use Rattle.std.specs.Prelude.{⊤, Contains, IfNone, IfSome, option_copied}
@@ -24,7 +24,7 @@ pub recs-entries : (files : List FileRec) (online : Copies) → recs (entries_of
 recs-entries [] online = refl
 recs-entries (r ∷ files) online = ap (λ (rest : List FileRec). r ∷ rest) (recs-entries files online)
 
--- numbers behind a number
+-- numbers after a number
 abbrev pub FilesAbove : ℕ → List FileRec → Type 0
 FilesAbove n files = AllByRecursion (λ r. n < r.number) files
 
@@ -39,7 +39,7 @@ abbrev pub RisingCopies : Copies → Type 0
 RisingCopies [] = ⊤
 RisingCopies (c ∷ online) = CopiesAbove c.0 online × RisingCopies online
 
--- both rise, and each copy is a file's
+-- both are in order of number, and each copy is a file's
 pub record Match (files : List FileRec) (online : Copies) : Type 0 where
   pub files_rise : RisingFiles files
   pub copies_rise : RisingCopies online
@@ -75,7 +75,7 @@ above_contained n m [] above (k, inside, is) = let no : ⊥ = omega (arith, insi
 above_contained n m (r ∷ files) above (zero, inside, is) = let first = above.0 in omega (arith, is)
 above_contained n m (r ∷ files) above (suc k, inside, is) = above_contained n m files above.1 (k, omega arith, is)
 
--- copies above the first file are those of the files behind it
+-- copies above the first file are those of the files after it
 among_behind : (r : FileRec) (files : List FileRec) (online : Copies) → AllByRecursion (λ c. Contains (numbers (r ∷ files)) c.0) online → CopiesAbove r.number online
     → AllByRecursion (λ c. Contains (numbers files) c.0) online
 among_behind r files [] among above = tt
@@ -97,7 +97,7 @@ pub copy_none : (n : ℕ) (online : Copies) → CopiesAbove n online → copy_at
 copy_none n [] above = refl
 copy_none n (c ∷ online) above = let first = above.0 in copy_behind c online n (λ same. omega (arith, same)) ∙ copy_none n online above.1
 
--- files above a copy have none of it
+-- files above a copy don't own it
 entries_above : (c : ℕ × DiscCopy) (online : Copies) (files : List FileRec) → FilesAbove c.0 files → entries_of files (c ∷ online) ≡ entries_of files online
 entries_above c online [] above = refl
 entries_above c online (r ∷ files) above =
@@ -105,7 +105,7 @@ entries_above c online (r ∷ files) above =
     ap (λ (o : Option DiscCopy). let e : FileEntry = (r, o) in e ∷ entries_of files (c ∷ online)) (copy_behind c online r.number (λ same. omega (arith, same)))
     ∙ ap (λ (l : List FileEntry). let e : FileEntry = (r, copy_at online r.number) in e ∷ l) (entries_above c online files above.1)
 
--- ONE FILE FURTHER: its copy is the next one, or it has none
+-- THE NEXT FILE: its copy is the next one, or it has none
 pub record Further (r : FileRec) (files : List FileRec) (online : Copies) (copy : Option DiscCopy) (rest : Copies) : Type 0 where
   pub match : Match files rest
   pub entries : entries_of (r ∷ files) online ≡ (let e : FileEntry = (r, copy) in e ∷ entries_of files rest)
@@ -150,7 +150,7 @@ places_are (r ∷ files) (c ∷ online) was = ⊎_elim
     ap all_places step.entries ∙ places_are files (c ∷ online) step.match)
     (cases_eq c.0 r.number)
 
--- what looking at the next copy tells
+-- what comparing the next copy shows
 pub further_by : (r : FileRec) (files : List FileRec) (online : Copies) (o : Option (Bor DiscCopy)) (rest : Copies) → Match (r ∷ files) online
     → IfSome o (λ copy. online ≡ (r.number, copy.now) ∷ rest) → IfNone o (HasNoCopy r.number online × (rest ≡ online)) → Further r files online (option_copied o) rest
 further_by r files online None rest was found none =

@@ -1,4 +1,4 @@
--- Lists of files in order of number, and what stands at a number.
+-- Lists of files in order of number, and the file of a number.
 -- serves: Parts, crates above
 use Rattle.std.proofs.Common.{◌≡◌, ◌≢◌, ⊎_elim, ℕ, suc, ◌<◌, ◌≤◌, Bool, List, [], ◌∷◌, Option, Some, None, All, AllPairs, refl, sym, ◌∙◌, ap, arith, slice_get, if◌then◌else◌}
 use Rattle.std.specs.Prelude.{⊤}
@@ -25,7 +25,7 @@ same_lists {X = X} (x ∷ xs) (y ∷ ys) each =
 abbrev pub Above : ℕ → List FileEntry → Type 0
 Above n files = AllByRecursion (λ r. n < r.number) (recs files)
 
--- each file's number is below those behind it
+-- each file's number is below those after it
 abbrev pub Rising : List FileEntry → Type 0
 Rising [] = ⊤
 Rising (f ∷ files) = Above f.0.number files × Rising files
@@ -41,7 +41,7 @@ pub above_less : (m n : ℕ) (files : List FileEntry) → m ≤ n → Above n fi
 above_less m n [] less above = tt
 above_less m n (f ∷ files) less above = let first = above.0 in (omega arith, above_less m n files less above.1)
 
--- what has another number is passed over
+-- a file of another number is skipped
 pub entry_behind : (f : FileEntry) (files : List FileEntry) (n : ℕ) → f.0.number ≢ n → entry_at (f ∷ files) n ≡ entry_at files n
 entry_behind f files n other = ap (λ (b : Bool). if b then Some f else entry_at files n) (ne_eqb f.0.number n other)
 
@@ -56,7 +56,7 @@ entry_none n (f ∷ files) above =
     let other : f.0.number ≢ n = λ same. omega (arith, same) in
     entry_behind f files n other ∙ entry_none n files above.1
 
--- nor at or above a bound of all numbers
+-- nor at or above an upper bound of all numbers
 pub entry_past : (n : ℕ) (files : List FileEntry) → AllByRecursion (λ r. r.number < n) (recs files) → (k : ℕ) → n ≤ k → entry_at files k ≡ None
 entry_past n [] below k past = refl
 entry_past n (f ∷ files) below k past =

@@ -1,4 +1,4 @@
--- Blocks of which it is known where their zeros begin.
+-- Blocks whose trailing zeros begin at a known place.
 -- serves: equals, is_zeros, keep
 use Rattle.std.proofs.Common.{◌≡◌, ℕ, ◌+◌, ◌-◌, ◌≤◌, Bool, true, false, List, [], ◌∷◌, length, take, drop, replicate, ◌++◌, refl, sym, ap, ap₂, ◌∙◌, subst, arith, take-append-drop}
 use Rattle.std.specs.Str.{bytes_eq}
@@ -12,7 +12,7 @@ same_truth true q forth back = sym (forth refl)
 same_truth false true forth back = back refl
 same_truth false false forth back = refl
 
--- blocks with the same end are one where their fronts are
+-- blocks with the same end are equal if their fronts are
 pub same_fronts : (end : ℕ) (a b : List ℕ) → drop end a ≡ drop end b → bytes_eq (take end a) (take end b) ≡ bytes_eq a b
 same_fronts end a b ends =
     same_truth (bytes_eq (take end a) (take end b)) (bytes_eq a b)
@@ -29,7 +29,7 @@ zeros_from at end block reached within was =
     let same : at + (end - at) ≡ end = omega (arith, reached) in
     subst (λ (n : ℕ). drop n block ≡ replicate {A = ℕ} (512 - n) 0) same (zeros_further at (end - at) block (omega (arith, reached, within)) was.zeros)
 
--- the block of what was put has zeros behind it
+-- the block of a writer ends in zeros after what was put
 pub padded_is_part : (bytes : List ℕ) → length bytes ≤ 512 → IsPartWritten (length bytes) (padded 512 bytes)
 unfolding padded
 padded_is_part bytes fits = record {
@@ -38,13 +38,13 @@ padded_is_part bytes fits = record {
   zeros = drop_at bytes (replicate (512 - length bytes) 0) (length bytes) refl;
 }
 
--- behind what both have, a block and that of a writer end in the same zeros
+-- after the longer front, a block and that of a writer end in the same zeros
 pub same_ends : (at end : ℕ) (block bytes : List ℕ) → at ≤ end → length bytes ≤ end → end ≤ 512 → IsPartWritten at block → drop end block ≡ drop end (padded 512 bytes)
 same_ends at end block bytes reached put within was =
     zeros_from at end block reached within was
     ∙ sym (zeros_from (length bytes) end (padded 512 bytes) put within (padded_is_part bytes (omega (arith, put, within))))
 
--- where nothing was put there are zeros
+-- if nothing was put, all bytes are zeros
 pub nothing_put : (bytes : List ℕ) → length bytes ≡ 0 → bytes_eq (replicate 512 0) (padded 512 bytes) ≡ true
 unfolding padded
 nothing_put [] none = (bytes_eq-Decides (replicate 512 0) (replicate 512 0)).1 refl

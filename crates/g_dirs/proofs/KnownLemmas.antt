@@ -1,4 +1,4 @@
--- What is known of a block, where those behind the last that is kept are zeros.
+-- A known block, where those after the last stored one are zeros.
 -- serves: holds, nothing, put (rest), set (here, rest)
 use Rattle.std.proofs.Common.{◌≡◌, ◌≢◌, ℕ, zero, suc, ◌<◌, ◌++◌, Bool, true, false, List, [], ◌∷◌, Option, Some, None, length, replicate, slice_get, slice_index_or, slice_set, if◌then◌else◌, option_map, inl, inr, refl, sym, ap, ◌∙◌, arith, get_or-set_same, length-set}
 use Rattle.std.specs.Str.{bytes_eq}
@@ -9,7 +9,7 @@ use Rattle.g_blocks.proofs.Marks.{slice_get-set_other}
 use Rattle.g_dirs.specs.KnownBlocks.{seen}
 use Rattle.g_dirs.specs.Pages.{is_page}
 
--- what is known of block k
+-- the known content of block k
 abbrev pub told : List (List ℕ) → ℕ → Bool → Option (List ℕ)
 told blocks k is = if is then Some (slice_index_or blocks k (replicate 512 0)) else None
 
@@ -48,7 +48,7 @@ module _ (known : List Bool) (old new : List (List ℕ)) (k : ℕ) where
       ∙ ap (λ (b : List ℕ). option_map (λ (is : Bool). if is then Some b else None) (slice_get known j)) (rest j other)
       ∙ sym (seen_at known old j)
 
--- zeros behind the end don't show
+-- zeros after the end make no difference
 zeros_at : {X : Type 0} (n j : ℕ) (z : X) → slice_index_or (replicate n z) j z ≡ z
 zeros_at n j z =
     elim (cases_lt j n) [

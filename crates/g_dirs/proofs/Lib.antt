@@ -11,3 +11,4 @@ pub mod ReadLemmas
 pub mod TableLemmas
 pub mod RuleLemmas
 pub mod WriteLemmas
+pub mod Surviving

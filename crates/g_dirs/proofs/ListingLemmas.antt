@@ -1,4 +1,4 @@
--- What a search by number finds in a directory's lists, and which blocks its records have.
+-- What a search by number finds in a directory's lists, and how its records are encoded.
 -- serves: put_file_block, put_slot_block
 use Rattle.std.proofs.Common.{◌≡◌, ℕ, suc, zero, ◌+◌, Bool, true, List, [], ◌∷◌, length, map, Option, Some, None, refl, sym, ◌∙◌, ap, subst, inl, inr, arith, slice_get}
 use Rattle.std.specs.Prelude.{◌==◌, All, IfSome, find, option_map, replicate}
@@ -22,7 +22,7 @@ use Rattle.g_dirs.specs.Image.{entry_at, file_or_empty}
 use Rattle.g_dirs.specs.Writing.{AreEncodable, IsEncodable, number_of_file}
 use Rattle.g_dirs.proofs.CopyLemmas.{recs-entries}
 
--- the first that passes passes
+-- the first element found satisfies the test
 find-passes : {X : Type 0} (p : X → Bool) (xs : List X) (x : X) → find p xs ≡ Some x → p x ≡ true
 find-passes p [] x is = absurd (let none : ⊥ = cc in none)
 find-passes p (y ∷ xs) x is =
@@ -59,7 +59,7 @@ All-flat_map P f (y ∷ xs) (suc k) x all there =
     subst P (get_or-append-add (f y) (flat_map f xs) i d) (all (length (f y) + i) d (let long = length-append (f y) (flat_map f xs) in omega arith)) in
     All-flat_map P f xs k x rest there
 
--- the block numbers of a file that lies on disc
+-- the block numbers of a file that is on disc
 places_fit : (rec : FileRec) (o : Option DiscCopy) → IfSome o (IsCopyOf rec) → All (λ place. is_place Two place ≡ true) (places_of (rec, o)) → IfSome (option_map (λ c. c.blocks) o) (ArePlaces Two rec.len)
 places_fit rec None copy small = tt
 places_fit rec (Some o) copy small = record {
@@ -95,7 +95,7 @@ module _ (files : List FileRec) (online : List (ℕ × DiscCopy)) (n : ℕ) (rec
   number_is : rec.number ≡ n
   number_is = eqb-true rec.number n (find-passes (λ r. number_of_file r == n) files rec found)
 
-  -- what holds of each file holds of it
+  -- what holds for each file holds for it
   pub found-holds : (P : FileRec → Type 0) → All P files → P rec
   found-holds P all = All-at P files place_of rec all stands
 

@@ -1,4 +1,4 @@
--- Marks that are taken off.
+-- Clearing marks.
 -- serves: clear, marks, new, unmark
 use Rattle.std.proofs.Common.{◌≡◌, ◌⊎◌, ℕ, ◌+◌, ◌-◌, ◌*◌, ◌/◌, ◌%◌, ◌<◌, ◌≤◌, List, ◌++◌, Bool, true, false, Some, length, take, drop, slice_get, get_or, replicate, ap, subst, sym, ◌∙◌, inl, inr, arith, length-drop, length-set}
 use Rattle.std.proofs.Math.ListN.{set}
@@ -8,7 +8,7 @@ use Rattle.std.proofs.lemmas.Option.{get_or_from_slice_get, slice_get-get_or}
 use Rattle.g_blocks.proofs.Marks.{slice_get-set_other}
 use Rattle.g_dirs.specs.Marks.{AreNoted, AreOffBefore, IsBehind}
 
--- no mark stands from `end` on, and those before are taken off
+-- there is no mark from `end` on, and those before are cleared
 pub unmarked : (end : ℕ) (blocks front : List Bool) → front ≡ replicate (length (take end blocks)) false → end ≤ length blocks
     → ((i : ℕ) → end ≤ i → i < length blocks → slice_get blocks i ≡ Some false) → front ++ drop end blocks ≡ replicate (length blocks) false
 unmarked end blocks front off within behind =
@@ -22,7 +22,7 @@ unmarked end blocks front off within behind =
     ap (λ (bs : List Bool). bs ++ drop end blocks) some ∙ ap (λ (bs : List Bool). replicate end false ++ bs) rest
     ∙ replicate-append-replicate end (length blocks - end) false ∙ ap (λ (n : ℕ). replicate n false) sum
 
--- a list with all of it written again
+-- a list that is overwritten entirely
 pub written_all : (n : ℕ) (old new : List Bool) → n ≡ length old → length old ≡ 1088 → new ≡ replicate (length old) false
     → take n (new ++ drop (length new) old) ≡ replicate 1088 false
 written_all n old new is long same =
@@ -60,7 +60,7 @@ noted_all noted marks is = record {
       let no : ⊥ = cc in absurd no;
 }
 
--- the next place
+-- the next candidate
 pub behind_one : (marks : List Bool) (k : ℕ) → k < 1088 → slice_get marks k ≡ Some false → IsBehind marks k (k + 1)
 behind_one marks k within off = record {
   later = omega arith;
@@ -90,7 +90,7 @@ behind_low marks low k are before off = record {
       ];
 }
 
--- THE FIRST MARK behind block 0
+-- THE FIRST MARK after block 0
 pub off_set : (marks : List Bool) (low k next : ℕ) → AreOffBefore low marks → next ≤ low → (next ≤ k) ⊎ (k ≡ 0) → AreOffBefore next (set marks k true)
 off_set marks low k next are less here = record {
   within = let most = are.within in omega (arith, most, less);

@@ -1,5 +1,5 @@
--- What is remembered, and how many blocks aren't.
--- serves: all_changed (covers, marks, remembers), changed (covers, marks, remembers), covers, new (nothing, stands), WriteLemmas, crates above
+-- Remembered blocks, and how many blocks a commit writes.
+-- serves: all_changed (covers, marks, remembers), changed (covers, marks, remembers), covers, new (nothing, stands), Surviving, WriteLemmas, crates above
 use Rattle.std.proofs.Common.{◌≡◌, ◌≢◌, ℕ, suc, zero, ◌+◌, ◌<◌, ◌≤◌, inl, inr, Bool, true, false, if◌then◌else◌, List, [], ◌∷◌, length, Option, Some, None, refl, sym, ◌∙◌, ap, subst, replicate, slice_get, add-one, arith}
 use Rattle.std.specs.Prelude.{set}
 use Rattle.std.proofs.lemmas.Bool.{cases_lt, false≢true}
@@ -18,7 +18,7 @@ is_page-true block None is = cc
 is_page-true block (Some None) is = cc
 is_page-true block (Some (Some page)) is = ap (λ (p : List ℕ). Some (Some p)) ((bytes_eq-Decides page block).0 is)
 
--- what is remembered as this block is this block
+-- a block that is remembered as this one is this one
 pub is_remembered-true : (pages : List (Option (List ℕ))) (k : ℕ) (block : List ℕ) → is_remembered pages k block ≡ true → slice_get pages k ≡ Some (Some block)
 is_remembered-true pages k block is = is_page-true block (slice_get pages k) is
 
@@ -31,7 +31,7 @@ pub unwritten_more : (d : Directory) (pages : List (Option (List ℕ))) (k : ℕ
 unfolding unwritten
 unwritten_more d pages k = ap (unwritten d pages) (add-one k)
 
--- a write of what stands there changes nothing
+-- writing a block with the content that it has changes nothing
 pub set-same : {X : Type 0} (xs : List X) (k : ℕ) (x : X) → slice_get xs k ≡ Some x → set xs k x ≡ xs
 set-same xs k x there = ap (set xs k) (sym (get_or_from_slice_get xs k x x there)) ∙ set-get_or xs k x
 
@@ -58,7 +58,7 @@ pub same_pages_of : (side : Side) (old new : Remembered) → KeepsPages old new 
 same_pages_of A old new same = same.a
 same_pages_of B old new same = same.b
 
--- where the blocks from k to n are remembered as they are to be, none of them is written
+-- if the blocks from k to n are remembered with the content to be written, none of them is written
 is_page-same : (block : List ℕ) (page : Option (Option (List ℕ))) → page ≡ Some (Some block) → is_page block page ≡ true
 is_page-same block page is = ap (is_page block) is ∙ (bytes_eq-Decides block block).1 refl
 
@@ -94,7 +94,7 @@ pages_marked : (side : Side) (k : ℕ) (pages : Remembered) → pages_of side (m
 pages_marked A k pages = refl
 pages_marked B k pages = refl
 
--- what is changed at a marked block alone is covered
+-- if only a marked block differs, all changes are still marked
 pub covers_marked : (side : Side) (k : ℕ) (d e : Directory) (pages : Remembered) → Covers d side pages → ((j : ℕ) → j ≢ k → block_of Two e j ≡ block_of Two d j) → Covers e side (marked k pages)
 covers_marked side k d e pages covers same = record {
   block = λ j below there.
@@ -114,7 +114,7 @@ pub pages_all : (side : Side) (pages : Remembered) → pages_of side (all_marked
 pages_all A pages = refl
 pages_all B pages = refl
 
--- marks are no part of what is remembered
+-- marks don't affect what is remembered
 pub remembers_same : (old new : Remembered) (blocks : List (List ℕ)) → KeepsPages old new → Remembers old blocks → Remembers new blocks
 remembers_same old new blocks same was = record {
   block = λ side k page there. was.block side k page (ap (λ (ps : List (Option (List ℕ))). slice_get ps k) (sym (same_pages_of side old new same)) ∙ there);
@@ -129,10 +129,13 @@ nothing_there : (side : Side) (k : ℕ) (page : List ℕ) → slice_get (pages_o
 nothing_there A k page there = there
 nothing_there B k page there = there
 
--- where nothing is remembered it all stands so
+pub none_remembered : (side : Side) (k : ℕ) (page : List ℕ) → slice_get (pages_of side nothing) k ≡ Some (Some page) → ⊥
+none_remembered side k page there = none-some page (stands_same 1088 k None (Some page) (nothing_there side k page there))
+
+-- if nothing is remembered, every remembered block is on the disc
 pub remembers_nothing : (pages : Remembered) (blocks : List (List ℕ)) → pages ≡ nothing → Remembers pages blocks
 remembers_nothing pages blocks is = subst (λ (p : Remembered). Remembers p blocks) (sym is) (record {
-  block = λ side k page there. absurd (none-some page (stands_same 1088 k None (Some page) (nothing_there side k page there)));
+  block = λ side k page there. absurd (none_remembered side k page there);
 })
 
 -- BLOCK BY BLOCK whether a slot is covered

@@ -1,5 +1,5 @@
--- The parts of a slot and the directory that it holds; that a disc stands for one directory at most.
--- serves: one_directory, ReadLemmas, crates above
+-- The parts of a slot and the directory that it holds. A disc holds at most one directory.
+-- serves: one_directory, ReadLemmas, Surviving, crates above
 use Rattle.std.proofs.Common.{◌≡◌, ◌≢◌, ⊎_elim, ℕ, ◌+◌, ◌-◌, ◌<◌, ◌≤◌, true, Bool, List, [], ◌∷◌, length, get_or, Option, Some, None, refl, sym, ◌∙◌, ap, subst, arith, slice_get, if◌then◌else◌, nat_lt, option_map, IfSome}
 use Rattle.std.specs.Prelude.{◌&&◌}
 use Rattle.std.specs.List.{AllByRecursion, list_all}
@@ -37,7 +37,7 @@ same_user format k None (Some s) of_u of_v is = absurd (user_used format s (sym 
 same_user format k (Some r) None of_u of_v is = absurd (user_used format r is)
 same_user format k (Some r) (Some s) of_u of_v is = ap (λ (w : UserRec). Some w) (user_again format r s of_u.0 of_v.0 (of_u.1 ∙ sym of_v.1) is)
 
--- what is known of the user at a place
+-- what holds for the user at a place
 at_place : (format : Format) (users : List UserRec) → AreInOrder format users → (k : ℕ) (u : Option UserRec) → slice_get users k ≡ u → IfSome u (λ r. IsUser format r × (r.number ≡ k))
 at_place format users are k None is = tt
 at_place format users are k (Some r) is =
@@ -54,7 +54,7 @@ users_again {format = format} {us = us} {vs = vs} one other =
     (cases_lt k 63) in
     same_lists us vs each
 
--- what is known of the file at a number
+-- what holds for the file of a number
 pub entry_is : (format : Format) (files : List FileEntry) → AllByRecursion (IsEntry format) files → (k : ℕ) → IfSome (entry_at files k) (λ f. IsEntry format f × (f.0.number ≡ k))
 entry_is format [] all k = tt
 entry_is format (f ∷ files) all k = ⊎_elim

@@ -1,5 +1,5 @@
--- Writes that change nothing of what a disc stands for.
--- serves: quiet_writes (bytes, copy, slot), crates above
+-- Writes that don't change the directory that a disc holds.
+-- serves: quiet_writes (bytes, copy, slot), Surviving, crates above
 use Rattle.std.proofs.Common.{◌≡◌, ℕ, zero, suc, ◌+◌, ◌-◌, ◌<◌, ◌≤◌, List, [], ◌∷◌, length, get_or, take, drop, Option, sym, ◌∙◌, ap, subst, arith, slice_get, length-set}
 use Rattle.std.specs.Prelude.{All, Contains, ◌%◌, ◌==◌, if◌then◌else◌, unwrap_or}
 use Rattle.std.proofs.Math.ListN.{set}
@@ -19,7 +19,7 @@ use Rattle.g_dirs.specs.Directory.{Directory, IsDirectory}
 use Rattle.g_dirs.specs.Image.{IsImage, StandsFor}
 use Rattle.g_dirs.specs.Pages.{Remembered, Remembers}
 
--- WHAT A DISC STANDS FOR is told by its current slot and its size
+-- THE DIRECTORY of a disc depends only on its current slot and its size
 pub stands_same : (before after : List (List ℕ)) (d : Directory) → current after ≡ current before → length after ≡ length before → StandsFor before d → StandsFor after d
 stands_same before after d slots size stands = record {
   format = stands.format;
@@ -28,7 +28,7 @@ stands_same before after d slots size stands = record {
   rules = subst (λ (n : ℕ). IsDirectory n d) (sym size) stands.rules;
 }
 
--- the current slot is kept with the gate
+-- the current slot is unchanged if the gate and that slot are
 pub current_kept : (before after : List (List ℕ)) → KeepsCurrent (gate_side before) before after → current after ≡ current before
 current_kept before after kept = ap (λ (s : Side). slot s after) kept.gate ∙ kept.kept
 
@@ -53,7 +53,7 @@ quiet_copy blocks place left d past stands =
     let gate = gate_side-set blocks place left (omega arith) in
     stands_same blocks after d (ap (λ (s : Side). slot s after) gate ∙ slot-set-copy (gate_side blocks) blocks place left past) (length-set blocks place left) stands
 
--- one number alone
+-- a list of one number
 alone : (place k : ℕ) → Contains (place ∷ []) k → place ≡ k
 alone place k (zero, inside, is) = is
 alone place k (suc i, inside, is) = let no : ⊥ = omega (arith, inside) in absurd no
@@ -74,7 +74,7 @@ start_low : (side : Side) (k : ℕ) → k < 1088 → start_of side + k < 2177
 start_low A k below = omega arith
 start_low B k below = omega arith
 
--- WHAT IS WRITTEN INTO THE COPY AREA leaves the gate and the slots as they were
+-- A WRITE INTO THE COPY AREA leaves the gate and the slots unchanged
 module _ (places : List ℕ) (a b : List (List ℕ)) (only : OnlyAt places a b) (size : ℕ) (area : All (IsInArea size) places) where
   same_at : (k : ℕ) (d : List ℕ) → k < 2177 → get_or b k d ≡ get_or a k d
   same_at k d below =

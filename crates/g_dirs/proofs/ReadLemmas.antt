@@ -1,4 +1,4 @@
--- What is known of a slot whose first blocks were read.
+-- What holds for a slot after its first blocks were read.
 -- serves: file_in (again), read_dirs (none, ok, records), read_files (none, ok), read_users (none), user_in (again, found)
 use Rattle.std.proofs.Common.{◌≡◌, ◌≢◌, ℕ, zero, suc, ◌+◌, ◌<◌, ◌≤◌, Bool, true, false, cond, List, [], ◌∷◌, ◌++◌, length, Option, Some, None, map, refl, sym, ap, ◌∙◌, subst, inl, inr, arith, eqb, below_more}
 use Rattle.std.specs.Prelude.{replicate, find, slice_get, IfSome, IsTrue, All, AllPairs, Contains, option_map}
@@ -183,7 +183,7 @@ module _ (format : Format) (n : ℕ) (users : List UserRec) (before mid : DiscSt
   users_more block after new so counts read takes =
       users_more_at block after new takes.cell (users_later after so counts) (λ blocks told. read blocks (so.counts.held ∙ told)) takes.holds takes.next takes.added
 
-  -- what the blocks up to n say of any users whose they are
+  -- what the blocks up to n say about any users that they encode
   user_cell_of : (vs : List UserRec) (block : List ℕ) (o : Option UserRec) → AreInOrder format vs → slice_get vs n ≡ o → block ≡ user_or_empty format o → IsUserCell format n block o
   user_cell_of vs block None are at is = record { user = tt; block_is = is }
   user_cell_of vs block (Some u) are at is = record {
@@ -376,7 +376,7 @@ module _ (format : Format) (n : ℕ) (block : List ℕ) (files : List FileRec) (
   files_more_at new new_online (Some (r, Some ks)) so read holds added copied =
       rw (added, copied) (files_online r ks so read holds)
 
--- what a block of a file's number is to any files whose it is
+-- what the block of a file number says about any files that it belongs to
 cell_of : Option FileEntry → Option FileCell
 cell_of = option_map (λ f. (f.0, option_map (λ c. c.blocks) f.1))
 
@@ -422,7 +422,7 @@ files_all format n files online before after most least so = λ blocks told. rec
 
 -- THE DIRECTORY
 
--- the parts that were read, and whether they keep the rules
+-- the parts that were read, and whether they satisfy the rules
 module _ (format : Format) (d : Directory) (size : ℕ) (blocks : List (List ℕ)) where
   pub directory_read : HoldsHead format d.head (current blocks) → HoldsUsers format d.users (current blocks) → HoldsFiles format d.files (current blocks)
       → length blocks ≡ size → IsDirectory size d → StandsFor blocks d
@@ -457,7 +457,7 @@ pub no_files : (format : Format) (head : Head) (blocks : List (List ℕ)) → Ho
 no_files format head blocks is nothing e stands =
     let parts = parts_of_stands blocks e stands in nothing e.files (rw (head_again parts.1.head is).0 at parts.1.files)
 
--- what has a block in a format has one in the second
+-- what can be encoded in a format can be encoded in the second
 
 user_later : (format : Format) (u : UserRec) → IsUser format u → IsUser Two u
 user_later One u is = let money_is = is.money in record { user = is.user; space = is.space; time = is.time; money = omega (arith, money_is) }

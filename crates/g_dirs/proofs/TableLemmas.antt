@@ -1,4 +1,4 @@
--- Copies in order of number that go from the end of a list into the front of a table.
+-- Copies in order of number, moved from the end of a list to the front of a table.
 -- serves: put_all
 use Rattle.std.proofs.Common.{◌≡◌, ℕ, suc, ◌<◌, [], ◌∷◌, ◌++◌, All, AllPairs, refl, sym, ◌∙◌, ap, subst, arith}
 use Rattle.g_copy.specs.declared.copy.DiscCopy.{DiscCopy}
@@ -6,7 +6,7 @@ use Rattle.g_table.specs.Table.{with_item}
 use Rattle.g_table.proofs.TableLemmas.{in_front}
 use Rattle.g_dirs.proofs.CopyLemmas.{Copies, CopiesAbove, copies_from}
 
--- the last of copies in order of number stands in front of those behind it
+-- the last of the copies in the list precedes those in the table
 last_below : (front : Copies) (c : ℕ × DiscCopy) (behind : Copies) → AllPairs (λ c d. c.0 < d.0) (front ++ c ∷ behind) → CopiesAbove c.0 behind
 last_below [] c behind rising = (copies_from (c ∷ behind) rising).0
 last_below (d ∷ front) c behind rising = last_below front c behind (λ i j e before inside. rising (suc i) (suc j) e (omega arith) (omega arith))
@@ -22,7 +22,7 @@ one_behind (d ∷ front) c behind = ap (λ (l : Copies). d ∷ l) (one_behind fr
 pair_is : (c : ℕ × DiscCopy) (n : ℕ) (copy : DiscCopy) → n ≡ c.0 → copy ≡ c.1 → (let pair : ℕ × DiscCopy = (n, copy) in pair ≡ c)
 pair_is (m, other) n copy same_number same_copy = λ i. (same_number i, same_copy i)
 
--- ONE MORE of a list of copies goes from its end into the table
+-- ONE MORE copy moves from the end of the list into the table
 module _ (copies left rest table : Copies) (c : ℕ × DiscCopy) (split : left ++ table ≡ copies) (popped : left ≡ rest ++ c ∷ []) where
   parts : rest ++ c ∷ table ≡ copies
   parts = sym (one_behind rest c table) ∙ ap (λ (l : Copies). l ++ table) (sym popped) ∙ split

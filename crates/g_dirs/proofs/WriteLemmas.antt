@@ -1,5 +1,5 @@
--- A commit block by block, and what the disc stands for behind the gate.
--- serves: fill (counts, ok), write_changed (all, marks, ok, other_marks, others, remembers, stopped), write_page (ok, pages)
+-- A commit block by block, and the directory that the disc holds after it.
+-- serves: fill (counts, ok), write_changed (all, marks, ok, other_marks, others, remembers, stopped), write_page (ok, pages), Surviving
 use Rattle.std.proofs.Common.{◌≡◌, ◌≢◌, ℕ, ◌+◌, ◌<◌, ◌≤◌, ◌⊎◌, if◌then◌else◌, Bool, false, replicate, List, length, Option, Some, Result, Ok, Err, refl, sym, ◌∙◌, ap, subst, inl, inr, arith, slice_get, true}
 use Rattle.std.specs.Option.{ForSome}
 use Rattle.std.specs.Prelude.{OnErr}
@@ -31,7 +31,7 @@ pub other-other : (side : Side) → other (other side) ≡ side
 other-other A = refl
 other-other B = refl
 
-each_side : (P : Side → Type 0) (side : Side) → P side → P (other side) → (s : Side) → P s
+pub each_side : (P : Side → Type 0) (side : Side) → P side → P (other side) → (s : Side) → P s
 each_side P A here there A = here
 each_side P A here there B = there
 each_side P B here there A = there
@@ -48,7 +48,7 @@ stays-then first second = record {
   copies = second.copies ∙ first.copies;
 }
 
--- a block that is remembered so needs no write
+-- a block that is remembered with that content needs no write
 pub prepared_already : (side : Side) (k : ℕ) (block : List ℕ) (pages : Remembered) (held : Option (List (List ℕ))) → is_remembered (pages_of (other side) pages) k block ≡ true
     → ForSome held (Remembers pages) → Changes (Prepares side k block) held held
 prepared_already side k block pages held is remembers =
@@ -66,7 +66,7 @@ remembered_already side k block pages is = record {
   marks = record { a = refl; b = refl };
 }
 
--- what is remembered stands on the disc
+-- what is remembered is on the disc
 pub remembers_first : (side : Side) (d : Directory) (n : ℕ) (old new : Remembered) (a b : List (List ℕ)) → Remembers old a → HoldsFirst side d n a b → RemembersFirst side d n old new → Remembers new b
 remembers_first side d n old new a b was holds pages = record {
   block = each_side (λ s. (k : ℕ) (page : List ℕ) → slice_get (pages_of s new) k ≡ Some (Some page) → slice_get (slot s b) k ≡ Some page) side
@@ -148,7 +148,7 @@ wrote_more side d k x y z old mid new u below large long so_far step counts page
       arms = counts.arms ∙ so_far.arms;
     }
 
--- blocks that are remembered as the directory's are passed over
+-- blocks that are remembered as the directory's are skipped
 holds_past : (side : Side) (d : Directory) (k n : ℕ) (old : Remembered) (a b : List (List ℕ)) → k ≤ n → Remembers old a
     → ((j : ℕ) → k ≤ j → j < n → slice_get (pages_of (other side) old) j ≡ Some (Some (block_of Two d j))) → HoldsFirst side d k a b → HoldsFirst side d n a b
 holds_past side d k n old a b forth was there holds = record {
@@ -201,13 +201,13 @@ wrote_to_first side d n disc pages was covers next =
     (between (other side) d 0 n pages pages (record { a = refl; b = refl }) covers next)
     (wrote_none side d disc pages)
 
--- what is remembered on the way stands on the disc
+-- what is remembered so far is on the disc
 pub remembers_now : (side : Side) (d : Directory) (n : ℕ) (x y : DiscState) (old new : Remembered) → WroteFirst side d n x y old new → ForSome x.held (Remembers old) → ForSome y.held (Remembers new)
 remembers_now side d n x y old new so_far was =
     told_after so_far.content (λ b a told holds. remembers_first side d n old new b a (was b told) holds so_far.pages)
 
--- the directory behind the gate
-stands_for : (side : Side) (d : Directory) (size : ℕ) (a b c : List (List ℕ)) → AreRecords Two d → IsDirectory size d → length a ≡ size → HoldsFirst side d 1088 a b → Flips b c → gate_side c ≡ other side → StandsFor c d
+-- the directory after the gate was written
+pub stands_for : (side : Side) (d : Directory) (size : ℕ) (a b c : List (List ℕ)) → AreRecords Two d → IsDirectory size d → length a ≡ size → HoldsFirst side d 1088 a b → Flips b c → gate_side c ≡ other side → StandsFor c d
 stands_for side d size a b c records rules long holds flips gate = record {
   format = Two;
   image = record {
@@ -225,7 +225,7 @@ new_directory side d size a b c records rules long holds flips gate = record {
   size = flips.size ∙ holds.kept.size;
 }
 
--- where the slot alone was written, the current one is as it was
+-- if only the other slot was written, the current one is unchanged
 pub old_stands : (side : Side) (d : Directory) (a b : List (List ℕ)) → gate_side a ≡ side → KeepsCurrent side a b → OldOrNew d a b
 old_stands side d a b gate kept = record {
   whole = inl
@@ -240,7 +240,7 @@ sides A B = inr refl
 sides B A = inr refl
 sides B B = inl refl
 
--- where the gate was written as well, whatever it is now
+-- if the gate was written too, whatever it is now
 pub old_or_new : (side : Side) (d : Directory) (size : ℕ) (a b c : List (List ℕ)) → AreRecords Two d → IsDirectory size d → length a ≡ size → gate_side a ≡ side → HoldsFirst side d 1088 a b → Flips b c → OldOrNew d a c
 old_or_new side d size a b c records rules long gate holds flips = record {
   whole =
@@ -259,7 +259,7 @@ remembers-flipped pages b c flips was = record {
   block = λ side k page there. ap (λ (blocks : List (List ℕ)). slice_get blocks k) (flips.slots side) ∙ was.block side k page there;
 }
 
--- two changes, with what is known of the content at both ends
+-- two changes, with facts about the content at both ends
 then_told : {R S T : List (List ℕ) → List (List ℕ) → Type 0} {x y z : Option (List (List ℕ))} → Changes R x y → Changes S y z
     → ((a b c : List (List ℕ)) → x ≡ Some a → z ≡ Some c → R a b → S b c → T a c) → Changes T x z
 then_told first second both = record {
@@ -288,11 +288,11 @@ module _ (side : Side) (d : Directory) (x y z : DiscState) (old new : Remembered
   remembers_behind wrote was flips =
       told_after flips (λ b c told flip. remembers-flipped new b c flip (remembers_now side d 1088 x y old new wrote was b told))
 
--- taking the marks off changes nothing of what is remembered
+-- clearing marks doesn't affect what is remembered
 pub remembers_unmarked : (side : Side) (old new : Remembered) (held : Option (List (List ℕ))) → LosesMarks side old new → ForSome held (Remembers old) → ForSome held (Remembers new)
 remembers_unmarked side old new held loses was = λ b told. remembers_same old new b loses.pages (was b told)
 
--- WHERE ALL BLOCKS ARE DONE
+-- AFTER ALL BLOCKS
 pub wrote_whole : (side : Side) (d : Directory) (n : ℕ) (x y : DiscState) (old new : Remembered) → n ≤ 1088 → 1088 ≤ n → WroteFirst side d n x y old new → WroteFirst side d 1088 x y old new
 wrote_whole side d n x y old new within all wrote =
     let same : n ≡ 1088 = omega arith in subst (λ (m : ℕ). WroteFirst side d m x y old new) same wrote
@@ -309,7 +309,7 @@ wrote_counts side d n x y old new u wrote = record {
   rose = tt;
 }
 
--- what is remembered, and the marks, behind the gate
+-- what is remembered, and the marks, after the gate was written
 module _ (side next now : Side) (d : Directory) (old mid new : Remembered) (to : next ≡ other side) (is : now ≡ other side) (loses : LosesMarks next mid new) where
   pub remembers_whole : RemembersFirst side d 1088 old mid → RemembersAll d (pages_of now new)
   remembers_whole first = record {
@@ -347,7 +347,7 @@ wrote_next side d k n x y z old mid new block u below large long was covers so_f
     (subst (λ (v : List ℕ). WritesOnly {T = Unit {0}} {E = DirsFault} (if is_remembered (pages_of (other side) mid) k v then 0 else 1) y z (Ok u)) is counts)
     (subst (λ (v : List ℕ). RemembersPage (other side) k v mid new) is page))
 
--- what holds holds of a fault
+-- a fact that holds for any result
 pub on_err : {T E P : Type 0} (r : Result T E) → P → OnErr r P
 on_err (Ok x) holds = tt
 on_err (Err e) holds = holds

@@ -1,4 +1,4 @@
--- A directory: what the filestore on a disc says of itself, and the rules that it keeps.
+-- A directory: the records of a filestore on a disc, and the rules that they satisfy.
 use Rattle.std.specs.Prelude.{◌≡◌, ◌≢◌, ◌⊎◌, ℕ, ◌<◌, ◌==◌, true, List, [], length, map, find, All, AllPairs, Contains, Option, Some, None, IfSome, is_some, option_map}
 use Rattle.std.specs.List.{flat_map}
 use Rattle.g_base.specs.Block.{blocks_for}
@@ -14,7 +14,7 @@ use Rattle.g_entry.specs.HeadFields.{IsHead}
 use Rattle.g_entry.specs.Rules.{AreFiles, AreNumbered, AreUsers, StampsBelow}
 use Rattle.g_entry.specs.UserFields.{IsUser}
 
--- a file's record, and its copy on disc where it is online
+-- a file's record, and its copy on disc if it is online
 abbrev pub FileEntry : Type 0
 FileEntry = FileRec × Option DiscCopy
 
@@ -51,7 +51,7 @@ places_of (rec, Some copy) = copy.blocks
 abbrev pub all_places : List FileEntry → List ℕ
 all_places files = flat_map places_of files
 
--- as many block numbers as the bytes take
+-- a copy of the file's length, with as many block numbers as that needs
 pub record IsCopyOf (rec : FileRec) (copy : DiscCopy) : Type 0 where
   pub len : copy.len ≡ rec.len
   pub count : length copy.blocks ≡ blocks_for rec.len
@@ -62,14 +62,14 @@ pub record LiesSomewhere (f : FileEntry) : Type 0 where
   pub empty : f.0.len ≡ 0 → is_some f.1 ≡ true
   pub copy : IfSome f.1 (IsCopyOf f.0)
 
--- what each record of a directory has a block for in a format
+-- each record of a directory can be encoded in a format
 pub record AreRecords (format : Format) (d : Directory) : Type 0 where
   pub head : IsHead d.head
   pub users : All (IsUser format) d.users
   pub files : All IsFile (recs d.files)
   pub places : All (λ place. is_place format place ≡ true) (all_places d.files)
 
--- THE RULES OF A DIRECTORY on a disc of so many blocks
+-- THE RULES OF A DIRECTORY on a disc of `size` blocks
 pub record IsDirectory (size : ℕ) (d : Directory) : Type 0 where
   pub users : AreUsers d.users
   pub numbered : AreNumbered (recs d.files)

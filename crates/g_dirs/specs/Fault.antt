@@ -1,4 +1,4 @@
--- What a fault of the slots is to a directory.
+-- The fault of a directory that a fault of the slots becomes.
 use Rattle.g_dirs.specs.declared.fault.DirsFault.{DirsFault}
 use Rattle.g_dirs.specs.declared.fault.DirsFault.TheVariants.{ReadFault, Stopped}
 use Rattle.g_slots.specs.declared.fault.SlotFault.{SlotFault}

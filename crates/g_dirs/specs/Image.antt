@@ -1,4 +1,4 @@
--- How a slot holds a directory, and what a disc stands for.
+-- How a slot encodes a directory, and which directory a disc holds.
 use Rattle.std.specs.Prelude.{◌≡◌, ℕ, ◌-◌, ◌<◌, ◌==◌, List, find, length, replicate, Option, Some, None, slice_get, nat_lt, option_map, if◌then◌else◌}
 use Rattle.g_entry.specs.declared.format.Format.{Format}
 use Rattle.g_entry.specs.declared.user_rec.UserRec.{UserRec}
@@ -12,12 +12,12 @@ use Rattle.g_dirs.specs.Directory.{AreRecords, Directory, FileEntry, IsDirectory
 abbrev pub entry_at : List FileEntry → ℕ → Option FileEntry
 entry_at files number = find (λ f. f.0.number == number) files
 
--- the block of a user number, zeros where it is unused
+-- the block of a user number; zeros if the number is unused
 unfoldable pub user_or_empty : Format → Option UserRec → List ℕ
 user_or_empty format None = replicate 512 0
 user_or_empty format (Some user) = user_block format 0 user
 
--- the block of a file number, zeros where it is unused
+-- the block of a file number; zeros if the number is unused
 unfoldable pub file_or_empty : Format → Option FileEntry → List ℕ
 file_or_empty format None = replicate 512 0
 file_or_empty format (Some (rec, copy)) = file_block format rec (option_map (λ c. c.blocks) copy)
@@ -32,7 +32,7 @@ block_of format d k =
 pub record IsImage (format : Format) (d : Directory) (blocks : List (List ℕ)) : Type 0 where
   pub block : (k : ℕ) → k < 1088 → slice_get blocks k ≡ Some (block_of format d k)
 
--- WHAT A DISC STANDS FOR: the slot that its gate names is, block by block, that of a directory that keeps the rules
+-- THE DISC HOLDS DIRECTORY d: the slot that the gate names is, block by block, that of d, and d satisfies the rules
 pub record StandsFor (blocks : List (List ℕ)) (d : Directory) : Type 0 where
   pub format : Format
   pub image : IsImage format d (current blocks)

@@ -1,7 +1,7 @@
--- What is known of the blocks of a slot, of which those behind the last that is kept are zeros.
+-- The known blocks of a slot. A known block after the last stored one is zeros.
 use Rattle.std.specs.Prelude.{ℕ, Bool, List, [], ◌∷◌, Option, Some, None, replicate, if◌then◌else◌}
 
--- what each block holds, where that is known
+-- the content of each block, if it is known
 abbrev pub seen : List Bool → List (List ℕ) → List (Option (List ℕ))
 seen [] blocks = []
 seen (is ∷ known) [] = (if is then Some (replicate 512 0) else None) ∷ seen known []

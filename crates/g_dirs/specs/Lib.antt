@@ -3,6 +3,7 @@ pub mod Image
 pub mod Parts
 pub mod Rules
 pub mod Commit
+pub mod Durable
 pub mod Pages
 pub mod KnownBlocks
 pub mod Marks

@@ -1,7 +1,7 @@
 -- The marks at the blocks of a slot that may have to be written.
 use Rattle.std.specs.Prelude.{◌≡◌, ℕ, ◌/◌, ◌<◌, ◌≤◌, Bool, true, false, List, Some, length, slice_get}
 
--- the first mark from block k on, or 1,088 where there is none
+-- the first mark from block k on, or 1,088 if there is none
 pub record IsNext (marks : List Bool) (k next : ℕ) : Type 0 where
   pub reached : k ≤ next
   pub within : next ≤ 1088
@@ -18,7 +18,7 @@ pub record AreOffBefore (low : ℕ) (marks : List Bool) : Type 0 where
   pub within : low ≤ 1088
   pub off : (i : ℕ) → 0 < i → i < low → slice_get marks i ≡ Some false
 
--- the next place where a mark may stand, and what was passed to it
+-- a place after k; no block from k up to it is marked
 pub record IsBehind (marks : List Bool) (k next : ℕ) : Type 0 where
   pub later : k < next
   pub within : next ≤ 1088

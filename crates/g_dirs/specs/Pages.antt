@@ -1,4 +1,4 @@
--- The slot blocks that are remembered, and how many blocks a commit writes.
+-- The remembered slot blocks, and how many blocks a commit writes.
 use Rattle.std.specs.Prelude.{◌≡◌, ◌≢◌, ℕ, zero, suc, ◌+◌, ◌<◌, Bool, true, false, List, Option, Some, None, replicate, slice_get, slice_set, if◌then◌else◌}
 use Rattle.std.specs.Str.{bytes_eq}
 use Rattle.g_entry.specs.declared.format.Format.TheVariants.{Two}
@@ -23,7 +23,7 @@ abbrev pub marks_of : Side → Remembered → List Bool
 marks_of A pages = pages.marks_a
 marks_of B pages = pages.marks_b
 
--- each block that is remembered stands so on the disc
+-- each remembered block is what the disc holds there
 pub record Remembers (pages : Remembered) (blocks : List (List ℕ)) : Type 0 where
   pub block : (side : Side) (k : ℕ) (page : List ℕ) → slice_get (pages_of side pages) k ≡ Some (Some page) → slice_get (slot side blocks) k ≡ Some page
 
@@ -35,17 +35,17 @@ is_page block page = false
 abbrev pub is_remembered : List (Option (List ℕ)) → ℕ → List ℕ → Bool
 is_remembered pages k block = is_page block (slice_get pages k)
 
--- how many of a directory's first n blocks aren't remembered as they are to be
+-- how many of a directory's first n blocks differ from the remembered ones, or aren't remembered
 unfoldable pub unwritten : Directory → List (Option (List ℕ)) → ℕ → ℕ
 unwritten d pages zero = 0
 unwritten d pages (suc k) = unwritten d pages k + (if is_remembered pages k (block_of Two d k) then 0 else 1)
 
--- the marks are as they were
+-- the marks are unchanged
 pub record KeepsMarks (old new : Remembered) : Type 0 where
   pub a : new.marks_a ≡ old.marks_a
   pub b : new.marks_b ≡ old.marks_b
 
--- what is remembered is as it was
+-- the remembered blocks are unchanged
 pub record KeepsPages (old new : Remembered) : Type 0 where
   pub a : new.a ≡ old.a
   pub b : new.b ≡ old.b
@@ -69,7 +69,7 @@ pub record Covers (d : Directory) (side : Side) (pages : Remembered) : Type 0 wh
   pub block : (k : ℕ) → k < 1088 → slice_get (marks_of side pages) k ≡ Some false
       → slice_get (pages_of side pages) k ≡ Some (Some (block_of Two d k))
 
--- block k of a slot is remembered as this one, and all others as they were
+-- block k of a slot is remembered as this one, and nothing else has changed
 pub record RemembersPage (side : Side) (k : ℕ) (page : List ℕ) (old new : Remembered) : Type 0 where
   pub here : slice_get (pages_of side new) k ≡ Some (Some page)
   pub rest : (j : ℕ) → j ≢ k → slice_get (pages_of side new) j ≡ slice_get (pages_of side old) j

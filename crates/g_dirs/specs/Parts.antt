@@ -15,24 +15,24 @@ pub record HoldsHead (format : Format) (head : Head) (blocks : List (List ℕ)) 
   pub limits : IsHead head
   pub block : slice_get blocks 0 ≡ Some (head_block format head)
 
--- users who have the numbers of their places, and each of whom has a block
+-- users numbered by their places, each of whom can be encoded
 pub record AreInOrder (format : Format) (users : List UserRec) : Type 0 where
   pub few : length users ≤ 63
   pub numbered : (i : ℕ) (u : UserRec) → slice_get users i ≡ Some u → u.number ≡ i
   pub limits : All (IsUser format) users
 
--- the 63 blocks behind it are these users'
+-- the next 63 blocks are these users'
 pub record HoldsUsers (format : Format) (users : List UserRec) (blocks : List (List ℕ)) : Type 0 where
   pub are : AreInOrder format users
   pub block : (k : ℕ) → k < 63 → slice_get blocks (1 + k) ≡ Some (user_or_empty format (slice_get users k))
 
--- a file that has a block
+-- a file that can be encoded
 pub record IsEntry (format : Format) (f : FileEntry) : Type 0 where
   pub file : IsFile f.0
   pub places : IfSome (option_map (λ c. c.blocks) f.1) (ArePlaces format f.0.len)
   pub len : IfSome f.1 (λ c. c.len ≡ f.0.len)
 
--- the 1,024 blocks behind them are these files'
+-- the next 1,024 blocks are these files'
 pub record HoldsFiles (format : Format) (files : List FileEntry) (blocks : List (List ℕ)) : Type 0 where
   pub numbered : AreNumbered (recs files)
   pub entries : All (IsEntry format) files

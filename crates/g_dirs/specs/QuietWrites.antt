@@ -1,4 +1,4 @@
--- The writes that change nothing of what a disc stands for, whatever they leave; and that it stands for one thing.
+-- The writes that don't change the directory that a disc holds, even if they fail; and that a disc holds at most one.
 use Rattle.std.specs.Prelude.{◌≡◌, ℕ, ◌+◌, ◌<◌, ◌≤◌, List, Contains, slice_set}
 use Rattle.g_copy.specs.Copy.{bytes_at}
 use Rattle.g_slots.specs.Layout.{gate_side, other, start_of}
@@ -20,6 +20,6 @@ abbrev pub QuietBytes : Type 0
 QuietBytes = (blocks : List (List ℕ)) (place : ℕ) (left places : List ℕ) (len : ℕ) → (Contains places place → ⊥)
     → bytes_at places len (slice_set blocks place left) ≡ bytes_at places len blocks
 
--- a disc stands for one directory at most
+-- a disc holds at most one directory
 abbrev pub StandsForOne : Type 0
 StandsForOne = (blocks : List (List ℕ)) (d e : Directory) → StandsFor blocks d → StandsFor blocks e → d ≡ e

@@ -1,4 +1,4 @@
--- What is known of the records of a slot before the rules among them are looked at, and the rules one by one.
+-- What holds for the records of a slot before the rules between them are checked, and the rules one by one.
 use Rattle.std.specs.Prelude.{◌≡◌, ◌≢◌, ℕ, List, ◌∷◌, length, All, AllPairs}
 use Rattle.std.specs.List.{flat_map}
 use Rattle.g_blocks.specs.Pool.{IsInArea}
@@ -22,11 +22,11 @@ pub record AreApart (size : ℕ) (places : List ℕ) : Type 0 where
   pub area : All (IsInArea size) places
   pub apart : AllPairs (λ j k. j ≢ k) places
 
--- the next copy isn't that of this file
+-- the next copy isn't this file's
 pub record HasNoCopy (number : ℕ) (online : List (ℕ × DiscCopy)) : Type 0 where
   pub first : (c : ℕ × DiscCopy) (rest : List (ℕ × DiscCopy)) → online ≡ c ∷ rest → c.0 ≢ number
 
--- all that is looked at
+-- all rules that are checked
 pub record KeepAll (size next : ℕ) (users : List UserRec) (files : List FileRec) (online : List (ℕ × DiscCopy)) : Type 0 where
   pub users_are : AreUsers users
   pub files_are : AreFiles (length users) files

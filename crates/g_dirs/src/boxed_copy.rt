@@ -8,7 +8,7 @@ use g_copy::DiscCopy;
 use std::alloc::Global;
 use std::marker::Model;
 
-/// Where the bytes of a file lie, in a box that has room for the number of the file. Contracts see the copy.
+/// Where the bytes of a file lie, in a box with room for the number of the file. Contracts see the copy.
 #[derive(Drop)]
 pub struct BoxedCopy {
     it: Box<(u16, DiscCopy)>,
@@ -66,7 +66,7 @@ impl BoxedCopy {
         &self.it.1
     }
 
-    /// Makes an empty copy that of so many bytes, in the n least free blocks of the pool, where it stands.
+    /// Makes an empty copy one of `len` bytes in place, in the n lowest free blocks of the pool.
     pub fn take_blocks(&mut self, pool: &mut Pool, n: u32, len: u32)
         requires empty { self.old.blocks ≡ [] }
         requires few { n ≤ 128 }
@@ -87,7 +87,7 @@ impl BoxedCopy {
         self.it.1.len = 0;
     }
 
-    /// The copy as that of the file of this number, which takes no memory.
+    /// The copy as that of the file of this number. It allocates no memory.
     pub fn of_file(self, number: u16) -> FileCopy
         ensures { result ≡ (number, self) }
     {
@@ -112,7 +112,7 @@ impl FileCopy {
         &self.it.1
     }
 
-    /// The copy without the number, which takes no memory.
+    /// The copy without the number. It allocates no memory.
     pub(crate) fn into_copy(self) -> BoxedCopy
         ensures { result ≡ self.1 }
     {

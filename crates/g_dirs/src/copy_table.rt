@@ -10,13 +10,13 @@ use g_table::NumberTable;
 use std::alloc::Global;
 use std::marker::Model;
 
-/// Where the bytes of files lie, with a place for each number of a file: no copy is searched for, and none moves where another
-/// comes or goes. Contracts see the copies in order of number, each with its number.
+/// Where the bytes of files lie, with a place for each file number: no copy has to be searched for, and none moves when another
+/// is added or removed. Contracts see the copies in order of number, each with its number.
 #[derive(Drop)]
 pub struct CopyTable {
     copies: NumberTable<BoxedCopy>,
 
-    // The box of the copy that went last, for the next one.
+    // The box of the last removed copy, for reuse.
     spare: Option<BoxedCopy>,
 }
 
@@ -65,7 +65,7 @@ impl CopyTable {
         }
     }
 
-    /// The copy of the file of this number, where there is one.
+    /// The copy of the file of this number, if there is one.
     pub fn get(&self, number: u16) -> Option<&DiscCopy>
         ensures { option_copied result ≡ copy_at self.now number }
     {
@@ -75,7 +75,7 @@ impl CopyTable {
         }
     }
 
-    /// Puts the copy of the file of this number among the others, in the place of the one that it had. It takes no memory.
+    /// Sets the copy of the file of this number, and replaces an earlier one. It allocates no memory.
     pub fn put(&mut self, number: u16, copy: BoxedCopy)
         requires { number < 1024 }
         ensures { self.new ≡ filter (λ c. nat_lt c.0 number) self.old ++ (number, copy)
@@ -85,7 +85,7 @@ impl CopyTable {
         keep_box(&mut self.spare, was);
     }
 
-    /// Takes the copy of the file of this number out, if there is one.
+    /// Removes the copy of the file of this number, if there is one.
     pub fn forget(&mut self, number: u16)
         requires { number < 1024 }
         ensures { self.new ≡ filter (λ c. not (c.0 == number)) self.old }
@@ -94,7 +94,7 @@ impl CopyTable {
         keep_box(&mut self.spare, was);
     }
 
-    /// The copy of an empty file, which has no block: in the box of a copy that went, or in a new one.
+    /// The copy of an empty file, which has no block: in the box of a removed copy, or in a new one.
     pub fn empty_copy(&mut self, alloc: Global) -> Result<BoxedCopy, NoMemory>
         ensures copy { IfOk result (λ copy. copy ≡ record { blocks = []; len = 0 }) }
         ensures same { self.new ≡ self.old }
@@ -109,7 +109,7 @@ impl CopyTable {
     }
 }
 
-/// Keeps the box of a copy that went, if there is one.
+/// Stores the box of a removed copy for reuse, if there is one.
 fn keep_box(spare: &mut Option<BoxedCopy>, was: Option<BoxedCopy>) {
     if was.is_some() {
         *spare = was;

@@ -1,10 +1,10 @@
-//! A directory in memory, as it is read from a disc.
+//! A directory in memory, as read from a disc.
 
 use crate::FileCopy;
 use g_entry::{FileRec, Head, UserRec};
 
-/// What a disc says of its filestore: the head, the users and the files in order of number, and by file number the
-/// copies on disc of those that are online, in order of number too.
+/// The directory that a disc holds: the head, the users and the files in order of number, and the copies on disc
+/// of the files that are online, each with its file number, in order of number too.
 #[derive(Drop)]
 pub struct Dirs {
     pub head: Head,

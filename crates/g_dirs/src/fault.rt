@@ -1,4 +1,4 @@
-//! What can stand in the way of a directory.
+//! Why a directory can't be read or written.
 use g_base::NoMemory;
 use g_slots::SlotFault;
 use thiserror::Error;
@@ -15,7 +15,7 @@ pub enum DirsFault {
     /// A write of the disc failed.
     #[error("the disc could not be written")]
     Stopped,
-    /// The memory was refused.
+    /// Memory ran out.
     #[error("out of memory")]
     NoMemory,
 }

@@ -1,4 +1,4 @@
-//! A block that is remembered.
+//! A remembered block.
 ghost use Rattle.std.specs.Prelude.{◌≡◌, replicate};
 ghost use Rattle.std.specs.Str.{bytes_eq};
 ghost use Rattle.g_base.specs.Fields.{padded};
@@ -6,7 +6,7 @@ ghost use Rattle.g_base.specs.Fields.{padded};
 use g_base::{Block, BlockWriter};
 use std::marker::Model;
 
-/// A block that knows where its zeros begin: most blocks of a slot are short, and no more of them is compared and copied.
+/// A block that knows where its trailing zeros begin. Most blocks of a slot are short, and only their front is compared and copied.
 /// Contracts see the block.
 #[derive(Drop)]
 pub(crate) struct KeptBlock {

@@ -1,4 +1,4 @@
-//! What is known of the blocks of a slot.
+//! The known blocks of a slot.
 ghost use Rattle.std.specs.Prelude.{◌≡◌, ◌≢◌, ◌+◌, ◌-◌, ◌<◌, ◌≤◌, ◌++◌, ℕ, IfOk, None, Some, length, replicate, slice_get, slice_index_or, vec_capacity};
 ghost use Rattle.std.specs.Str.{bytes_eq};
 ghost use Rattle.g_base.specs.Fields.{padded};
@@ -10,9 +10,9 @@ use g_slots::SLOT_BLOCKS;
 use std::alloc::Global;
 use std::marker::Model;
 
-/// What each of the 1,088 blocks of a slot holds, as far as it is known. Contracts see all of them. The memory for all is
-/// taken at once. Nearly all blocks of a slot are zeros: those behind the last one that isn't are remembered without their
-/// bytes, and the memory there isn't touched.
+/// The content of each of the 1,088 blocks of a slot, if it is known. Contracts see all of them. The memory for all is
+/// reserved at once. Nearly all blocks of a slot are zeros: those after the last one that isn't are remembered without their
+/// bytes, and their memory isn't touched.
 #[derive(Drop)]
 pub(crate) struct RememberedBlocks {
     known: Vec<bool>,
@@ -31,7 +31,7 @@ impl Model for RememberedBlocks {
 }
 
 impl RememberedBlocks {
-    /// Nothing is known.
+    /// No block is known.
     pub(crate) fn nothing(alloc: Global) -> Result<RememberedBlocks, NoMemory>
         ensures { IfOk result (λ known. known ≡ replicate 1088 None) }
     {
@@ -53,7 +53,7 @@ impl RememberedBlocks {
         }
     }
 
-    /// Block `k` is now known to be the one of this writer. It takes no memory.
+    /// Block `k` is now known to be the one of this writer. It allocates no memory.
     pub(crate) fn set(&mut self, k: u32, writer: &BlockWriter)
         requires { k < 1088 }
         ensures here { slice_get self.new k ≡ Some (Some (padded 512 writer.now)) }
@@ -65,7 +65,7 @@ impl RememberedBlocks {
     }
 }
 
-/// Whether the block of this writer is kept at place `k`, where those behind the end are zeros.
+/// Whether the block of this writer is stored at place `k`. Blocks after the end are zeros.
 fn is_at(blocks: &[KeptBlock], k: usize, writer: &BlockWriter) -> bool
     ensures { result ≡ bytes_eq (slice_index_or blocks.now k (replicate 512 0)) (padded 512 writer.now) }
 {
@@ -75,7 +75,7 @@ fn is_at(blocks: &[KeptBlock], k: usize, writer: &BlockWriter) -> bool
     }
 }
 
-/// Whether the block of this writer is zeros. Where nothing was put it is, without a look.
+/// Whether the block of this writer is zeros. If nothing was put into it, it is, and no byte is compared.
 fn is_zeros(writer: &BlockWriter) -> bool
     ensures { result ≡ bytes_eq (replicate 512 0) (padded 512 writer.now) }
 {
@@ -85,7 +85,7 @@ fn is_zeros(writer: &BlockWriter) -> bool
     KeptBlock::zeros().equals(writer)
 }
 
-/// Keeps the block of a writer at place `k`. There is room for it, and zeros behind the end aren't written.
+/// Stores the block of a writer at place `k`. The capacity suffices for it, and zeros after the end aren't written.
 fn put(blocks: &mut Vec<KeptBlock>, k: usize, writer: &BlockWriter)
     requires { k < vec_capacity blocks.old }
     ensures here { slice_index_or blocks.new.items k (replicate 512 0) ≡ padded 512 writer.now }
@@ -100,7 +100,7 @@ fn put(blocks: &mut Vec<KeptBlock>, k: usize, writer: &BlockWriter)
     blocks[k].keep(writer);
 }
 
-/// Fills up with zeros, so that there is a block `k`. There is room for it.
+/// Appends zeros until there is a block `k`. The capacity suffices for it.
 fn reach(blocks: &mut Vec<KeptBlock>, k: usize)
     requires { k < vec_capacity blocks.old }
     ensures items { blocks.new.items ≡ blocks.old.items ++ replicate (k + 1 - length blocks.old.items) (replicate 512 0) }

@@ -19,7 +19,7 @@ pub use boxed_copy::{BoxedCopy, FileCopy};
 pub use copy_table::CopyTable;
 pub use dirs::Dirs;
 pub use fault::DirsFault;
-pub use laws::{one_directory, quiet_writes};
+pub use laws::{one_directory, power_losses, quiet_writes};
 pub use listing::Listing;
 pub use pages::Pages;
 pub use read::read_dirs;

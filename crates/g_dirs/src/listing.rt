@@ -1,4 +1,4 @@
-//! A directory over lists that stand elsewhere, and its blocks by their numbers.
+//! A directory made of borrowed lists, and its blocks by their numbers.
 ghost use Rattle.std.specs.Prelude.{◌≡◌, ◌<◌, ◌==◌, [], All, find, slice_get};
 ghost use Rattle.std.specs.Option.{option_copied, option_map};
 ghost use Rattle.g_base.specs.Fields.{padded};
@@ -63,7 +63,7 @@ impl<'a> Listing<'a> {
         writer
     }
 
-    /// Makes a writer hold block `k` of the slot, in the place of what it held.
+    /// Replaces the content of a writer by block `k` of the slot.
     pub(crate) fn put_block(&self, writer: &mut BlockWriter, k: u32)
         requires place { k < 1088 }
         requires directory { IsEncodable self.now }
@@ -74,7 +74,7 @@ impl<'a> Listing<'a> {
     }
 }
 
-/// Puts block `k` of the slot of these lists into a writer that has nothing yet.
+/// Puts block `k` of the slot of these lists into an empty writer.
 #[tactic(auto, unfolding(crate::specs::Image::block_of))]
 fn put_slot_block(
     writer: &mut BlockWriter,
@@ -101,7 +101,7 @@ fn put_slot_block(
     put_file_block(writer, files, online, k as u16 - 64);
 }
 
-/// The block of user `number`; nothing, which stands for zeros, where it is unused.
+/// The block of user `number`; nothing, which means zeros, if it is unused.
 #[tactic(auto, unfolding(crate::specs::Image::user_or_empty))]
 fn put_user_block(writer: &mut BlockWriter, users: &[UserRec], number: usize)
     requires empty { writer.old ≡ [] }
@@ -114,7 +114,7 @@ fn put_user_block(writer: &mut BlockWriter, users: &[UserRec], number: usize)
     }
 }
 
-/// The block of file `number`; nothing, which stands for zeros, where it is unused.
+/// The block of file `number`; nothing, which means zeros, if it is unused.
 fn put_file_block(writer: &mut BlockWriter, files: &FileTable, online: &CopyTable, number: u16)
     requires empty { writer.old ≡ [] }
     requires files { AreEncodable files.now online.now }
@@ -128,14 +128,14 @@ fn put_file_block(writer: &mut BlockWriter, files: &FileTable, online: &CopyTabl
     }
 }
 
-/// The file of this number, where there is one.
+/// The file of this number, if there is one.
 fn file_of(files: &FileTable, number: u16) -> Option<&FileRec>
     ensures { option_copied result ≡ find (λ r. number_of_file r == number) files.now }
 {
     files.get(number)
 }
 
-/// The block numbers of the file of this number, where it is online.
+/// The block numbers of the file of this number, if it is online.
 fn places_of(online: &CopyTable, number: u16) -> Option<&BlockList>
     ensures { option_copied result ≡ option_map (λ c. c.blocks) (copy_at online.now number) }
 {

@@ -6,7 +6,7 @@ use g_base::{NoMemory, SLOT_BLOCKS};
 use std::alloc::Global;
 use std::marker::Model;
 
-/// How many blocks go by one note, and how many notes there are.
+/// How many blocks share one note, and how many notes there are.
 const GROUP: u32 = 32;
 
 const GROUPS: usize = 34;
@@ -15,11 +15,11 @@ const GROUPS: usize = 34;
 #[derive(Drop)]
 pub(crate) struct Marks {
     blocks: Vec<bool>,
-    /// Whether any block of a group may be marked, so that a look for marks passes the others whole.
+    /// Whether any block of a group may be marked. A search skips the other groups.
     noted: Vec<bool>,
     /// Between block 0 and this one no block is marked: a commit marks block 0, and often one other.
     low: u32,
-    /// From here on no block is marked, so that a look for marks ends here.
+    /// From here on no block is marked, so a search ends here.
     end: u32,
 }
 
@@ -78,7 +78,7 @@ impl Marks {
         self.end = SLOT_BLOCKS;
     }
 
-    /// Takes all marks off.
+    /// Clears all marks.
     #[tactic(auto, using(crate::proofs::MarkLemmas::off_none))]
     pub(crate) fn clear(&mut self)
         ensures { self.new ≡ replicate 1088 false }
@@ -105,8 +105,8 @@ impl Marks {
         1088
     }
 
-    /// The block behind this one, which isn't marked; behind its group, where it is the first of one without a note; the first
-    /// that may be marked, where that is further on.
+    /// The next candidate after block `j`, which isn't marked: the next block; the next group, if block `j` begins one without a note;
+    /// or the first block that may be marked, if that is later.
     #[tactic(auto, using(crate::proofs::MarkLemmas::behind_one, crate::proofs::MarkLemmas::behind_group, crate::proofs::MarkLemmas::behind_low))]
     fn behind(&self, j: u32) -> u32
         requires within { j < 1088 }
@@ -126,7 +126,7 @@ impl Marks {
     }
 }
 
-/// The first block behind block 0 that may be marked, where block `k` is marked too.
+/// The first block after block 0 that may be marked, once block `k` is marked too.
 fn lowered(low: u32, k: u32) -> u32
     ensures here { (result ≤ k) ⊎ (k ≡ 0) }
     ensures less { result ≤ low }
@@ -134,7 +134,7 @@ fn lowered(low: u32, k: u32) -> u32
     if k == 0 { low } else { low.min(k) }
 }
 
-/// Takes the marks off that stand before `end`, behind which there are none.
+/// Clears the marks before `end`; there are none from `end` on.
 fn unmark(blocks: &mut [bool], end: usize)
     requires within { end ≤ length blocks.old }
     requires behind { (i : ℕ) → end ≤ i → i < length blocks.old → slice_get blocks.old i ≡ Some false }

@@ -1,4 +1,4 @@
-//! The slot blocks that are remembered from commit to commit, so that no block is written once more as it stands.
+//! The slot blocks that are remembered from commit to commit, so that no block is rewritten with the same content.
 ghost use Rattle.std.specs.Prelude.{◌≡◌, ◌≢◌, ◌<◌, ◌≤◌, ◌↔◌, IfOk, IsTrue, List, None, replicate, true, ℕ};
 ghost use Rattle.g_base.specs.Fields.{padded};
 ghost use Rattle.g_entry.specs.declared.format.Format.TheVariants.{Two};
@@ -17,7 +17,7 @@ use g_slots::Side;
 use std::alloc::Global;
 use std::marker::Model;
 
-/// What each of the 1,088 blocks of either slot holds, as far as it is known from the commits since this was made, and a
+/// The content of each of the 1,088 blocks of either slot, if a commit since this was made has written it, and a
 /// mark at each block that may differ from that of the directory in memory (docs/FORMATS.md has the blocks by number).
 /// Contracts see two lists for each slot.
 #[derive(Drop)]
@@ -50,12 +50,12 @@ impl Pages {
         })
     }
 
-    /// Marks block `k` of both slots: the record that stands there has changed since the last commit.
+    /// Marks block `k` of both slots: its record has changed since the last commit.
     pub fn changed(&mut self, k: u32)
         requires { k < 1088 }
         ensures marks { self.new ≡ marked k self.old }
 
-        // A directory that differs in this block alone from one whose changes were marked has its changes marked.
+        // If all changes of a directory were marked, so are those of one that differs from it only in this block.
         ensures covers { (side : Side) (d e : Directory) → Covers d side self.old
             → ((j : ℕ) → j ≢ k → block_of Two e j ≡ block_of Two d j) → Covers e side self.new }
         ensures remembers { (blocks : List (List ℕ)) → Remembers self.old blocks → Remembers self.new blocks }
@@ -74,8 +74,8 @@ impl Pages {
         self.marks_b.set_all();
     }
 
-    /// Whether each block of a slot without a mark is remembered as this directory's, so that its changes were marked. It
-    /// looks at all blocks.
+    /// Whether each unmarked block of a slot is remembered as this directory's, that is, whether all changes were marked. It
+    /// compares all blocks.
     pub fn covers(&self, side: Side, listing: &Listing) -> bool
         requires { IsEncodable listing.now }
         ensures { IsTrue result ↔ Covers listing.now side self.now }
@@ -99,7 +99,7 @@ impl Pages {
         }
     }
 
-    /// Takes the marks of a slot off.
+    /// Clears the marks of a slot.
     pub(crate) fn clear(&mut self, side: Side)
         ensures { LosesMarks side self.old self.new }
     {

@@ -1,4 +1,4 @@
-//! Reading the directory that a disc stands for.
+//! Reads the directory that a disc holds.
 ghost use Rattle.std.specs.Prelude.{◌≡◌, ◌≢◌, ◌⊎◌, ◌<◌, ℕ, ◌↔◌, All, IfOk, IfSome, IsTrue, List, ◌++◌, OnErr, OnOk, Option, Some, length, replicate, slice_get};
 ghost use Rattle.std.specs.Option.{ForSome, option_copied};
 ghost use Rattle.g_disc.specs.Disc.{ReadsByCause};
@@ -21,8 +21,8 @@ use g_entry::{
 use g_slots::Slots;
 use std::alloc::Global;
 
-/// The directory that the disc stands for, in either format. `NoFilestore` comes exactly where it stands for none: the
-/// current slot has a block that is no record's, or its records break a rule. `ReadFault` comes where a block couldn't be
+/// The directory that the disc holds, in either format. `NoFilestore` is returned exactly if it holds none: the
+/// current slot has a block that encodes no record, or its records break a rule. `ReadFault` is returned if a block couldn't be
 /// read. Nothing on the disc changes.
 pub fn read_dirs<D: Disc>(alloc: Global, disc: &mut D, slots: &Slots) -> Result<Dirs, DirsFault>
     requires size { 2177 < (D.state disc.old).size }
@@ -31,7 +31,7 @@ pub fn read_dirs<D: Disc>(alloc: Global, disc: &mut D, slots: &Slots) -> Result<
         (λ blocks. StandsFor blocks (directory_of dirs.head dirs.users.items dirs.files.items dirs.online.items))) }
     ensures copies { IfOk result (λ dirs. AreCopies dirs.files.items dirs.online.items) }
 
-    // What a commit asks for, whether or not the disc tells what it holds.
+    // What a commit requires, whether or not the blocks are observable.
     ensures records { IfOk result (λ dirs. AreRecords Format.Two (directory_of dirs.head dirs.users.items dirs.files.items dirs.online.items)) }
     ensures rules { IfOk result (λ dirs. IsDirectory (D.state disc.old).size
         (directory_of dirs.head dirs.users.items dirs.files.items dirs.online.items)) }
@@ -95,7 +95,7 @@ fn read_users<D: Disc>(
 {
     let mut users = Vec::new(alloc);
     for number in 0..63 {
-        // In a loop the proof reads the arms of a `match`, and not what `?` returns.
+        // In a loop the proof reads the arms of a `match`, not the result of `?`.
         let block = match read_block(disc, slots, 1 + u32::from(number)) {
             Ok(block) => block,
             Err(fault) => return Err(fault),
@@ -108,8 +108,8 @@ fn read_users<D: Disc>(
     Ok(users)
 }
 
-/// Puts the user of this number behind the others, if its block is that of one. `NoFilestore` comes exactly where it is
-/// no user's block and not empty, or a number before it is unused.
+/// Appends the user of this number, if its block encodes one. `NoFilestore` is returned exactly if the block
+/// is neither a user's nor empty, or a lower number is unused.
 fn take_user(
     format: Format,
     block: &Block,
@@ -136,7 +136,7 @@ fn take_user(
     }
 }
 
-/// The user whose block it is, or none where the number is unused. `NoFilestore` comes where it is neither.
+/// The user that the block encodes, or none if the number is unused. `NoFilestore` is returned if it is neither.
 fn user_in(format: Format, block: &Block, number: u8) -> Result<Option<UserRec>, DirsFault>
     ensures found { IfOk result (IsUserCell format number block.now) }
     ensures again { (cell : Option UserRec) → IsUserCell format number block.now cell → result ≡ Ok cell }
@@ -193,8 +193,8 @@ fn read_files<D: Disc>(
     Ok((files, online))
 }
 
-/// Puts the file of this number behind the others, if its block is that of one, and its copy behind the others where it
-/// is online. `NoFilestore` comes exactly where it is no file's block and not empty.
+/// Appends the file of this number, if its block encodes one, and its copy, if it
+/// is online. `NoFilestore` is returned exactly if the block is neither a file's nor empty.
 fn take_file(
     alloc: Global,
     format: Format,
@@ -220,7 +220,7 @@ fn take_file(
     }
 }
 
-/// Puts the copy of a file that is online behind the others.
+/// Appends the copy of a file, if it is online.
 fn add_copy(
     alloc: Global,
     rec: &FileRec,
@@ -240,7 +240,7 @@ fn add_copy(
     Ok(())
 }
 
-/// The file whose block it is, or none where the number is unused. `NoFilestore` comes where it is neither.
+/// The file that the block encodes, or none if the number is unused. `NoFilestore` is returned if it is neither.
 fn file_in(
     format: Format,
     block: &Block,

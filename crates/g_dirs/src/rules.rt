@@ -1,4 +1,4 @@
-//! The rules that the records of a directory keep on a disc.
+//! The rules for the records of a directory.
 ghost use Rattle.std.specs.Prelude.{◌≡◌, ◌≢◌, ◌↔◌, All, AllPairs, IfNone, IfOk, IfSome, IsTrue, ◌∷◌, option_copied};
 ghost use Rattle.g_blocks.specs.Pool.{IsInArea};
 ghost use Rattle.g_entry.specs.Rules.{AreNumbered};
@@ -11,7 +11,7 @@ use g_copy::DiscCopy;
 use g_entry::{FileRec, UserRec, files_keep, stamps_are_below, users_keep};
 use std::alloc::Global;
 
-/// Whether a directory keeps the rules on a disc of `size` blocks.
+/// Whether a directory satisfies the rules on a disc of `size` blocks.
 pub(crate) fn keeps_rules(alloc: Global, size: u32, dirs: &Dirs) -> Result<bool, NoMemory>
     requires { AreRead dirs.now }
     ensures { IfOk result (λ keeps. IsTrue keeps ↔
@@ -52,7 +52,7 @@ fn keep_all(
     places_keep(alloc, size, online)
 }
 
-/// Whether each file is on disc, in as many blocks as it takes, or has a copy on tape, and an empty one is on disc.
+/// Whether each file is on disc, in as many blocks as it needs, or has a copy on tape, and each empty file is on disc.
 fn files_lie(files: &[FileRec], online: &[FileCopy]) -> bool
     requires numbered { AreNumbered files.now }
     requires copies { AreCopies files.now online.now }
@@ -69,7 +69,7 @@ fn files_lie(files: &[FileRec], online: &[FileCopy]) -> bool
     true
 }
 
-/// The copy of a file, where it is the next one, and the copies behind it.
+/// The copy of a file, if it is the next one, and the copies after it.
 fn next_copy(online: &[FileCopy], number: u16) -> (Option<&DiscCopy>, &[FileCopy])
     ensures found { IfSome result.0 (λ copy. online.now ≡ (number, copy.now) ∷ result.1.now) }
     ensures none { IfNone result.0 (HasNoCopy number online.now × (result.1.now ≡ online.now)) }

@@ -4,12 +4,14 @@ ghost use Rattle.std.specs.Option.{ForSome};
 ghost use Rattle.g_base.specs.Fields.{padded};
 ghost use Rattle.g_base.specs.ToldContent.{Changes};
 ghost use Rattle.g_disc.specs.Disc.{WritesOnly};
+ghost use Rattle.g_disc.specs.Durable.{AreSyncable};
 ghost use Rattle.g_slots.specs.Commit.{KeepsCurrent, Prepares};
 ghost use Rattle.g_slots.specs.Layout.{GateNames, GateWritten, other};
 ghost use Rattle.g_dirs.specs.Commit.{NewDirectory, OldOrNew};
 ghost use Rattle.g_dirs.specs.Directory.{AreRecords, IsDirectory};
+ghost use Rattle.g_dirs.specs.Durable.{AreRememberedSyncable, CommitsDurably, IsOfFile};
 ghost use Rattle.g_dirs.specs.Pages.{Covers, KeepsMarks, Remembers, RemembersAll, RemembersPage, is_remembered, marks_of, pages_of, unwritten};
-ghost use Rattle.g_dirs.specs.Writing.{WroteFirst};
+ghost use Rattle.g_dirs.specs.Writing.{DirtiesSlot, WroteFirst};
 
 use crate::{DirsFault, Listing, Pages};
 use g_base::BlockWriter;
@@ -47,12 +49,19 @@ pub fn write_changed<D: Disc>(
     ensures stopped { OnErr result
         (Changes (OldOrNew listing.now) (D.state disc.old).held (D.state disc.new).held) }
 
-    // Just the blocks that aren't remembered are written, and the gate: as many as with all blocks marked.
+    // Only the blocks whose remembered content differs are written, and the gate: as many as with all blocks marked.
     ensures counts { WritesOnly (unwritten listing.now (pages_of (other slots.old) last.old) 1088 + 1)
         (D.state disc.old) (D.state disc.new) result }
     ensures remembers { OnOk result (ForSome (D.state disc.new).held (Remembers last.new)) }
     ensures all { OnOk result (RemembersAll listing.now (pages_of slots.new last.new)) }
     ensures others { OnOk result (pages_of slots.old last.new ≡ pages_of slots.old last.old) }
+
+    // What a power loss leaves.
+    ensures remembered { AreRememberedSyncable last.old (D.state disc.old)
+        → OnOk result (AreRememberedSyncable last.new (D.state disc.new)) }
+    ensures survives { AreRememberedSyncable last.old (D.state disc.old)
+        → AreSyncable (IsOfFile listing.now) (D.state disc.old)
+        → CommitsDurably listing.now slots.new (D.state disc.old) (D.state disc.new) result }
     ensures marks { OnOk result (marks_of slots.new last.new ≡ replicate 1088 false) }
     ensures other_marks { OnOk result (marks_of slots.old last.new ≡ marks_of slots.old last.old) }
     ensures only { OnErr result (result ≡ Err DirsFault.Stopped) }
@@ -65,7 +74,7 @@ pub fn write_changed<D: Disc>(
     Ok(())
 }
 
-/// Makes the slot that isn't current hold this directory.
+/// Writes this directory into the slot that isn't current.
 fn fill<D: Disc>(
     disc: &mut D,
     slots: &Slots,
@@ -86,15 +95,16 @@ fn fill<D: Disc>(
     ensures counts { WritesOnly (unwritten listing.now (pages_of (other slots.now) last.old) 1088)
         (D.state disc.old) (D.state disc.new) result }
     ensures marks { OnOk result (KeepsMarks last.old last.new) }
+    ensures dirties { DirtiesSlot slots.now (D.state disc.old) (D.state disc.new) last.old last.new result }
     ensures only { OnErr result (result ≡ Err DirsFault.Stopped) }
 {
     let _size = disc.size();
     let side = slots.side().other();
-    // All blocks are made in one place, from where they are compared and written.
+    // All blocks are built in one writer, and compared and written from there.
     let mut k = last.next_marked(side, 0);
     while k < 1088 {
         listing.put_block(writer, k);
-        // In a loop the proof reads the arms of a `match`, and not what `?` returns.
+        // In a loop the proof reads the arms of a `match`, not the result of `?`.
         match write_page(disc, slots, k, writer, last) {
             Ok(()) => {}
             Err(fault) => return Err(fault),
@@ -104,8 +114,8 @@ fn fill<D: Disc>(
     Ok(())
 }
 
-/// Makes block `k` of the slot that isn't current hold the block of this writer, and remembers it. It is written where it
-/// isn't remembered so.
+/// Writes the block of this writer as block `k` of the slot that isn't current, and remembers it. If it is already remembered with
+/// that content, nothing is written.
 fn write_page<D: Disc>(
     disc: &mut D,
     slots: &Slots,
@@ -125,6 +135,7 @@ fn write_page<D: Disc>(
         (if is_remembered (pages_of (other slots.now) last.old) k (padded 512 writer.now) then 0 else 1)
         (D.state disc.old) (D.state disc.new) result }
     ensures pages { OnOk result (RemembersPage (other slots.now) k (padded 512 writer.now) last.old last.new) }
+    ensures dirties { DirtiesSlot slots.now (D.state disc.old) (D.state disc.new) last.old last.new result }
     ensures only { OnErr result (result ≡ Err DirsFault.Stopped) }
 {
     let side = slots.side().other();

@@ -1,2 +1,3 @@
 pub mod BlocksLemmas
 pub mod CallLemmas
+pub mod DurableLemmas

@@ -1,12 +1,12 @@
-//! Blocks in memory, of which those behind the last written one are zeros that nobody wrote.
+//! Blocks in memory. Those after the last written one are zeros, and take no memory until they are written.
 ghost use Rattle.std.specs.Prelude.{◌≡◌, ◌+◌, ◌-◌, ◌<◌, ◌≤◌, ◌++◌, [], IfOk, Some, length, replicate, slice_get, slice_index_or, slice_set, vec_capacity};
 
 use g_base::{Block, NoMemory};
 use std::alloc::Global;
 use std::marker::Model;
 
-/// So many blocks, of which contracts see each. Their memory is taken at once; those behind the highest
-/// block that was ever written are zeros, and their memory isn't touched.
+/// A fixed number of blocks; contracts see all of them. Memory for all is reserved at once. Blocks after the highest
+/// one that was ever written are zeros, and their memory isn't touched.
 #[derive(Drop)]
 pub(crate) struct Blocks {
     written: Vec<Block>,
@@ -24,7 +24,7 @@ impl Model for Blocks {
 }
 
 impl Blocks {
-    /// So many blocks of zeros.
+    /// `count` blocks of zeros.
     pub(crate) fn new(alloc: Global, count: u32) -> Result<Blocks, NoMemory>
         ensures { IfOk result (λ b. b ≡ replicate count (replicate 512 0)) }
     {
@@ -32,7 +32,7 @@ impl Blocks {
         Ok(Blocks { written, count })
     }
 
-    /// How many they are.
+    /// The number of blocks.
     pub(crate) fn count(&self) -> u32
         ensures { result ≡ length self.now }
     {
@@ -51,7 +51,7 @@ impl Blocks {
         }
     }
 
-    /// Copies block k to where it is wanted, once.
+    /// Copies block k into `into`.
     pub(crate) fn read(&self, k: u32, into: &mut Block)
         requires { k < length self.now }
         ensures { slice_get self.now k ≡ Some into.new }
@@ -62,7 +62,7 @@ impl Blocks {
         }
     }
 
-    /// Replaces block k. It takes no memory.
+    /// Replaces block k. It allocates no memory.
     pub(crate) fn set(&mut self, k: u32, block: &Block)
         requires { k < length self.old }
         ensures { self.new ≡ slice_set self.old k block.now }
@@ -73,7 +73,7 @@ impl Blocks {
     }
 }
 
-/// Writes zeros behind the last block, so that there is a block k. There is room for it.
+/// Appends blocks of zeros until there is a block k. The capacity suffices for it.
 fn reach(written: &mut Vec<Block>, k: usize)
     requires { k < vec_capacity written.old }
     ensures items { written.new.items ≡ written.old.items ++ replicate (k + 1 - length written.old.items) (replicate 512 0) }

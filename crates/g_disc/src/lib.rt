@@ -3,8 +3,10 @@
 
 mod blocks;
 mod disc;
+mod laws;
 mod memory;
 
 pub use disc::Disc;
 pub use g_base::{ReadFailed, WriteFailed};
+pub use laws::durable_discs_stay;
 pub use memory::{Leave, MemoryDisc};

@@ -1,3 +1,4 @@
 pub mod CommitLemmas
 pub mod HoldLemmas
 pub mod PartLemmas
+pub mod SurvivalLemmas

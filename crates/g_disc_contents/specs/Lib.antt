@@ -3,3 +3,4 @@ pub mod Contents
 pub mod Facts
 pub mod QuietWrites
 pub mod Parts
+pub mod Durable

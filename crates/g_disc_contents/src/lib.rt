@@ -1,6 +1,7 @@
 //! What a disc holds, with bytes instead of block numbers, and which writes leave it unchanged.
 #![tactic(auto)]
 
+ghost use Rattle.g_disc_contents.specs.Durable.{CommitSurvives, ContentsSurvive};
 ghost use Rattle.g_disc_contents.specs.Parts.{BlocksAreParts, JoinedAreParts, PartsJoin};
 ghost use Rattle.g_disc_contents.specs.QuietWrites.{CommitHolds, HoldsOne, QuietHoldsCopy, QuietHoldsSlot};
 
@@ -25,4 +26,12 @@ pub fn parts_hold()
     ensures copy { BlocksAreParts }
     ensures joined { JoinedAreParts }
     ensures join { PartsJoin }
+{}
+
+/// A disc whose live blocks are durable holds the same after a power loss. After a failed commit, a power loss leaves what the disc held,
+/// or the new contents.
+#[tactic(auto, using(crate::proofs::SurvivalLemmas::contents_survive, crate::proofs::SurvivalLemmas::commit_survives))]
+pub fn contents_survive()
+    ensures contents { ContentsSurvive }
+    ensures commit { CommitSurvives }
 {}

@@ -119,6 +119,7 @@ adopt_set_ready last copies before m pages o is kept allowed same remembers cove
     refl (touched_stays before.held before.size m.head.next_stamp old m.touched m.pins was.pins)
     (adopt_contents before.held (is_some m.pins) m.head m.users m.files m.online last copies)
     (copies_noted copies m.online m.files was.copies)
+    (λ k there. there)
     (fits_noted copies m.online m.files (fits_still old was.stored.rules.lies))
     (pool_none before.held before.size m.pins old new m.pool fits.0 (places_noted copies m.online m.files) was.pool)
     (record {

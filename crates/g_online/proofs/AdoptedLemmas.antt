@@ -153,7 +153,7 @@ module _ (last : ℕ) (copies : Tapes) (before : DiscState) (m : Memory) (users 
 adopted_ok : (last : ℕ) (copies : Tapes) (all : List ℕ) (old new : OnlineFacts) → all ≡ [] → (result : Result (Unit {0}) OnlineFault) → OnOk result (HasNoted last copies all old new) → OnOk result (HasAdopted last copies old new)
 adopted_ok last copies all old new all_is (Err e) noted = tt
 adopted_ok last copies all old new all_is (Ok u) noted =
-    record { live = noted.live; contents = noted.contents; pins = noted.pins; changed = noted.changed ∙ all_is; touched = noted.touched; blocks = noted.blocks; commits = noted.commits; writes = noted.writes }
+    record { live = noted.live; contents = noted.contents; pins = noted.pins; changed = noted.changed ∙ all_is; touched = noted.touched; blocks = noted.blocks; commits = noted.commits; writes = noted.writes; durable = noted.durable }
 
 pub adopting_is : (last : ℕ) (copies : Tapes) (all : List ℕ) (old o new : OnlineFacts) (result : Result (Unit {0}) OnlineFault) → all ≡ [] → old ≡ o → IsNotedBy last copies all old new result → IsAdopting last copies o new result
 adopting_is last copies all old o new result all_is is noted = subst (λ (p : OnlineFacts). IsAdopting last copies p new result) is (record {

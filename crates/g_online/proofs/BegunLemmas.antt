@@ -1,7 +1,8 @@
 -- What a filestore is at its beginning.
--- serves: begin (tied), find (none), fresh (ok, stopped), load (none, ok), numbers_of
+-- serves: begin (tied), find (none), fresh (ok, stopped, survives), load (none, ok), numbers_of
 use Rattle.std.proofs.Common.{◌≡◌, ◌≢◌, ℕ, zero, suc, ◌+◌, ◌<◌, ◌≤◌, ◌==◌, Bool, true, false, ◌||◌, List, [], ◌∷◌, ◌++◌, length, get_or, map, filter, replicate, take, Option, Some, None, Ok, All, AllPairs, refl, sym, ◌∙◌, ap, subst, inl, inr, arith, slice_get, if◌then◌else◌, is_some}
-use Rattle.std.specs.Prelude.{Contains, IfSome, nat_lt, ◌⊎◌}
+use Rattle.std.specs.Prelude.{Contains, IfSome, nat_eq, nat_lt, not, ◌⊎◌}
+use Rattle.std.specs.List.{list_any}
 use Rattle.std.specs.Option.{ForSome}
 use Rattle.std.proofs.lemmas.Bool.{cases_eq, cond-false, cond-true, eq-eqb, le-ltb, lt-ltb, ne_eqb, true≢false, or_right}
 use Rattle.std.proofs.lemmas.List.{append-nil, get_or-map, get_or-replicate, get_or-take, length-map, length-replicate, length-take, map_more, take-map}
@@ -13,7 +14,8 @@ use Rattle.g_base.specs.ToldContent.{Changes}
 use Rattle.g_base.proofs.ToldLemmas.{Changes-weaken}
 use Rattle.g_blocks.specs.Pool.{IsFresh, IsInArea}
 use Rattle.g_copy.specs.declared.copy.DiscCopy.{DiscCopy}
-use Rattle.g_disc.specs.Disc.{DiscState, ReadsByCause, ReadsOnly, WritesOnly}
+use Rattle.g_disc.specs.Disc.{DiscState, ReadsByCause, ReadsOnly, StayDurable, WritesOnly, is_durable}
+use Rattle.g_disc.specs.Durable.{AreDurable, PowerLossLeaves}
 use Rattle.g_disc.proofs.CallLemmas.{Causes-ReadsByCause, Causes-WritesOnly_ok, Causes-then, ReadsByCause-ReadsOnly_ok, ReadsByCause-for}
 use Rattle.g_entry.specs.declared.file_rec.FileRec.{FileRec}
 use Rattle.g_entry.specs.declared.format.Format.TheVariants.{Two}
@@ -29,19 +31,22 @@ use Rattle.g_dirs.specs.declared.fault.DirsFault.{DirsFault}
 use Rattle.g_dirs.specs.declared.fault.DirsFault.TheVariants as dirs
 use Rattle.g_dirs.specs.Commit.{OldOrNew}
 use Rattle.g_dirs.specs.Directory.{AreCopies, AreRecords, Directory, FileEntry, IsCopyOf, IsDirectory, all_places, copy_at, directory_of, entries_of, places_of, recs}
+use Rattle.g_dirs.specs.Durable.{AreRememberedSyncable, IsDiscSafe, IsLive}
 use Rattle.g_dirs.specs.Image.{StandsFor}
 use Rattle.g_dirs.specs.Pages.{Covers, Remembered, Remembers, marks_of, nothing, pages_of, unwritten}
 use Rattle.g_dirs.specs.Rules.{AreApart, numbers_of}
 use Rattle.g_dirs.proofs.CopyLemmas.{match_from, places_are, recs-entries}
 use Rattle.g_dirs.proofs.QuietLemmas.{stands_same}
+use Rattle.g_dirs.proofs.Surviving.{live_is_safe, remembered_nothing, safe_stays}
 use Rattle.g_disc_contents.specs.Contents.{Contents, File, Holds, contents_of, file_of, has, with_number}
 use Rattle.g_disc_contents.specs.Facts.{AreNumbers, IsTied, OnlineFacts}
+use Rattle.g_disc_contents.proofs.SurvivalLemmas.{commit_survives}
 use Rattle.g_online.specs.declared.fault.OnlineFault.TheVariants.{NoFilestore, NoMemory, ReadFault}
 use Rattle.g_online.specs.declared.pinned.Pinned.{Pinned}
 use Rattle.g_online.specs.AllowedChanges.{KeepsRules}
 use Rattle.g_online.specs.Beginning.{AsBeforeOr, HasLoaded, HasMade, HoldsAsBefore, IsFound, empty_copies, empty_copy, first_contents, first_file, memory_of, refusal_of}
 use Rattle.g_online.specs.Change.{told_bytes}
-use Rattle.g_online.specs.Commit.{HasCommitted, IsMarked, commit_blocks}
+use Rattle.g_online.specs.Commit.{AreSaved, CommitStopped, HasCommitted, IsMarked, commit_blocks}
 use Rattle.g_online.specs.Invariant.{AreNoted, AreWhole, IsAgreed, IsPooled, IsStored, Memory, PinsAre, directory_in, facts_of}
 use Rattle.g_online.proofs.ContentLemmas.{Told, bytes_are}
 use Rattle.g_online.proofs.CopyLemmas.{Copies, copy_behind, copy_here}
@@ -128,8 +133,8 @@ noted_first users files are of_files = record {
 
 -- WHAT IS IN MEMORY agrees with the disc
 pub begun_agreed : (disc : DiscState) (m : Memory) → (m.pins ≡ None) → (m.touched ≡ []) → (m.changed ≡ all_numbers m.users) → IsStored disc m.side m.pages (directory_in m) → AreCopies m.files m.online
-    → IsFresh disc.size (all_places (directory_in m).files) m.pool → IsAgreed disc m
-begun_agreed disc m pins touched changed stored copies fresh =
+    → IsFresh disc.size (all_places (directory_in m).files) m.pool → AreRememberedSyncable m.pages disc → IsAgreed disc m
+begun_agreed disc m pins touched changed stored copies fresh remembered =
     let files = (directory_in m).files in
     let same : all_places files ++ [] ≡ all_places files = append-nil (all_places files) in
     record {
@@ -142,6 +147,7 @@ begun_agreed disc m pins touched changed stored copies fresh =
       });
       noted = subst (λ (l : List ℕ). AreNoted (length m.users) files l m.touched) (sym changed) (subst (λ (l : List ℕ). AreNoted (length m.users) files (all_numbers m.users) l) (sym touched) (noted_first m.users files stored.rules.users stored.rules.files));
       pins = subst (λ (p : Option (List Pinned)). PinsAre p disc.size m.head.next_stamp files m.touched) (sym pins) touched;
+      remembered = remembered;
     }
 
 -- a table has a place for each of the copies
@@ -167,7 +173,7 @@ loaded_agreed disc side pool users files head online found copies fresh =
       records = found.records;
       rules = found.rules;
     })
-    copies (subst (λ (l : List ℕ). IsFresh disc.size l pool) (sym places) fresh)
+    copies (subst (λ (l : List ℕ). IsFresh disc.size l pool) (sym places) fresh) (remembered_nothing nothing disc refl)
 
 -- THE DISC HOLDS WHAT IT HELD
 pub still_holds : (before after : List (List ℕ)) → current after ≡ current before → copy_area after ≡ copy_area before → length after ≡ length before → (c : Contents) → Holds before c → Holds after c
@@ -223,9 +229,9 @@ module _ (old new : DiscState) (side : Side) (head : Head) (users : List UserRec
       (subst (λ (p : Remembered). IsAgreed new (memory_of side p pool users files head online)) (sym unknown)
       (loaded_agreed new side pool users files head online (found_here reads) copies fresh)))
 
-  pub has_loaded : {P : Type 0} (pages : Remembered) (pool : List Bool) (us : List UserRec) (fs : List FileRec) (o : OnlineFacts) → ReadsByCause P old new → (P → ⊥) → pages ≡ nothing → us ≡ users → fs ≡ files
+  pub has_loaded : {P : Type 0} (pages : Remembered) (pool : List Bool) (us : List UserRec) (fs : List FileRec) (o : OnlineFacts) → ForSome new.held (λ b. length b ≡ new.size) → 2177 < old.size → ReadsByCause P old new → (P → ⊥) → pages ≡ nothing → us ≡ users → fs ≡ files
       → o ≡ facts_of new (memory_of side pages pool us fs head online) → HasLoaded old o
-  has_loaded pages pool us fs o reads none unknown same_users same_files is =
+  has_loaded pages pool us fs o whole large reads none unknown same_users same_files is =
       subst (HasLoaded old) (sym is) (record {
         begun = record { live = refl; pins = refl; touched = refl; changed = refl };
         reads = ReadsByCause-for none (λ never. absurd never) reads;
@@ -236,6 +242,13 @@ module _ (old new : DiscState) (side : Side) (head : Head) (users : List UserRec
             (record { directory = directory_of head users files online; stands = found.stands blocks told; are = refl })));
         unknown = unknown;
         gate = found.gate;
+        durable = λ blocks told is_safe gate.
+            let d = directory_of head users files online in
+            let all : AreDurable (IsLive side d) old =
+            (live_is_safe side d old blocks told (whole blocks (reads.held ∙ told) ∙ reads.size) large (found.gate blocks told) (found.stands blocks told)).1 is_safe gate in
+            subst (λ (l : List FileRec). AreDurable (IsLive side (directory_of head us l online)) new) (sym same_files)
+            (subst (λ (l : List UserRec). AreDurable (IsLive side (directory_of head l files online)) new) (sym same_users)
+            (λ k which. ap (λ (ks : List ℕ). not (list_any (nat_eq k) ks)) reads.volatile ∙ all k which));
       })
 
 -- a created filestore: empty files are on the disc, and all others aren't
@@ -433,12 +446,13 @@ module _ (disc : DiscState) (head : Head) (users : List UserRec) (files : List F
         rules = subst (λ (n : ℕ). IsDirectory n first_directory) (sym size) first_rules.1;
       }))
 
-  pub first_agreed : (before after : DiscState) (side next : Side) (old new : Remembered) (pool : List Bool) (online : Copies) → online ≡ empty_copies files
+  pub first_agreed : (before after : DiscState) (side next : Side) (old new : Remembered) (pool : List Bool) (online : Copies) → online ≡ empty_copies files → old ≡ nothing
       → HasCommitted (directory_of head users files online) before after side next old new → IsFresh after.size [] pool
       → IsAgreed after (memory_of next new pool users files head online)
-  first_agreed before after side next old new pool online is done fresh =
+  first_agreed before after side next old new pool online is unknown done fresh =
       begun_agreed after (memory_of next new pool users files head online) refl refl refl done.stored (first_copies online is)
       (subst (λ (l : List ℕ). IsFresh after.size l pool) (sym (ap (λ (l : Copies). all_places (entries_of files l)) is ∙ no_places files rising)) fresh)
+      (done.remembered (remembered_nothing old before unknown))
 
   pub first_made : (after : DiscState) (online : Copies) → online ≡ empty_copies files → is_some after.held ≡ is_some disc.held
       → contents_of after.held (directory_of head users files online) ≡ first_contents (is_some disc.held) head users files
@@ -468,6 +482,29 @@ module _ (disc : DiscState) (head : Head) (users : List UserRec) (files : List F
   first_stopped online before after same is stop =
       subst (λ (h : Told). Changes (AsBeforeOr (first_contents (is_some disc.held) head users files)) h after) same
       (Changes-weaken stop (λ b a told one. first_stop online b a (sym same ∙ told) is one))
+
+  -- and what a power loss leaves then
+  pub first_survives : {S F : Type 0} {s : S} (now after : DiscState) (pages : Remembered) (online : Copies) → ReadsOnly {T = S} {E = F} disc now (Ok s) → online ≡ empty_copies files → pages ≡ nothing
+      → CommitStopped (directory_of head users files online) now after pages → is_durable disc 0 ≡ true → IsDiscSafe disc
+      → IsDiscSafe after × PowerLossLeaves (AsBeforeOr (first_contents (is_some disc.held) head users files)) disc after
+  first_survives now after pages online reads is unknown stop gate is_safe =
+      let still : StayDurable disc now = λ k was. ap (λ (ks : List ℕ). not (list_any (nat_eq k) ks)) reads.volatile ∙ was in
+      let none : AreSaved (directory_of head users files online) now =
+      λ k of. (let inside = (subst (λ (places : List ℕ). Contains places k) (ap (λ (l : Copies). all_places (entries_of files l)) is ∙ no_places files rising) of).1 in let no : ⊥ = omega (arith, inside) in absurd no) in
+      let both = stop.safe (remembered_nothing pages now unknown) none (still 0 gate) (safe_stays disc now reads.held still is_safe) in (
+        both.0,
+        λ before told left may. by before left told (commit_survives before left (directory_of head users files online) (both.1 before (reads.held ∙ told) left may)),
+      )
+    where
+      by : (before left : List (List ℕ)) → disc.held ≡ Some before
+          → (((c : Contents) → Holds before c → Holds left c) × ((c : Contents) → Holds left c → Holds before c)) ⊎ Holds left (contents_of (Some before) (directory_of head users files online))
+          → AsBeforeOr (first_contents (is_some disc.held) head users files) before left
+      by before left told (inl both) = record { one = inl (record { kept = both.0; only = both.1 }) }
+      by before left told (inr new) = record {
+        one = inr (subst (Holds left)
+            (ap (λ (l : Copies). contents_of (Some before) (directory_of head users files l)) is ∙ contents_first (Some before) head users files rising
+            ∙ ap (λ (b : Bool). first_contents b head users files) (sym (ap is_some told))) new);
+      }
 
 told_same : {R : List (List ℕ) → List (List ℕ) → Type 0} (before after : Told) → Changes R before after → is_some after ≡ is_some before
 told_same None after changes = ap is_some (changes.untold refl)
@@ -502,6 +539,10 @@ has_made disc before after side next old new pool head users files online o most
         writes = subst (λ (n : ℕ). RoseBy (commit_blocks d side old) n after.writes) reads.writes writes.writes;
       };
       told = told;
+      durable = done.durable (remembered_nothing old before unknown)
+          (λ k of.
+          (let inside = (subst (λ (places : List ℕ). Contains places k) (ap (λ (l : Copies). all_places (entries_of files l)) is ∙ no_places files (rises_first (is_some disc.held) head users files kept)) of).1 in
+          let no : ⊥ = omega (arith, inside) in absurd no));
     })
 
 -- numbers that rise, one more

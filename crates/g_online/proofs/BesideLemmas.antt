@@ -1,6 +1,6 @@
 -- A write into free copy blocks preserves the invariant of a filestore.
 -- serves: PinWaitLemmas, WrittenLemmas
-use Rattle.std.proofs.Common.{◌≡◌, ◌⊎◌, ℕ, zero, suc, ◌-◌, ◌||◌, Bool, true, false, not, List, [], ◌∷◌, filter, Option, Some, None, All, refl, sym, ◌∙◌, ap, subst, arith, slice_get, inl, inr}
+use Rattle.std.proofs.Common.{◌≡◌, ◌⊎◌, ℕ, zero, suc, ◌+◌, ◌-◌, ◌≤◌, ◌||◌, Bool, true, false, not, List, [], ◌∷◌, filter, Option, Some, None, All, refl, sym, ◌∙◌, ap, subst, arith, slice_get, inl, inr}
 use Rattle.std.specs.List.{flat_map}
 use Rattle.std.specs.Prelude.{Contains, unwrap_or}
 use Rattle.std.specs.Option.{ForSome}
@@ -11,7 +11,11 @@ use Rattle.g_base.specs.ToldContent.{Changes}
 use Rattle.g_base.proofs.ToldLemmas.{Changes-weaken, told_after}
 use Rattle.g_blocks.specs.Pool.{IsFree, IsInArea, IsTaken}
 use Rattle.g_copy.specs.Copy.{OnlyAt}
-use Rattle.g_disc.specs.Disc.{DiscState}
+use Rattle.g_disc.specs.Disc.{DiscState, StaySyncable, is_durable}
+use Rattle.g_disc.specs.Durable.{AreDurable}
+use Rattle.g_slots.specs.Layout.{start_of}
+use Rattle.g_slots.proofs.Surviving.{before_copies}
+use Rattle.g_dirs.specs.Durable.{IsLive}
 use Rattle.g_dirs.specs.Directory.{FileEntry, IsDirectory, all_places, places_of}
 use Rattle.g_dirs.proofs.QuietLemmas.{gate_kept, remembers_kept, stands_beside}
 use Rattle.g_disc_contents.specs.Contents.{Holds, contents_of}
@@ -121,8 +125,8 @@ module _ (before after : DiscState) (m : Memory) (places : List ℕ) (kept : IsK
       by_pins (Some pins) is are = same_told pins before.held after.held changes (pins_away before.size m.head.next_stamp pins is are.each)
 
   -- AND SO IS THE WHOLE INVARIANT
-  pub beside_kept : ForSome after.held (AreWhole after.size) → IsKept after m
-  beside_kept whole =
+  pub beside_kept : ForSome after.held (AreWhole after.size) → StaySyncable before after → IsKept after m
+  beside_kept whole syncable =
       let low = kept.size in
       let high = kept.most in
       record {
@@ -142,8 +146,22 @@ module _ (before after : DiscState) (m : Memory) (places : List ℕ) (kept : IsK
           pool = subst (λ (n : ℕ). IsPooled n m.pins (directory_in m).files m.pool) (sym size) was.pool;
           noted = was.noted;
           pins = subst (λ (n : ℕ). PinsAre m.pins n m.head.next_stamp (directory_in m).files m.touched) (sym size) was.pins;
+          remembered = λ side k page there. syncable (start_of side + k) (was.remembered side k page there);
         };
       }
+
+  -- and all live blocks stay durable
+  pub beside_durable : ((k : ℕ) → (Contains places k → ⊥) → is_durable before k ≡ true → is_durable after k ≡ true) → AreDurable (IsLive m.side (directory_in m)) before
+      → AreDurable (IsLive m.side (directory_in m)) after
+  beside_durable keeps live k is = keeps k (away is) (live k is)
+    where
+      low : Contains places k → 2177 ≤ k
+      low there = (All-contains (IsInArea before.size) places k places_area there).low
+
+      away : IsLive m.side (directory_in m) k → Contains places k → ⊥
+      away (inl gate) there = let high = low there in (let no : ⊥ = omega (arith, gate, high) in no)
+      away (inr (inl slot)) there = let high = low there in let below = before_copies m.side k slot in (let no : ⊥ = omega (arith, below, high) in no)
+      away (inr (inr of)) there = files_away k of there
 
   -- STOPPED in such a write: the disc holds what it held
   pub beside_holds : ForSome after.held (λ blocks. Holds blocks (contents_of before.held (directory_in m)))

@@ -31,6 +31,8 @@ use Rattle.g_online.specs.Change.{changed, told_bytes, unjammed}
 use Rattle.g_online.specs.Outcomes.{HasChanged}
 use Rattle.g_online.specs.Copies.{with_copy_at}
 use Rattle.g_online.specs.Invariant.{AreNoted, AreWhole, IsAgreed, IsFileOf, IsKept, IsPinned, IsPooled, Memory, PinsAre, WaitsFor, WaitsPinned, directory_in, facts_of, head_after, orphans, pins_of}
+use Rattle.g_online.specs.NewBytes.{WroteBytes}
+use Rattle.g_online.proofs.CopiedPlaces.{places_with}
 use Rattle.g_online.proofs.ChangeLemmas.{bring_contents}
 use Rattle.g_online.proofs.ContentLemmas.{online_is}
 use Rattle.g_online.proofs.CopyLemmas.{Copies}
@@ -249,18 +251,18 @@ noted_brought users r copy files all touched copied was = record {
 
 -- THE BYTES ARE WRITTEN
 module _ (number : ℕ) (bytes unjam : List ℕ) (copy : DiscCopy) (o : OnlineFacts) (origin before : DiscState) (m : Memory) (len : ℕ) (len_is : len ≡ length bytes) (un : IsUnjammed (Bring number bytes []) unjam o origin m) (new : IsNewCopy len m.pool copy)
-    (whole : ForSome before.held (AreWhole before.size)) (counts : WritesOnly {T = Unit {0}} {E = OnlineFault} (length copy.blocks) origin before (Ok tt)) (written : Changes (Copied copy.blocks bytes) origin.held before.held) where
+    (whole : ForSome before.held (AreWhole before.size)) (counts : WritesOnly {T = Unit {0}} {E = OnlineFault} (length copy.blocks) origin before (Ok tt)) (written : WroteBytes copy.blocks bytes origin before) where
   only : Changes (OnlyAt copy.blocks) origin.held before.held
-  only = Changes-weaken written (λ a b told holds. holds.only)
+  only = Changes-weaken written.content (λ a b told holds. holds.only)
 
   needs : NeedsFor len (Bring number bytes [])
   needs = record { need = ap blocks_for (sym len_is); none = refl }
 
   here : IsKept before m
-  here = written_kept (Bring number bytes []) unjam len copy o origin before m needs un new counts.size whole only
+  here = written_kept (Bring number bytes []) unjam len copy o origin before m needs un new counts.size whole only written.dirties.syncable
 
   beside : IsBeside (Bring number bytes []) origin before m
-  beside = written_beside (Bring number bytes []) unjam len copy o origin before m needs un new counts.size whole only counts
+  beside = written_beside (Bring number bytes []) unjam len copy o origin before m needs un new counts.size whole only counts written.dirties
 
   was : IsAgreed before m
   was = here.agreed un.live
@@ -269,7 +271,7 @@ module _ (number : ℕ) (bytes unjam : List ℕ) (copy : DiscCopy) (o : OnlineFa
   off = is_off number bytes origin m un.kept un.live un.allowed
 
   bytes_told : ForSome before.held (λ blocks. bytes_at copy.blocks copy.len blocks ≡ bytes)
-  bytes_told = told_after written (λ b a told holds. subst (λ (k : ℕ). bytes_at copy.blocks k a ≡ bytes) (sym (new.len ∙ len_is)) holds.bytes_are)
+  bytes_told = told_after written.content (λ b a told holds. subst (λ (k : ℕ). bytes_at copy.blocks k a ≡ bytes) (sym (new.len ∙ len_is)) holds.bytes_are)
 
   made_here : (pool : List Bool) (pages : Remembered) → contents_of before.held (directory_in (brought_in (is_some m.pins) m number copy pool pages)) ≡ changed (is_some before.held) (is_some m.pins) (Bring number bytes []) (contents_of before.held (directory_in m))
   made_here pool pages =
@@ -337,6 +339,7 @@ module _ (number : ℕ) (bytes unjam : List ℕ) (copy : DiscCopy) (o : OnlineFa
         touched = touched_stays before.held before.size m.head.next_stamp old m.touched m.pins was.pins;
         contents = made_here mid pages;
         copies = copies_now;
+        copied = λ k there. elim (places_with (number, copy) m.online k there) [ inl old ↦ inl old | inr new ↦ inr (written.dirties.here k new) ];
         marked = record {
           size = here.size;
           gate = was.stored.gate;

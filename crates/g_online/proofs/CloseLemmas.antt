@@ -199,6 +199,7 @@ module _ (last : ℕ) (before : DiscState) (m : Memory) (may : IsToClose last be
         blocks = it.ok.blocks;
         commits = it.ok.commits;
         writes = it.ok.writes;
+        durable = it.ok.durable;
       };
       stopped = tt;
       causes = it.causes;
@@ -211,6 +212,9 @@ module _ (last : ℕ) (before : DiscState) (m : Memory) (may : IsToClose last be
       stopped = record {
         live = it.stopped.live;
         holds = λ blocks told. subst (λ (c : Contents). Holds blocks (facts_of before m).contents ⊎ Holds blocks c) closes (it.stopped.holds blocks told);
+        survives = λ durable.
+            let both = it.stopped.survives durable in
+            (both.0, λ a told left may. subst (λ (c : Contents). Holds left (facts_of before m).contents ⊎ Holds left c) closes (both.1 a told left may));
       };
       causes = it.causes;
       tied = it.tied;

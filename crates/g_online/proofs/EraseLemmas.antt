@@ -30,6 +30,7 @@ use Rattle.g_online.specs.AllowedChanges.{IsAllowed}
 use Rattle.g_online.specs.Change.{owner_in, with_all}
 use Rattle.g_online.specs.Copies.{without_copy}
 use Rattle.g_online.specs.Invariant.{AreNoted, GivesUnless, IsAgreed, IsFileOf, IsKept, IsPinned, IsPooled, Memory, PinsAre, WaitsFor, WaitsPinned, copy_places, directory_in, facts_of, has_stamp, head_after, is_pinned, pins_of, used_places}
+use Rattle.g_online.proofs.CopiedPlaces.{places_filter}
 use Rattle.g_online.proofs.ChangeLemmas.{erase_contents}
 use Rattle.g_online.proofs.EntryLemmas.{made-erased}
 use Rattle.g_online.proofs.KeepLemmas.{CopyFits}
@@ -304,6 +305,7 @@ erase_set_ready number before m pool first pages o is kept allowed going pooled_
     ∙ ap (λ (ns : List ℕ). if is_some (pins_of before.held m.pins) then with_all ns m.touched else []) (sym going.owner))
     (erase_contents before.held (is_some m.pins) m.head m.users m.files m.online number)
     (copies_without number m.files m.online was.copies)
+    (places_filter (λ c. not (c.0 == number)) m.online)
     (subst (All CopyFits) all (All-filter (λ (f : FileEntry). not (f.0.number == number)) CopyFits old (fits_still old was.stored.rules.lies)))
     (subst (λ (fs : List FileEntry). IsPooled before.size m.pins fs pool) all pooled_is)
     (subst (λ (fs : List FileEntry). AreNoted (length m.users) fs (with_number owner m.changed) (touched_with m.pins owner m.touched)) all

@@ -158,6 +158,7 @@ file_set_ready rec before m first pages o is kept allowed there keeps remembers 
     refl (touched_then before.held before.size m.head.next_stamp rec.owner old m.touched m.pins was.pins)
     (file_contents before.held (is_some m.pins) rec m files pages contents)
     (record { rising = was.copies.rising; files_are = subst (λ (ns : List ℕ). All (λ (c : ℕ × DiscCopy). Contains ns c.0) m.online) (sym (numbers_put rec m.files)) was.copies.files_are })
+    (λ k there. there)
     (fits_same old new same (fits_still old was.stored.rules.lies))
     (pool_same before.size m.pins old new m.pool same was.pool)
     (noted_then (length m.users) (length m.users) rec.owner new m.changed m.touched m.pins there.owner (omega arith) (noted_same (length m.users) old new m.changed m.touched same was.noted))

@@ -50,3 +50,4 @@ pub mod WrittenLemmas
 pub mod BringStepLemmas
 pub mod NewBytesLemmas
 pub mod PinListLemmas
+pub mod CopiedPlaces

@@ -34,5 +34,5 @@ kept_anew disc m pool pins changed touched kept pooled noted pinned = record {
   size = kept.size;
   most = kept.most;
   whole = kept.whole;
-  agreed = λ live. let was = kept.agreed live in record { stored = was.stored; copies = was.copies; pool = pooled live; noted = noted live; pins = pinned live };
+  agreed = λ live. let was = kept.agreed live in record { stored = was.stored; copies = was.copies; pool = pooled live; noted = noted live; pins = pinned live; remembered = was.remembered };
 }

@@ -24,12 +24,12 @@ use Rattle.g_online.specs.declared.fault.OnlineFault.{OnlineFault}
 use Rattle.g_online.specs.declared.fault.OnlineFault.TheVariants.{DiscFull, NoMemory, Stopped}
 use Rattle.g_online.specs.AllowedChanges.{IsAllowed}
 use Rattle.g_online.specs.Change.{need_of}
-use Rattle.g_online.specs.Commit.{HasCommitted, IsMarked, commit_blocks}
+use Rattle.g_online.specs.Commit.{CommitStopped, HasCommitted, IsMarked, commit_blocks}
 use Rattle.g_online.specs.Copies.{without_copies}
 use Rattle.g_online.specs.Outcomes.{IsApplied, room_for}
 use Rattle.g_online.specs.Invariant.{AreWhole, IsKept, Memory, directory_in, facts_of, head_after}
 use Rattle.g_online.specs.Unloading.{places_off}
-use Rattle.g_online.specs.NewBytes.{IsUntouched, Parts, TakesBeside, TakesFilesOff}
+use Rattle.g_online.specs.NewBytes.{IsUntouched, Parts, TakesBeside, TakesFilesOff, WritingStopped}
 use Rattle.g_online.proofs.CopyLemmas.{Copies}
 use Rattle.g_online.proofs.ReadyLemmas.{allowed_live}
 use Rattle.g_online.proofs.StepLemmas.{IsReadyFrom, applied, refused}
@@ -202,10 +202,10 @@ unjammed_copy bytes given old pool copy inner listed o disc m takes un is =
 -- STOPPED in one of the writes of the bytes
 pub bytes_stopped : (bytes : ℕ) (listed : List ℕ) (inner outer : Change) (copy : DiscCopy) (o : OnlineFacts) (origin before : DiscState) (m : Memory) (live : Bool) (pool : List Bool) (e : OnlineFault) {k : ℕ} → IsNeeding listed inner outer → NeedsFor bytes inner
     → IsUnjammed inner listed o origin m → IsNewCopy bytes m.pool copy → (room_for outer o < need_of outer → ⊥)
-    → WritesOnly {T = Unit {0}} k origin before (Err e) → Changes (OnlyAt copy.blocks) origin.held before.held → ForSome before.held (AreWhole before.size) → live ≡ false → (let r : Result (Unit {0}) OnlineFault = Err e in r ≡ Err Stopped)
+    → WritesOnly {T = Unit {0}} k origin before (Err e) → WritingStopped copy.blocks origin before → ForSome before.held (AreWhole before.size) → live ≡ false → (let r : Result (Unit {0}) OnlineFault = Err e in r ≡ Err Stopped)
     → IsKept before (record m { live = live; pool = pool }) × IsApplied outer o (facts_of before (record m { live = live; pool = pool })) (Err e)
-bytes_stopped bytes listed inner outer copy o origin before m live pool e needing needs un new room counts only whole dead is =
-    let both = write_stopped inner listed bytes copy o origin before m needs un new counts.size whole only e (stopped_is e is) counts in
+bytes_stopped bytes listed inner outer copy o origin before m live pool e needing needs un new room counts stop_is whole dead is =
+    let both = write_stopped inner listed bytes copy o origin before m needs un new counts.size whole stop_is.content e (stopped_is e is) stop_is.durable counts in
     let stop : IsApplied inner (facts_of origin m) (facts_of before (record m { live = live })) (Err e) =
     subst (λ (l : Bool). IsApplied inner (facts_of origin m) (facts_of before (record m { live = l })) (Err e)) (sym dead) both.1 in (
       kept_stopped before (record m { live = false }) (record m { live = live; pool = pool }) both.0 dead,
@@ -215,7 +215,7 @@ bytes_stopped bytes listed inner outer copy o origin before m live pool e needin
 -- ANSWERED by the last commit
 pub last_answered : (listed : List ℕ) (inner outer : Change) (o : OnlineFacts) {origin : DiscState} (before after : DiscState) (m n : Memory) (next : Side) (pages : Remembered) (live : Bool) (r : Result (Unit {0}) OnlineFault) (online : Copies)
     → IsNeeding listed inner outer → IsUnjammed inner listed o origin m → IsReadyFrom inner origin before m n → (room_for outer o < need_of outer → ⊥) → online ≡ n.online
-    → OnOk r (HasCommitted (directory_of n.head n.users n.files online) before after n.side next n.pages pages) → OnErr r (Changes (OldOrNew (directory_of n.head n.users n.files online)) before.held after.held)
+    → OnOk r (HasCommitted (directory_of n.head n.users n.files online) before after n.side next n.pages pages) → OnErr r (CommitStopped (directory_of n.head n.users n.files online) before after n.pages)
     → WritesOnly (commit_blocks (directory_of n.head n.users n.files online) n.side n.pages) before after r → ForSome after.held (AreWhole after.size) → OnErr r (r ≡ Err Stopped)
     → OnOk r (live ≡ n.live) → OnErr r (live ≡ false) → IsApplied outer o (facts_of after (record n { side = next; pages = pages; live = live })) r
 last_answered listed inner outer o {origin} before after m n next pages live r online needing un ready room same ok stopped counts whole only lives dies =

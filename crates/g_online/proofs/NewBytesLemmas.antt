@@ -27,12 +27,12 @@ use Rattle.g_online.specs.declared.fault.OnlineFault.{OnlineFault}
 use Rattle.g_online.specs.declared.fault.OnlineFault.TheVariants.{Stopped}
 use Rattle.g_online.specs.AllowedChanges.{IsAllowed}
 use Rattle.g_online.specs.Change.{need_of}
-use Rattle.g_online.specs.Commit.{HasCommitted, commit_blocks}
+use Rattle.g_online.specs.Commit.{CommitStopped, HasCommitted, commit_blocks}
 use Rattle.g_online.specs.Copies.{with_copy_at}
 use Rattle.g_online.specs.Outcomes.{IsApplied, room_for}
 use Rattle.g_online.specs.Invariant.{AreWhole, GivesUnless, IsKept, Memory, copy_places, facts_of, head_after}
 use Rattle.g_online.specs.Unloading.{places_off}
-use Rattle.g_online.specs.NewBytes.{IsUntouched, Parts, TakesBeside, TakesFilesOff, is_pinned_at, noted_for, recs_with, stamped, users_with, with_bytes}
+use Rattle.g_online.specs.NewBytes.{IsUntouched, Parts, TakesBeside, TakesFilesOff, WritingStopped, WroteBytes, is_pinned_at, noted_for, recs_with, stamped, users_with, with_bytes}
 use Rattle.g_online.proofs.BringStepLemmas.{bring_needing, bring_ready, bring_short, is_off}
 use Rattle.g_online.proofs.CopyLemmas.{Copies}
 use Rattle.g_online.proofs.NeedLemmas.{IsAsked, asked_room, asked_unjammed, bytes_stopped, last_answered, new_copy}
@@ -85,7 +85,7 @@ pub record HasWritten (rec : Option FileRec) (number : ℕ) (bytes unjam : List 
   pub new : IsNewCopy (length bytes) m.pool copy
   pub whole : ForSome before.held (AreWhole before.size)
   pub counts : WritesOnly {T = Unit {0}} {E = OnlineFault} (length copy.blocks) origin before (Ok tt)
-  pub written : Changes (Copied copy.blocks bytes) origin.held before.held
+  pub written : WroteBytes copy.blocks bytes origin before
 
 -- a file that isn't on the disc has no copy there
 copy_of_entry : (files : List FileRec) (online : Copies) → All (λ (e : FileEntry). copy_at online e.0.number ≡ e.1) (entries_of files online)
@@ -203,7 +203,7 @@ module _ (rec : Option FileRec) (number : ℕ) (bytes listed : List ℕ) (o : On
   before_bytes p = memory_with m p.takes.between y
 
   pub has_written : (p : IsPrepared rec number bytes listed o before after m pool copy y) (last : DiscState) → ForSome last.held (AreWhole last.size)
-      → WritesOnly {T = Unit {0}} {E = OnlineFault} (length copy.blocks) after last (Ok tt) → Changes (Copied copy.blocks bytes) after.held last.held
+      → WritesOnly {T = Unit {0}} {E = OnlineFault} (length copy.blocks) after last (Ok tt) → WroteBytes copy.blocks bytes after last
       → HasWritten rec number bytes listed copy o after last (before_bytes p)
   has_written p last whole counts written = record {
     at = p.at;
@@ -219,7 +219,7 @@ module _ (rec : Option FileRec) (number : ℕ) (bytes listed : List ℕ) (o : On
 
   -- stopped in one of the writes of the bytes
   pub writes_stopped : (p : IsPrepared rec number bytes listed o before after m pool copy y) (last : DiscState) (live : Bool) (e : OnlineFault) {k : ℕ} → WritesOnly {T = Unit {0}} k after last (Err e)
-      → Changes (OnlyAt copy.blocks) after.held last.held → ForSome last.held (AreWhole last.size) → live ≡ false → (let r : Result (Unit {0}) OnlineFault = Err e in r ≡ Err Stopped)
+      → WritingStopped copy.blocks after last → ForSome last.held (AreWhole last.size) → live ≡ false → (let r : Result (Unit {0}) OnlineFault = Err e in r ≡ Err Stopped)
       → IsKept last (record (before_bytes p) { live = live; pool = pool }) × IsApplied (with_bytes rec number bytes listed) o (facts_of last (record (before_bytes p) { live = live; pool = pool })) (Err e)
   writes_stopped p last live e counts only whole dead is =
       bytes_stopped (length bytes) listed (with_bytes rec number bytes []) (with_bytes rec number bytes listed) copy o after last (before_bytes p) live pool e p.asked.needing p.asked.needs p.un
@@ -228,7 +228,7 @@ module _ (rec : Option FileRec) (number : ℕ) (bytes listed : List ℕ) (o : On
   -- answered by the last commit
   pub commit_answers : (p : IsPrepared rec number bytes listed o before after m pool copy y) (last end : DiscState) (n : Memory) (next : Side) (pages : Remembered) (live : Bool) (r : Result (Unit {0}) OnlineFault) (online : Copies)
       → IsReadyFrom (with_bytes rec number bytes []) after last (before_bytes p) n → online ≡ n.online
-      → OnOk r (HasCommitted (directory_of n.head n.users n.files online) last end n.side next n.pages pages) → OnErr r (Changes (OldOrNew (directory_of n.head n.users n.files online)) last.held end.held)
+      → OnOk r (HasCommitted (directory_of n.head n.users n.files online) last end n.side next n.pages pages) → OnErr r (CommitStopped (directory_of n.head n.users n.files online) last end n.pages)
       → WritesOnly (commit_blocks (directory_of n.head n.users n.files online) n.side n.pages) last end r → ForSome end.held (AreWhole end.size) → OnErr r (r ≡ Err Stopped)
       → OnOk r (live ≡ n.live) → OnErr r (live ≡ false) → IsApplied (with_bytes rec number bytes listed) o (facts_of end (record n { side = next; pages = pages; live = live })) r
   commit_answers p last end n next pages live r online ready =

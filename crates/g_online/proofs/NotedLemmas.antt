@@ -13,6 +13,7 @@ use Rattle.g_slots.specs.declared.side.Side.{Side}
 use Rattle.g_dirs.specs.Commit.{OldOrNew}
 use Rattle.g_dirs.specs.Directory.{directory_of}
 use Rattle.g_dirs.specs.Pages.{Remembered}
+use Rattle.g_disc_contents.specs.Durable.{IsDurable}
 use Rattle.g_disc_contents.specs.Commits.{Commits}
 use Rattle.g_disc_contents.specs.Contents.{Holds}
 use Rattle.g_disc_contents.specs.Facts.{IsTied, OnlineFacts, Pin}
@@ -21,7 +22,7 @@ use Rattle.g_online.specs.declared.fault.OnlineFault.{OnlineFault}
 use Rattle.g_online.specs.declared.fault.OnlineFault.TheVariants.{Stopped}
 use Rattle.g_online.specs.declared.pinned.Pinned.{Pinned}
 use Rattle.g_online.specs.Change.{changed, unjammed}
-use Rattle.g_online.specs.Commit.{HasCommitted, commit_blocks}
+use Rattle.g_online.specs.Commit.{CommitStopped, HasCommitted, commit_blocks}
 use Rattle.g_online.specs.Outcomes.{HasChanged, HasStopped, IsApplied}
 use Rattle.g_online.specs.Invariant.{AreNoted, AreWhole, IsKept, Memory, PinsAre, directory_in, facts_of}
 use Rattle.g_online.specs.ReadyCopies.{StoppedAdopting, adopted}
@@ -53,6 +54,7 @@ pub record HasNoted (last : ℕ) (copies : List (ℕ × TapeCopy)) (all : List �
   pub blocks : ℕ
   pub commits : Commits 1 old.layout new.layout blocks
   pub writes : RoseBy blocks old.disc.writes new.disc.writes
+  pub durable : IsDurable old → IsDurable new
 
 -- or stopped at one of its writes
 pub record IsNotedBy (last : ℕ) (copies : List (ℕ × TapeCopy)) (all : List ℕ) (old new : OnlineFacts) (result : Result (Unit {0}) OnlineFault) : Type 0 where
@@ -92,10 +94,15 @@ module _ (last : ℕ) (copies : List (ℕ × TapeCopy)) (all touched : List ℕ)
     blocks = done.blocks;
     commits = done.commits;
     writes = subst (λ (k : ℕ). RoseBy k before.writes after.writes) (let same : 0 + done.blocks ≡ done.blocks = omega arith in same) done.writes;
+    durable = done.durable;
   }
 
   stopped_noting : HasStopped (Adopt last copies) (facts_of before m) (facts_of after behind) → StoppedAdopting last copies (facts_of before m) (facts_of after (counted all touched behind))
-  stopped_noting stopped = record { live = stopped.live; holds = λ blocks told. one_of blocks (stopped.holds blocks told).one }
+  stopped_noting stopped = record {
+    live = stopped.live;
+    holds = λ blocks told. one_of blocks (stopped.holds blocks told).one;
+    survives = λ durable. let both = stopped.survives durable in (both.0, λ a told left may. one_of left (both.1 a told left may).one);
+  }
     where
       one_of : (blocks : List (List ℕ)) → Holds blocks (facts_of before m).contents
           ⊎ (((let nothing : ℕ = 0 in nothing < 0) × Holds blocks (unjammed (is_some (facts_of before m).pins) (Adopt last copies) (facts_of before m).contents))
@@ -126,7 +133,7 @@ module _ (last : ℕ) (copies : List (ℕ × TapeCopy)) (all touched : List ℕ)
 
   pub noted_by : (result : Result (Unit {0}) OnlineFault) (online : List (ℕ × DiscCopy)) → online ≡ n.online
       → OnOk result (HasCommitted (directory_of n.head n.users n.files online) before after n.side next n.pages pages)
-      → OnErr result (Changes (OldOrNew (directory_of n.head n.users n.files online)) before.held after.held)
+      → OnErr result (CommitStopped (directory_of n.head n.users n.files online) before after n.pages)
       → WritesOnly (commit_blocks (directory_of n.head n.users n.files online) n.side n.pages) before after result
       → ForSome after.held (AreWhole after.size) → OnErr result (result ≡ Err Stopped) → OnOk result (live ≡ n.live) → OnErr result (live ≡ false)
       → IsNotedBy last copies all (facts_of before m) (facts_of after (counted all touched behind)) result

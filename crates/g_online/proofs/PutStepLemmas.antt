@@ -33,6 +33,8 @@ use Rattle.g_online.specs.Change.{changed as changed_to}
 use Rattle.g_online.specs.Copies.{with_copy_at}
 use Rattle.g_online.specs.Invariant.{AreWhole, GivesUnless, IsAgreed, IsKept, IsPooled, Memory, copy_places, directory_in, head_after, orphans, pins_of, used_places}
 use Rattle.g_online.specs.NewBytes.{is_pinned_at}
+use Rattle.g_online.specs.NewBytes.{WroteBytes}
+use Rattle.g_online.proofs.CopiedPlaces.{places_with}
 use Rattle.g_online.proofs.CopyLemmas.{Copies, copy_behind}
 use Rattle.g_online.proofs.EraseLemmas.{entries_differ, entries_rise, places_are, pooled, use_gone, used}
 use Rattle.g_online.proofs.KeepLemmas.{rules_kept}
@@ -137,22 +139,22 @@ module _ (disc : DiscState) (m : Memory) (was : IsAgreed disc m) (number : ℕ) 
 
 -- A NEW VERSION whose bytes are written
 module _ (rec : FileRec) (bytes unjam : List ℕ) (copy : DiscCopy) (o : OnlineFacts) (origin before : DiscState) (m : Memory) (un : IsUnjammed (PutFile rec bytes []) unjam o origin m) (new : IsNewCopy rec.len m.pool copy)
-    (whole : ForSome before.held (AreWhole before.size)) (counts : WritesOnly {T = Unit {0}} {E = OnlineFault} (length copy.blocks) origin before (Ok tt)) (written : Changes (Copied copy.blocks bytes) origin.held before.held) where
+    (whole : ForSome before.held (AreWhole before.size)) (counts : WritesOnly {T = Unit {0}} {E = OnlineFault} (length copy.blocks) origin before (Ok tt)) (written : WroteBytes copy.blocks bytes origin before) where
   only : Changes (OnlyAt copy.blocks) origin.held before.held
-  only = Changes-weaken written (λ a b told holds. holds.only)
+  only = Changes-weaken written.content (λ a b told holds. holds.only)
 
   needs : NeedsFor rec.len (PutFile rec bytes [])
   needs = record { need = ap blocks_for (sym un.allowed.fits.2); none = refl }
 
   here : IsKept before m
-  here = written_kept (PutFile rec bytes []) unjam rec.len copy o origin before m needs un new counts.size whole only
+  here = written_kept (PutFile rec bytes []) unjam rec.len copy o origin before m needs un new counts.size whole only written.dirties.syncable
 
   beside : IsBeside (PutFile rec bytes []) origin before m
-  beside = written_beside (PutFile rec bytes []) unjam rec.len copy o origin before m needs un new counts.size whole only counts
+  beside = written_beside (PutFile rec bytes []) unjam rec.len copy o origin before m needs un new counts.size whole only counts written.dirties
 
   -- what the disc exposes of the copy
   bytes_told : ForSome before.held (λ blocks. bytes_at copy.blocks copy.len blocks ≡ bytes)
-  bytes_told = told_after written (λ b a told holds. subst (λ (k : ℕ). bytes_at copy.blocks k a ≡ bytes) (sym (new.len ∙ un.allowed.fits.2)) holds.bytes_are)
+  bytes_told = told_after written.content (λ b a told holds. subst (λ (k : ℕ). bytes_at copy.blocks k a ≡ bytes) (sym (new.len ∙ un.allowed.fits.2)) holds.bytes_are)
 
   made_here : (pool : List Bool) (pages : Remembered) → contents_of before.held (directory_in (put_in_memory (is_some m.pins) m rec copy pool pages)) ≡ changed_to (is_some before.held) (is_some m.pins) (PutFile rec bytes []) (contents_of before.held (directory_in m))
   made_here pool pages = made_put rec bytes copy before m pool pages bytes_told
@@ -213,6 +215,7 @@ module _ (rec : FileRec) (bytes unjam : List ℕ) (copy : DiscCopy) (o : OnlineF
         touched = touched_then before.held before.size m.head.next_stamp rec.owner (entries_of m.files m.online) m.touched m.pins was.pins;
         contents = put.contents;
         copies = put.copies;
+        copied = λ k there. elim (places_with (rec.number, copy) m.online k there) [ inl old ↦ inl old | inr new ↦ inr (written.dirties.here k new) ];
         marked = record {
           size = here.size;
           gate = was.stored.gate;

@@ -1,7 +1,7 @@
 -- What a change of records brings about in memory is ready to be written.
 -- serves: with_new_copy, AdoptLemmas, AdoptedLemmas, BringStepLemmas, BytesLemmas, CloseLemmas, CloseMarkLemmas, EraseLemmas, FileLemmas, and 8 more
-use Rattle.std.proofs.Common.{◌≡◌, ◌≢◌, ℕ, Bool, true, List, ◌++◌, length, get_or, sym, ◌∙◌, ap, subst, arith, length-append}
-use Rattle.std.specs.Prelude.{All, AllPairs, is_some}
+use Rattle.std.proofs.Common.{◌≡◌, ◌≢◌, ℕ, Bool, true, List, ◌++◌, length, get_or, sym, ◌∙◌, ap, subst, arith, inl, length-append}
+use Rattle.std.specs.Prelude.{All, AllPairs, Contains, is_some}
 use Rattle.std.proofs.Math.ListN.{get_or-append}
 use Rattle.g_blocks.specs.Pool.{IsInArea}
 use Rattle.g_disc.specs.Disc.{DiscState}
@@ -10,6 +10,7 @@ use Rattle.g_slots.specs.declared.side.Side.{Side}
 use Rattle.g_dirs.specs.Directory.{AreCopies, AreRecords, Directory, IsDirectory, all_places}
 use Rattle.g_dirs.specs.Image.{block_of}
 use Rattle.g_dirs.specs.Pages.{Covers, KeepsPages, Remembered, Remembers}
+use Rattle.g_dirs.specs.Rules.{numbers_of}
 use Rattle.g_disc_contents.specs.Contents.{contents_of}
 use Rattle.g_disc_contents.specs.Facts.{OnlineFacts}
 use Rattle.g_online.specs.declared.change.Change.{Change}
@@ -55,10 +56,10 @@ pub make_ready : (change : Change) (before : DiscState) (m n : Memory) (o : Onli
     → ((s : Side) → Covers (directory_in m) s m.pages → Covers (directory_in n) s n.pages)
     → n.changed ≡ changed_after change (facts_of before m) → n.touched ≡ touched_after change (facts_of before m)
     → contents_of before.held (directory_in n) ≡ changed_to (is_some before.held) (is_some m.pins) change (contents_of before.held (directory_in m))
-    → AreCopies n.files n.online → All CopyFits (directory_in n).files → IsPooled before.size n.pins (directory_in n).files n.pool
+    → AreCopies n.files n.online → ((k : ℕ) → Contains (numbers_of n.online) k → Contains (numbers_of m.online) k) → All CopyFits (directory_in n).files → IsPooled before.size n.pins (directory_in n).files n.pool
     → AreNoted (length n.users) (directory_in n).files n.changed n.touched → PinsAre n.pins before.size n.head.next_stamp (directory_in n).files n.touched
     → IsReady change before m n
-make_ready change before m n o is kept allowed commits need lives side pins pages remembers covers changed touched contents copies fits pool noted pinned =
+make_ready change before m n o is kept allowed commits need lives side pins pages remembers covers changed touched contents copies places fits pool noted pinned =
     let live : m.live ≡ true = allowed_live change before m o is allowed in
     let was = kept.agreed live in
     let both : AreRecords Two (directory_in n) × IsDirectory before.size (directory_in n) =
@@ -78,6 +79,7 @@ make_ready change before m n o is kept allowed commits need lives side pins page
       touched = touched;
       contents = contents;
       copies = copies;
+      copied = λ k there. inl (places k there);
       marked = record {
         size = kept.size;
         gate = λ b told. was.stored.gate b told ∙ sym side;

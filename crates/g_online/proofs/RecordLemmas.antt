@@ -67,7 +67,7 @@ intent_ready intent before m pages o is kept allowed marks remembers covers =
     make_ready (SetIntent intent) before m n o is kept allowed refl refl refl refl refl (keeps_marked 0 m.pages pages marks) remembers
     (λ s old. covers s (directory_in m) (directory_in n) old (but_head (directory_in m) (directory_in n) refl refl))
     refl (touched_stays before.held before.size m.head.next_stamp (directory_in m).files m.touched m.pins was.pins)
-    (intent_contents before.held (is_some m.pins) intent m pages) was.copies (fits_still (directory_in m).files was.stored.rules.lies) was.pool was.noted was.pins
+    (intent_contents before.held (is_some m.pins) intent m pages) was.copies (λ k there. there) (fits_still (directory_in m).files was.stored.rules.lies) was.pool was.noted was.pins
 
 -- THE RECORD OF A USER
 pub next_kept : (pinned : Bool) (head : Head) → (head_after pinned head).next_stamp ≡ head.next_stamp
@@ -95,7 +95,7 @@ user_set_ready user before m first pages o is kept allowed marks remembers cover
     (λ s old. covers' s mid (directory_in n) (covers s (directory_in m) mid old (but_head (directory_in m) mid refl refl))
     (but_user user.number mid (directory_in n) refl (λ i other. slice_get-set_other m.users user.number i user other) refl))
     refl (touched_stays before.held before.size m.head.next_stamp (directory_in m).files m.touched m.pins was.pins)
-    (user_contents before.held (is_some m.pins) user m pages) was.copies (fits_still (directory_in m).files was.stored.rules.lies) was.pool
+    (user_contents before.held (is_some m.pins) user m pages) was.copies (λ k there. there) (fits_still (directory_in m).files was.stored.rules.lies) was.pool
     (subst (λ (k : ℕ). AreNoted k (directory_in m).files m.changed m.touched) (sym (length-set m.users user.number user)) was.noted)
     (subst (λ (k : ℕ). PinsAre m.pins before.size k (directory_in m).files m.touched) (sym (next_kept (is_some m.pins) m.head)) was.pins)
 

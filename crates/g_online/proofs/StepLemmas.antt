@@ -1,7 +1,7 @@
 -- A change that is one commit: what is known before it, and what it leaves.
 -- serves: add_user, adopt, adopt_ready, close_dump, erase_file, set_file, set_intent, set_user, unload, with_new_copy, AdoptLemmas, AdoptedLemmas, and 14 more
 use Rattle.std.proofs.Common.{◌≡◌, ℕ, ◌+◌, Bool, true, false, List, [], Option, Some, None, Result, Ok, Err, refl, sym, ◌∙◌, ap, subst, arith, inl, inr, if◌then◌else◌}
-use Rattle.std.specs.Prelude.{is_some, length, ◌<◌, ◌⊎◌, ◌↔◌, ◌≢◌, IsErrOf, OnErr, OnOk}
+use Rattle.std.specs.Prelude.{Contains, is_some, length, ◌<◌, ◌⊎◌, ◌↔◌, ◌≢◌, IsErrOf, OnErr, OnOk}
 use Rattle.std.specs.Option.{ForSome}
 use Rattle.std.proofs.lemmas.Bool.{true≢false}
 use Rattle.g_base.specs.Counts.{RoseBy}
@@ -9,28 +9,36 @@ use Rattle.g_base.specs.ToldContent.{Changes}
 use Rattle.g_base.proofs.CountLemmas.{RoseBy-none, RoseBy-then}
 use Rattle.g_base.proofs.ToldLemmas.{Changes-weaken, Changes-back}
 use Rattle.g_copy.specs.declared.copy.DiscCopy.{DiscCopy}
-use Rattle.g_disc.specs.Disc.{Causes, DiscState, WritesOnly}
+use Rattle.g_disc.specs.Disc.{Causes, DiscState, WritesOnly, is_syncable}
+use Rattle.g_disc.specs.Durable.{AreDurable, MayLeave, PowerLossLeaves}
 use Rattle.g_disc.proofs.CallLemmas.{Causes-WritesOnly_ok, Causes-WritesOnly_err, Causes-none, Causes-then}
 use Rattle.g_slots.specs.declared.side.Side.{Side}
 use Rattle.g_slots.specs.Layout.{other}
 use Rattle.g_dirs.specs.Commit.{NewDirectory, OldOrNew}
 use Rattle.g_dirs.specs.Directory.{AreCopies, IsDirectory, all_places, directory_of}
+use Rattle.g_dirs.specs.Durable.{AreRememberedSyncable, IsDiscSafe, IsLive}
 use Rattle.g_dirs.specs.Pages.{KeepsPages, Remembered, pages_of, unwritten}
+use Rattle.g_dirs.specs.Rules.{numbers_of}
+use Rattle.g_dirs.proofs.CopyLemmas.{match_from, places_are, recs-entries}
+use Rattle.g_dirs.proofs.Surviving.{live_is_safe}
+use Rattle.g_entry.specs.Rules.{AreNumbered}
 use Rattle.g_disc_contents.specs.Commits.{Committed, Commits}
 use Rattle.g_disc_contents.specs.Contents.{Contents, Holds, contents_of}
 use Rattle.g_disc_contents.specs.Facts.{IsTied, OnlineFacts}
+use Rattle.g_disc_contents.specs.Durable.{StopsSafely}
 use Rattle.g_disc_contents.proofs.CommitLemmas.{commit_holds}
+use Rattle.g_disc_contents.proofs.SurvivalLemmas.{commit_survives}
 use Rattle.g_online.specs.declared.change.Change.{Change}
 use Rattle.g_online.specs.declared.fault.OnlineFault.{OnlineFault}
 use Rattle.g_online.specs.declared.fault.OnlineFault.TheVariants.{DiscFull, NoMemory, Stopped}
 use Rattle.g_online.specs.declared.pinned.Pinned.{Pinned}
 use Rattle.g_online.specs.Change.{changed as changed_to, changed_after, touched_after, need_of, takes_memory, touches, with_all}
-use Rattle.g_online.specs.Commit.{HasCommitted, IsMarked, commit_blocks}
+use Rattle.g_online.specs.Commit.{AreSaved, CommitStopped, HasCommitted, IsMarked, commit_blocks}
 use Rattle.g_online.specs.Outcomes.{AfterStop, HasChanged, IsApplied, commits_of, room_for}
 use Rattle.g_online.specs.Invariant.{AreNoted, AreWhole, IsKept, IsPooled, Memory, PinsAre, directory_in, facts_of, pins_of}
 use Rattle.g_online.proofs.SameLemmas.{same_area, same_contents, same_pins, AreSame}
-use Rattle.g_online.proofs.TieLemmas.{tied}
-use Rattle.g_online.proofs.WriteLemmas.{same_pages}
+use Rattle.g_online.proofs.TieLemmas.{same_told_is, tied}
+use Rattle.g_online.proofs.WriteLemmas.{remembered_kept, same_pages}
 
 -- new bytes, as many blocks of them as the change needs, were written to blocks that nothing in memory names, and there was
 -- room for them
@@ -41,6 +49,7 @@ pub record IsBeside (change : Change) (origin before : DiscState) (m : Memory) :
   pub causes : Causes ⊥ ⊥ origin before
   pub writes : RoseBy (need_of change) origin.writes before.writes
   pub room : room_for change (facts_of origin m) < need_of change → ⊥
+  pub durable : AreDurable (IsLive m.side (directory_in m)) origin → AreDurable (IsLive m.side (directory_in m)) before
 
 -- a change that needs no blocks
 pub beside_none : (change : Change) (disc : DiscState) (m : Memory) → need_of change ≡ 0 → IsBeside change disc disc m
@@ -51,6 +60,7 @@ beside_none change disc m need = record {
   causes = Causes-none disc (λ no. no) (λ no. no);
   writes = subst (λ (k : ℕ). RoseBy k disc.writes disc.writes) (sym need) (RoseBy-none refl);
   room = λ less. (let no : ⊥ = omega (arith, less, need) in no);
+  durable = λ live. live;
 }
 
 -- the memory n is ready to be committed for a change of what m represents, whose bytes are written: everything that a
@@ -68,6 +78,7 @@ pub record IsReadyFrom (change : Change) (origin before : DiscState) (m n : Memo
   pub touched : n.touched ≡ touched_after change (facts_of before m)
   pub contents : contents_of before.held (directory_in n) ≡ changed_to (is_some before.held) (is_some m.pins) change (contents_of before.held (directory_in m))
   pub copies : AreCopies n.files n.online
+  pub copied : (k : ℕ) → Contains (numbers_of n.online) k → Contains (numbers_of m.online) k ⊎ (is_syncable before k ≡ true)
   pub marked : IsMarked before n.side n.pages (directory_in n)
   pub pool : IsPooled before.size n.pins (directory_in n).files n.pool
   pub noted : AreNoted (length n.users) (directory_in n).files n.changed n.touched
@@ -135,6 +146,27 @@ abbrev made_from : Change → DiscState → Memory → Contents
 made_from change origin m = changed_to (is_some origin.held) (is_some (pins_of origin.held m.pins)) change (contents_of origin.held (directory_in m))
 
 module _ (change : Change) {origin : DiscState} (before after : DiscState) (m n : Memory) (next : Side) (pages : Remembered) (ready : IsReadyFrom change origin before m n) where
+  -- what is remembered before the commit
+  remembered : AreRememberedSyncable n.pages before
+  remembered = remembered_kept m.pages n.pages before ready.pages (ready.was.agreed ready.lived).remembered
+
+  -- each block of the new directory's files is one of the old ones, which are durable, or was written
+  saved : AreDurable (IsLive m.side (directory_in m)) before → AreSaved (directory_in n) before
+  saved durable k of =
+      let was = ready.was.agreed ready.lived in
+      let here = places_are n.files n.online (match_from n.files n.online (subst AreNumbered (recs-entries n.files n.online) ready.marked.rules.numbered) ready.copies) in
+      let there = places_are m.files m.online (match_from m.files m.online (subst AreNumbered (recs-entries m.files m.online) was.stored.rules.numbered) was.copies) in
+      elim (ready.copied k (subst (λ (places : List ℕ). Contains places k) here of)) [
+        | inl old ↦ inl (durable k (inr (inr (subst (λ (places : List ℕ). Contains places k) (sym there) old))))
+        | inr new ↦ inr new
+      ]
+
+  -- and the disc is safe
+  safe : AreDurable (IsLive m.side (directory_in m)) before → IsDiscSafe before
+  safe durable b told =
+      let was = (ready.was.agreed ready.lived).stored in
+      (live_is_safe m.side (directory_in m) before b told (ready.was.whole b told).0 ready.was.size (was.gate b told) (was.stands b told)).0 durable b told
+
   pub done_kept : HasCommitted (directory_in n) before after n.side next n.pages pages → after.size ≡ before.size → ForSome after.held (AreWhole after.size) → IsKept after (written n next pages)
   done_kept done size whole =
       let low = ready.was.size in
@@ -149,6 +181,7 @@ module _ (change : Change) {origin : DiscState} (before after : DiscState) (m n 
           pool = subst (λ (s : ℕ). IsPooled s n.pins (directory_in n).files n.pool) (sym size) ready.pool;
           noted = ready.noted;
           pins = subst (λ (s : ℕ). PinsAre n.pins s n.head.next_stamp (directory_in n).files n.touched) (sym size) ready.pins;
+          remembered = done.remembered remembered;
         };
       }
 
@@ -194,6 +227,7 @@ module _ (change : Change) {origin : DiscState} (before after : DiscState) (m n 
     commits = subst (λ (k : ℕ). Commits k (facts_of origin m).layout (facts_of after (written n next pages)).layout (commit_blocks (directory_in n) n.side n.pages)) (sym ready.commits)
         ((facts_of after (written n next pages)).layout, commit_blocks (directory_in n) n.side n.pages, 0, one_commit done, (refl, refl), omega arith);
     writes = RoseBy-then ready.beside.writes counts.writes;
+    durable = λ live. let now = ready.beside.durable live in done.durable remembered (saved now);
   }
 
   told_same : {R : List (List ℕ) → List (List ℕ) → Type 0} → Changes R before.held after.held → is_some after.held ≡ is_some origin.held
@@ -244,32 +278,48 @@ module _ (change : Change) {origin : DiscState} (before after : DiscState) (m n 
       ∙ ap (λ (told : Bool). changed_to told (is_some (pins_of origin.held m.pins)) change (contents_of origin.held (directory_in m)))
       (sym ready.beside.told ∙ ap (λ (h : Option (List (List ℕ))). is_some h) was)
 
+  after_stop : (blocks b : List (List ℕ)) → before.held ≡ Some b → Holds blocks (contents_of (Some b) (directory_in m)) ⊎ Holds blocks (contents_of (Some b) (directory_in n)) → AfterStop change (facts_of origin m) blocks
+  after_stop blocks b was (inl held) = record { one = inl (subst (Holds blocks) (ap (λ (h : Option (List (List ℕ))). contents_of h (directory_in m)) (sym was) ∙ ready.beside.contents) held) }
+  after_stop blocks b was (inr held) = record {
+    one = inr (inr (subst (Holds blocks) (new_told b was) (subst (λ (h : Option (List (List ℕ))). Holds blocks (contents_of h (directory_in n))) (sym was) held)));
+  }
+
   -- what the disc holds, if the commit was stopped at any of its writes
   stop_holds : Changes (OldOrNew (directory_in n)) before.held after.held → ForSome after.held (AfterStop change (facts_of origin m))
   stop_holds content blocks told =
       let from = Changes-back (OldOrNew (directory_in n)) before.held after.held content blocks told in
       let old : Holds from.0 (contents_of (Some from.0) (directory_in m)) = record { directory = directory_in m; stands = (ready.was.agreed ready.lived).stored.stands from.0 from.1; are = refl } in
       let size = (ready.was.whole from.0 from.1).0 in
-      after_stop from.0 from.1 (commit_holds from.0 blocks (directory_in n) (contents_of (Some from.0) (directory_in m)) from.2 (subst (λ (s : ℕ). IsDirectory s (directory_in n)) (sym size) ready.marked.rules) old)
-    where
-      after_stop : (b : List (List ℕ)) → before.held ≡ Some b → Holds blocks (contents_of (Some b) (directory_in m)) ⊎ Holds blocks (contents_of (Some b) (directory_in n)) → AfterStop change (facts_of origin m) blocks
-      after_stop b was (inl held) = record { one = inl (subst (Holds blocks) (ap (λ (h : Option (List (List ℕ))). contents_of h (directory_in m)) (sym was) ∙ ready.beside.contents) held) }
-      after_stop b was (inr held) = record {
-        one = inr (inr (subst (Holds blocks) (new_told b was) (subst (λ (h : Option (List (List ℕ))). Holds blocks (contents_of h (directory_in n))) (sym was) held)));
-      }
+      after_stop blocks from.0 from.1 (commit_holds from.0 blocks (directory_in n) (contents_of (Some from.0) (directory_in m)) from.2 (subst (λ (s : ℕ). IsDirectory s (directory_in n)) (sym size) ready.marked.rules) old)
+
+  -- what a power loss leaves of it then
+  stop_survives : CommitStopped (directory_in n) before after n.pages → (live : Bool) → StopsSafely (AfterStop change (facts_of origin m)) (facts_of origin m) (facts_of after (record n { side = next; pages = pages; live = live }))
+  stop_survives stop live durable =
+      let now = ready.beside.durable durable in
+      let both = stop.safe remembered (saved now) (now 0 (inl refl)) (safe now) in (
+        both.0,
+        λ a told left may.
+            let from = same_told_is origin.held before.held a (sym ready.beside.told) told in
+            let old : Holds from.0 (contents_of (Some from.0) (directory_in m)) = record { directory = directory_in m; stands = (ready.was.agreed ready.lived).stored.stands from.0 from.1; are = refl } in
+            after_stop left from.0 from.1 (elim (commit_survives from.0 left (directory_in n) (both.1 from.0 from.1 left may)) [
+              | inl kept ↦ inl (kept.0 (contents_of (Some from.0) (directory_in m)) old)
+              | inr new ↦ inr new
+            ]),
+      )
 
   pub applied_stopped : (o : OnlineFacts) → facts_of origin m ≡ o → {k : ℕ} {e : OnlineFault} → (online : List (ℕ × DiscCopy)) → online ≡ n.online
-      → Changes (OldOrNew (directory_of n.head n.users n.files online)) before.held after.held
+      → CommitStopped (directory_of n.head n.users n.files online) before after n.pages
       → WritesOnly {T = Unit {0}} {E = OnlineFault} k before after (Err e) → ForSome after.held (AreWhole after.size)
       → IsApplied change o (facts_of after (stopped n next pages)) (Err Stopped)
-  applied_stopped o is online same content' counts whole =
-      let content : Changes (OldOrNew (directory_in n)) before.held after.held =
-      subst (λ (on : List (ℕ × DiscCopy)). Changes (OldOrNew (directory_of n.head n.users n.files on)) before.held after.held) same content' in
+  applied_stopped o is online same stop' counts whole =
+      let stop : CommitStopped (directory_in n) before after n.pages =
+      subst (λ (on : List (ℕ × DiscCopy)). CommitStopped (directory_of n.head n.users n.files on) before after n.pages) same stop' in
+      let content = stop.content in
       let ill : Causes ⊥ (◌≡◌ {A = Result (Unit {0}) OnlineFault} (Err Stopped) (Err Stopped)) before after = Causes-WritesOnly_err (λ no. no) refl counts in
       subst (λ (old : OnlineFacts). IsApplied change old (facts_of after (stopped n next pages)) (Err Stopped)) is
       (record {
         ok = tt;
-        stopped = λ same. record { live = refl; holds = stop_holds content };
+        stopped = λ same. record { live = refl; holds = stop_holds content; survives = stop_survives stop false };
         same = λ other. absurd (other refl);
         full = never_full (Err Stopped) (λ no. (let never : ⊥ = cc in never));
         memory = λ none no. (let never : ⊥ = cc in never);
@@ -291,7 +341,7 @@ module _ (change : Change) {origin : DiscState} (before after : DiscState) (m n 
 
   pub applied : (o : OnlineFacts) → facts_of origin m ≡ o → (live : Bool) (result : Result (Unit {0}) OnlineFault) (online : List (ℕ × DiscCopy)) → online ≡ n.online
       → OnOk result (HasCommitted (directory_of n.head n.users n.files online) before after n.side next n.pages pages)
-      → OnErr result (Changes (OldOrNew (directory_of n.head n.users n.files online)) before.held after.held)
+      → OnErr result (CommitStopped (directory_of n.head n.users n.files online) before after n.pages)
       → WritesOnly (commit_blocks (directory_of n.head n.users n.files online) n.side n.pages) before after result → ForSome after.held (AreWhole after.size) → OnErr result (result ≡ Err Stopped)
       → OnOk result (live ≡ n.live) → OnErr result (live ≡ false) → IsApplied change o (facts_of after (behind live)) result
   applied o is live (Ok u) online same done content counts whole only lives dies =

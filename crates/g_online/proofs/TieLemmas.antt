@@ -1,8 +1,10 @@
 -- What callers know of a filestore, from what ties its memory to the disc.
--- serves: arm (tied), bytes (tied), file_block (tied), is_online, pin (tied), pinned_block (tied), unpin (tied), AdoptedLemmas, BegunLemmas, and 11 more
-use Rattle.std.proofs.Common.{◌≡◌, ℕ, List, [], length, map, Option, Some, None, refl, sym, ◌∙◌, subst, arith, option_map}
-use Rattle.std.specs.Prelude.{All, IfSome, is_some, slice_index_or}
+-- serves: arm (tied), bytes (tied), file_block (tied), is_online, pin (tied), pinned_block (tied), unpin (tied), AdoptedLemmas, BegunLemmas, and 12 more
+use Rattle.std.proofs.Common.{◌≡◌, ℕ, ◌+◌, true, false, ap, List, [], length, map, Option, Some, None, refl, sym, ◌∙◌, subst, arith, option_map}
+use Rattle.std.specs.Prelude.{All, IfSome, is_some, nat_eq, not, slice_index_or}
+use Rattle.std.specs.List.{list_any}
 use Rattle.std.specs.Option.{ForSome}
+use Rattle.std.proofs.lemmas.Bool.{true≢false}
 use Rattle.std.proofs.lemmas.List.{length-map}
 use Rattle.std.proofs.lemmas.List.Elements.{All-map, All-weaker}
 use Rattle.g_base.specs.Block.{IsBlock, blocks_for}
@@ -10,7 +12,7 @@ use Rattle.g_blocks.specs.Pool.{IsInArea}
 use Rattle.g_disc.specs.Disc.{DiscState}
 use Rattle.g_entry.specs.declared.file_rec.FileRec.{FileRec}
 use Rattle.g_slots.specs.declared.side.Side.{Side}
-use Rattle.g_slots.specs.Layout.{GateNames}
+use Rattle.g_slots.specs.Layout.{GateNames, start_of}
 use Rattle.g_dirs.specs.Directory.{Directory, FileEntry, IsDirectory}
 use Rattle.g_dirs.specs.Image.{StandsFor}
 use Rattle.g_dirs.specs.Pages.{Remembered, Remembers}
@@ -24,6 +26,13 @@ not_told a e = cc
 
 inside : (a b : List (List ℕ)) → (let one : Option (List (List ℕ)) = Some a in one ≡ Some b) → a ≡ b
 inside a b e = cc
+
+-- if the blocks of one disc are observable, so are those of the other
+pub same_told_is : (x y : Option (List (List ℕ))) (a : List (List ℕ)) → is_some x ≡ is_some y → x ≡ Some a → (b : List (List ℕ)) × (y ≡ Some b)
+same_told_is x None a same told =
+    let none : is_some x ≡ false = same in
+    let some : is_some x ≡ true = ap (λ (h : Option (List (List ℕ))). is_some h) told in absurd (true≢false (sym some ∙ none))
+same_told_is x (Some b) a same told = (b, refl)
 
 -- mapping preserves whether something is there
 pub some_made : {A B : Type 0} (f : A → B) (o : Option A) → is_some (option_map f o) ≡ is_some o
@@ -103,8 +112,8 @@ stored_still before after side pages d held size was = record {
   rules = subst (λ (n : ℕ). IsDirectory n d) (sym size) was.rules;
 }
 
-pub kept_still : (before after : DiscState) (m : Memory) → after.held ≡ before.held → after.size ≡ before.size → IsKept before m → IsKept after m
-kept_still before after m held size kept =
+pub kept_still : (before after : DiscState) (m : Memory) → after.held ≡ before.held → after.size ≡ before.size → after.dropped ≡ before.dropped → IsKept before m → IsKept after m
+kept_still before after m held size dropped kept =
     let low = kept.size in
     let high = kept.most in
     record {
@@ -119,5 +128,6 @@ kept_still before after m held size kept =
             pool = subst (λ (n : ℕ). IsPooled n m.pins (directory_in m).files m.pool) (sym size) was.pool;
             noted = was.noted;
             pins = subst (λ (n : ℕ). PinsAre m.pins n m.head.next_stamp (directory_in m).files m.touched) (sym size) was.pins;
+            remembered = λ side k page there. ap (λ (ks : List ℕ). not (list_any (nat_eq (start_of side + k)) ks)) dropped ∙ was.remembered side k page there;
           };
     }

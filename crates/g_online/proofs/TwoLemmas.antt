@@ -22,6 +22,7 @@ use Rattle.g_online.specs.declared.fault.OnlineFault.TheVariants.{DiscFull, NoMe
 use Rattle.g_online.specs.AllowedChanges.{AreUnjammable, IsAllowed, KeepsRules}
 use Rattle.g_online.specs.Change.{changed, need_of, takes_memory, told_bytes, touches, unjammed, unjammed_by, with_all}
 use Rattle.g_online.specs.Outcomes.{AfterStop, HasChanged, IsApplied, commits_of, room_for}
+use Rattle.g_online.proofs.TieLemmas.{same_told_is}
 use Rattle.g_tree.specs.Records.{IsRecords}
 
 -- which answer it was
@@ -107,6 +108,7 @@ module _ (unjam : List ℕ) (inner outer : Change) (two : IsTwo unjam inner oute
           (subst (λ (k : ℕ). Commits k p.layout q.layout second.blocks) commits_one second.commits));
       writes = subst (λ (k : ℕ). RoseBy k o.disc.writes q.disc.writes) (sum_both (need_of inner) first.blocks second.blocks ∙ ap (λ (k : ℕ). k + (first.blocks + second.blocks)) (sym two.need))
           (RoseBy-then first.writes second.writes);
+      durable = λ live. second.durable (first.durable live);
     }
 
     -- STOPPED in the second
@@ -145,7 +147,17 @@ module _ (unjam : List ℕ) (inner outer : Change) (two : IsTwo unjam inner oute
   }
   two_applied o p q {u} (Err e) first second stops room = record {
     ok = tt;
-    stopped = λ at. record { live = (second.stopped at).live; holds = λ blocks told. two_after o p q first.ok first.told blocks ((second.stopped at).holds blocks told) };
+    stopped = λ at. record {
+      live = (second.stopped at).live;
+      holds = λ blocks told. two_after o p q first.ok first.told blocks ((second.stopped at).holds blocks told);
+      survives = λ live.
+          let both = (second.stopped at).survives (first.ok.durable live) in (
+            both.0,
+            λ a told left may.
+                let from = same_told_is o.disc.held p.disc.held a (sym first.told) told in
+                two_after o p q first.ok first.told left (both.1 from.0 from.1 left may),
+          );
+    };
     same = λ other. absurd (other stops);
     full = (λ no. absurd (not_full e (need_of outer) (room_for outer o) stops no), λ less. absurd (room less));
     memory = λ none no. not_memory e stops no;
@@ -159,7 +171,11 @@ module _ (unjam : List ℕ) (inner outer : Change) (two : IsTwo unjam inner oute
   pub first_applied : (o p : OnlineFacts) (e : OnlineFault) → IsApplied (Unload unjam) o p (Err e) → e ≡ Stopped → (room_for outer o < need_of outer → ⊥) → IsApplied outer o p (Err e)
   first_applied o p e first stops room = record {
     ok = tt;
-    stopped = λ at. record { live = (first.stopped at).live; holds = λ blocks told. first_after o blocks ((first.stopped at).holds blocks told) };
+    stopped = λ at. record {
+      live = (first.stopped at).live;
+      holds = λ blocks told. first_after o blocks ((first.stopped at).holds blocks told);
+      survives = λ live. let both = (first.stopped at).survives live in (both.0, λ a told left may. first_after o left (both.1 a told left may));
+    };
     same = λ other. absurd (other stops);
     full = (λ no. absurd (not_full e (need_of outer) (room_for outer o) stops no), λ less. absurd (room less));
     memory = λ none no. not_memory e stops no;

@@ -32,12 +32,13 @@ use Rattle.g_online.specs.declared.fault.OnlineFault.{OnlineFault}
 use Rattle.g_online.specs.declared.fault.OnlineFault.TheVariants.{Stopped}
 use Rattle.g_online.specs.AllowedChanges.{IsAllowed}
 use Rattle.g_online.specs.Change.{need_of}
-use Rattle.g_online.specs.Commit.{HasCommitted, IsMarked, commit_blocks}
+use Rattle.g_online.specs.Commit.{CommitStopped, HasCommitted, IsMarked, commit_blocks}
 use Rattle.g_online.specs.Copies.{without_copies, without_copy}
 use Rattle.g_online.specs.Outcomes.{IsApplied, room_for}
 use Rattle.g_online.specs.Invariant.{AreNoted, AreWhole, IsKept, IsPooled, Memory, PinsAre, directory_in, facts_of, head_after, orphans, used_places}
 use Rattle.g_online.specs.Unloading.{MarksFiles, places_off}
 use Rattle.g_online.specs.NewBytes.{IsUntouched, Parts, TakesFilesOff}
+use Rattle.g_online.proofs.CopiedPlaces.{places_filter}
 use Rattle.g_online.proofs.ChangeLemmas.{unload_contents}
 use Rattle.g_online.proofs.ContentLemmas.{taken_away}
 use Rattle.g_online.proofs.CopyLemmas.{Copies}
@@ -104,7 +105,7 @@ pub takes_off : (numbers : List ℕ) (pinned : Bool) (users : List UserRec) (fil
     → slice ≡ y.online → y.head ≡ head_after pinned x.head → y.online ≡ without_copies numbers x.online → KeepsPages x.pages mid
     → IsMarked before x.side mid (directory_of y.head users files slice)
     → OnOk result (HasCommitted (directory_of y.head users files slice) before after x.side y.side mid y.pages)
-    → OnErr result (Changes (OldOrNew (directory_of y.head users files slice)) before.held after.held)
+    → OnErr result (CommitStopped (directory_of y.head users files slice) before after mid)
     → WritesOnly (commit_blocks (directory_of y.head users files slice) x.side mid) before after result → ForSome after.held (AreWhole after.size)
     → OnOk result (y.live ≡ x.live) → OnErr result (y.live ≡ false) → OnErr result (result ≡ Err Stopped)
     → TakesFilesOff numbers pinned users files before after x y result
@@ -115,7 +116,7 @@ takes_off numbers pinned users files before after x y mid slice result same head
   pages = pages;
   marked = subst (λ (on : Copies). IsMarked before x.side mid (directory_of y.head users files on)) same marked_is;
   ok = subst (λ (on : Copies). OnOk result (HasCommitted (directory_of y.head users files on) before after x.side y.side mid y.pages)) same ok;
-  stopped = subst (λ (on : Copies). OnErr result (Changes (OldOrNew (directory_of y.head users files on)) before.held after.held)) same stopped;
+  stopped = subst (λ (on : Copies). OnErr result (CommitStopped (directory_of y.head users files on) before after mid)) same stopped;
   counts = subst (λ (on : Copies). WritesOnly (commit_blocks (directory_of y.head users files on) x.side mid) before after result) same counts;
   whole = whole;
   lives = lives;
@@ -220,6 +221,7 @@ module _ (numbers : List ℕ) (before : DiscState) (m : Memory) (un : IsUnloadab
         touched = touched_stays before.held before.size m.head.next_stamp old m.touched m.pins was.pins;
         contents = unload_contents before.held (is_some m.pins) m.head m.users m.files m.online numbers;
         copies = copies_off numbers m.files m.online was.copies;
+        copied = λ k there. inl (places_filter (λ c. not (has numbers c.0)) m.online k there);
         marked = marked_is;
         pool = pool_then numbers before m pool un given;
         noted = subst (λ (fs : List FileEntry). AreNoted (length m.users) fs m.changed m.touched) (sym (entries_off numbers m.files m.online)) (noted_off (length m.users) numbers old m.changed m.touched was.noted);

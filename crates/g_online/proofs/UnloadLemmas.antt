@@ -27,6 +27,7 @@ use Rattle.g_online.specs.AllowedChanges.{AreUnjammable, IsAllowed, IsUnjammable
 use Rattle.g_online.specs.Copies.{without_copies}
 use Rattle.g_online.specs.Invariant.{AreNoted, IsAgreed, IsFileOf, IsKept, IsPinned, IsPooled, Memory, PinsAre, WaitsFor, WaitsPinned, copy_places, directory_in, facts_of, head_after, is_current, orphans, used_places}
 use Rattle.g_online.specs.Unloading.{MarksFiles, places_off}
+use Rattle.g_online.proofs.CopiedPlaces.{places_filter}
 use Rattle.g_online.proofs.ChangeLemmas.{unload_contents}
 use Rattle.g_online.proofs.CopyLemmas.{Copies, copy_at-failing, copy_at-passing}
 use Rattle.g_online.proofs.KeepLemmas.{CopyFits}
@@ -367,6 +368,7 @@ unload_set_ready numbers before m pool first pages o is kept allowed un marks re
     refl (touched_stays before.held before.size m.head.next_stamp old m.touched m.pins was.pins)
     (unload_contents before.held (is_some m.pins) m.head m.users m.files m.online numbers)
     (copies_off numbers m.files m.online was.copies)
+    (places_filter (λ c. not (has numbers c.0)) m.online)
     (subst (All CopyFits) all (fits_off numbers old (fits_still old was.stored.rules.lies)))
     (pool_then numbers before m pool un given)
     (subst (λ (fs : List FileEntry). AreNoted (length m.users) fs m.changed m.touched) all (noted_off (length m.users) numbers old m.changed m.touched was.noted))

@@ -83,7 +83,7 @@ user_added_ready user before m first pages o is kept allowed marks remembers cov
     (λ s old. covers' s mid (directory_in n) (covers s (directory_in m) mid old (but_head (directory_in m) mid refl refl))
     (but_user user.number mid (directory_in n) refl (λ i other. slice_get-push m.users user i (λ same. other (same ∙ sym number))) refl))
     refl (touched_then before.held before.size m.head.next_stamp user.number (directory_in m).files m.touched m.pins was.pins)
-    (user_contents before.held (is_some m.pins) user m pages) was.copies (fits_still (directory_in m).files was.stored.rules.lies) was.pool
+    (user_contents before.held (is_some m.pins) user m pages) was.copies (λ k there. there) (fits_still (directory_in m).files was.stored.rules.lies) was.pool
     (noted_then (length m.users) (length (m.users ++ user ∷ [])) user.number (directory_in m).files m.changed m.touched m.pins (omega arith) (omega arith) was.noted)
     (subst (λ (k : ℕ). PinsAre m.pins before.size k (directory_in m).files (touched_with m.pins user.number m.touched)) (sym (next_kept (is_some m.pins) m.head))
     (pins_then before.size m.head.next_stamp user.number (directory_in m).files m.touched m.pins was.pins))

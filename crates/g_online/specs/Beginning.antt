@@ -3,7 +3,7 @@ use Rattle.std.specs.Prelude.{◌≡◌, ◌⊎◌, ℕ, ◌==◌, Bool, true, f
 use Rattle.std.specs.Option.{ForSome}
 use Rattle.g_base.specs.Counts.{RoseBy}
 use Rattle.g_copy.specs.declared.copy.DiscCopy.{DiscCopy}
-use Rattle.g_disc.specs.Disc.{Causes, DiscState, ReadsByCause}
+use Rattle.g_disc.specs.Disc.{Causes, DiscState, ReadsByCause, is_durable}
 use Rattle.g_entry.specs.declared.file_rec.FileRec.{FileRec}
 use Rattle.g_entry.specs.declared.format.Format.TheVariants.{Two}
 use Rattle.g_entry.specs.declared.head.Head.{Head}
@@ -13,10 +13,12 @@ use Rattle.g_slots.specs.Layout.{GateNames}
 use Rattle.g_dirs.specs.declared.fault.DirsFault.{DirsFault}
 use Rattle.g_dirs.specs.declared.fault.DirsFault.TheVariants as dirs
 use Rattle.g_dirs.specs.Directory.{AreRecords, Directory, IsDirectory}
+use Rattle.g_dirs.specs.Durable.{IsDiscSafe}
 use Rattle.g_dirs.specs.Image.{StandsFor}
 use Rattle.g_dirs.specs.Pages.{Remembered, nothing}
 use Rattle.g_disc_contents.specs.Commits.{Commits}
 use Rattle.g_disc_contents.specs.Contents.{Contents, File, Holds}
+use Rattle.g_disc_contents.specs.Durable.{IsDurable}
 use Rattle.g_disc_contents.specs.Facts.{Layout, OnlineFacts}
 use Rattle.g_online.specs.declared.fault.OnlineFault.{OnlineFault}
 use Rattle.g_online.specs.declared.fault.OnlineFault.TheVariants.{NoFilestore, NoMemory, ReadFault, Stopped}
@@ -46,6 +48,7 @@ pub record HasLoaded (disc : DiscState) (o : OnlineFacts) : Type 0 where
   pub holds : ForSome disc.held (λ blocks. Holds blocks o.contents)
   pub unknown : o.layout.pages ≡ nothing
   pub gate : GateNames o.layout.side disc.held
+  pub durable : ForSome disc.held (λ _. IsDiscSafe disc → is_durable disc 0 ≡ true → IsDurable o)
 
 -- A file without blocks: on the disc if it is empty, otherwise only on tape.
 abbrev pub first_file : Bool → FileRec → File
@@ -63,6 +66,7 @@ pub record HasMade (made : Contents) (disc : DiscState) (o : OnlineFacts) : Type
   pub contents : o.contents ≡ made
   pub causes : Causes ⊥ ⊥ disc o.disc
   pub wrote : WroteFirst 1 disc o
+  pub durable : IsDurable o
   pub told : is_some o.disc.held ≡ is_some disc.held
 
 -- After the call the disc holds exactly the contents that it held before, if any.

@@ -13,6 +13,7 @@ use Rattle.g_entry.specs.declared.user_rec.UserRec.{UserRec}
 use Rattle.g_slots.specs.declared.side.Side.{Side}
 use Rattle.g_slots.specs.Layout.{GateNames}
 use Rattle.g_dirs.specs.Directory.{AreCopies, AreRecords, Directory, FileEntry, IsDirectory, all_places, directory_of, places_of}
+use Rattle.g_dirs.specs.Durable.{AreRememberedSyncable}
 use Rattle.g_dirs.specs.Image.{StandsFor}
 use Rattle.g_dirs.specs.Pages.{Covers, Remembered, Remembers}
 use Rattle.g_disc_contents.specs.Contents.{contents_of, has}
@@ -156,6 +157,7 @@ pub record IsAgreed (disc : DiscState) (m : Memory) : Type 0 where
   pub pool : IsPooled disc.size m.pins (directory_in m).files m.pool
   pub noted : AreNoted (length m.users) (directory_in m).files m.changed m.touched
   pub pins : PinsAre m.pins disc.size m.head.next_stamp (directory_in m).files m.touched
+  pub remembered : AreRememberedSyncable m.pages disc
 
 -- A disc of this size has that many blocks, each of 512 bytes.
 abbrev pub AreWhole : ℕ → List (List ℕ) → Type 0

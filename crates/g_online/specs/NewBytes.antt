@@ -1,16 +1,17 @@
 -- New bytes: where they find room, and what is done before they are written.
-use Rattle.std.specs.Prelude.{◌≡◌, ℕ, ◌+◌, Bool, false, List, Option, Some, None, Result, Ok, Err, OnOk, OnErr, if◌then◌else◌}
+use Rattle.std.specs.Prelude.{◌≡◌, ℕ, ◌+◌, Bool, false, true, List, Contains, Option, Some, None, Result, Ok, Err, OnOk, OnErr, if◌then◌else◌}
 use Rattle.std.specs.Option.{ForSome}
 use Rattle.g_base.specs.Block.{blocks_for}
 use Rattle.g_base.specs.ToldContent.{Changes}
 use Rattle.g_blocks.specs.Pool.{AreLeastFree, HasGiven, HasTaken}
 use Rattle.g_copy.specs.declared.copy.DiscCopy.{DiscCopy}
-use Rattle.g_disc.specs.Disc.{DiscState, WritesOnly}
+use Rattle.g_copy.specs.Copy.{Holds as Copied, OnlyAt}
+use Rattle.g_disc.specs.Disc.{DiscState, WritesOnly, is_durable}
+use Rattle.g_disc.specs.Durable.{DirtiesOnly}
 use Rattle.g_entry.specs.declared.file_rec.FileRec.{FileRec}
 use Rattle.g_entry.specs.declared.head.Head.{Head}
 use Rattle.g_entry.specs.declared.user_rec.UserRec.{UserRec}
 use Rattle.g_slots.specs.declared.side.Side.{Side}
-use Rattle.g_dirs.specs.Commit.{OldOrNew}
 use Rattle.g_dirs.specs.Directory.{Directory, directory_of}
 use Rattle.g_dirs.specs.Pages.{KeepsPages, Remembered}
 use Rattle.g_tree.specs.State.{with_file}
@@ -20,7 +21,7 @@ use Rattle.g_online.specs.declared.change.Change.TheVariants.{Bring, PutFile}
 use Rattle.g_online.specs.declared.fault.OnlineFault.{OnlineFault}
 use Rattle.g_online.specs.declared.fault.OnlineFault.TheVariants.{Stopped}
 use Rattle.g_online.specs.declared.pinned.Pinned.{Pinned}
-use Rattle.g_online.specs.Commit.{HasCommitted, IsMarked, commit_blocks}
+use Rattle.g_online.specs.Commit.{CommitStopped, HasCommitted, IsMarked, commit_blocks}
 use Rattle.g_online.specs.Copies.{without_copies}
 use Rattle.g_online.specs.Invariant.{AreWhole, head_after, is_pinned}
 
@@ -90,9 +91,19 @@ pub record TakesFilesOff (numbers : List ℕ) (pinned : Bool) (users : List User
   pub pages : KeepsPages old.pages mid
   pub marked : IsMarked before old.side mid (directory_with users files new)
   pub ok : OnOk result (HasCommitted (directory_with users files new) before after old.side new.side mid new.pages)
-  pub stopped : OnErr result (Changes (OldOrNew (directory_with users files new)) before.held after.held)
+  pub stopped : OnErr result (CommitStopped (directory_with users files new) before after mid)
   pub counts : WritesOnly (commit_blocks (directory_with users files new) old.side mid) before after result
   pub whole : ForSome after.held (AreWhole after.size)
   pub lives : OnOk result (new.live ≡ old.live)
   pub dies : OnErr result (new.live ≡ false)
   pub only : OnErr result (result ≡ Err Stopped)
+
+-- the bytes were written into the blocks of their copy
+pub record WroteBytes (places bytes : List ℕ) (before after : DiscState) : Type 0 where
+  pub content : Changes (Copied places bytes) before.held after.held
+  pub dirties : DirtiesOnly {T = Unit {0}} {E = OnlineFault} (Contains places) before after (Ok tt)
+
+-- a write of them failed
+pub record WritingStopped (places : List ℕ) (before after : DiscState) : Type 0 where
+  pub content : Changes (OnlyAt places) before.held after.held
+  pub durable : (k : ℕ) → (Contains places k → ⊥) → is_durable before k ≡ true → is_durable after k ≡ true

@@ -5,6 +5,7 @@ use Rattle.g_base.specs.Counts.{RoseBy}
 use Rattle.g_disc.specs.Disc.{Causes}
 use Rattle.g_disc_contents.specs.Contents.{Holds, taken_off}
 use Rattle.g_disc_contents.specs.Commits.{Commits}
+use Rattle.g_disc_contents.specs.Durable.{IsDurable, StopsSafely}
 use Rattle.g_disc_contents.specs.Facts.{IsTied, OnlineFacts, room_with}
 use Rattle.g_online.specs.declared.change.Change.{Change}
 use Rattle.g_online.specs.declared.fault.OnlineFault.{OnlineFault}
@@ -26,6 +27,7 @@ pub record HasChanged (change : Change) (old new : OnlineFacts) : Type 0 where
   pub blocks : ℕ
   pub commits : Commits (commits_of change) old.layout new.layout blocks
   pub writes : RoseBy (need_of change + blocks) old.disc.writes new.disc.writes
+  pub durable : IsDurable old → IsDurable new
 
 -- After an interrupted change the disc holds the old contents, or these without the files that were taken off, or the new
 -- contents.
@@ -39,6 +41,7 @@ pub record AfterStop (change : Change) (old : OnlineFacts) (blocks : List (List 
 pub record HasStopped (change : Change) (old new : OnlineFacts) : Type 0 where
   pub live : new.live ≡ false
   pub holds : ForSome new.disc.held (AfterStop change old)
+  pub survives : StopsSafely (AfterStop change old) old new
 
 -- The dump is closed, and its versions are no longer pinned.
 pub record HasClosed (last : ℕ) (old new : OnlineFacts) : Type 0 where
@@ -50,12 +53,14 @@ pub record HasClosed (last : ℕ) (old new : OnlineFacts) : Type 0 where
   pub blocks : ℕ
   pub commits : Commits 1 old.layout new.layout blocks
   pub writes : RoseBy blocks old.disc.writes new.disc.writes
+  pub durable : IsDurable old → IsDurable new
 
 -- The closing was stopped at a write. The filestore is no longer live, and the disc holds the old contents or those of the
 -- closed dump.
 pub record StoppedClosing (last : ℕ) (old new : OnlineFacts) : Type 0 where
   pub live : new.live ≡ false
   pub holds : ForSome new.disc.held (λ blocks. Holds blocks old.contents ⊎ Holds blocks (closed last old))
+  pub survives : StopsSafely (λ left. Holds left old.contents ⊎ Holds left (closed last old)) old new
 
 -- The number of blocks that would be free if the files that the change takes off the disc were taken off.
 abbrev pub room_for : Change → OnlineFacts → ℕ

@@ -8,6 +8,7 @@ use Rattle.g_entry.specs.declared.file_rec.FileRec.{FileRec}
 use Rattle.g_entry.specs.declared.file_rec.TapeCopy.{TapeCopy}
 use Rattle.g_entry.specs.declared.user_rec.UserRec.{UserRec}
 use Rattle.g_disc_contents.specs.Commits.{Commits}
+use Rattle.g_disc_contents.specs.Durable.{IsDurable, StopsSafely}
 use Rattle.g_disc_contents.specs.Contents.{Contents, Holds, copied_rec, recs_in, with_copies, with_intent}
 use Rattle.g_disc_contents.specs.Facts.{IsTied, OnlineFacts}
 use Rattle.g_online.specs.declared.fault.OnlineFault.{OnlineFault}
@@ -51,12 +52,14 @@ pub record HasAdopted (last : ℕ) (copies : List (ℕ × TapeCopy)) (old new : 
   pub blocks : ℕ
   pub commits : Commits 1 old.layout new.layout blocks
   pub writes : RoseBy blocks old.disc.writes new.disc.writes
+  pub durable : IsDurable old → IsDurable new
 
 -- The noting was stopped at a write. The filestore is no longer live, and the disc holds the old contents or those with the
 -- copies.
 pub record StoppedAdopting (last : ℕ) (copies : List (ℕ × TapeCopy)) (old new : OnlineFacts) : Type 0 where
   pub live : new.live ≡ false
   pub holds : ForSome new.disc.held (λ blocks. Holds blocks old.contents ⊎ Holds blocks (adopted last copies old.contents))
+  pub survives : StopsSafely (λ left. Holds left old.contents ⊎ Holds left (adopted last copies old.contents)) old new
 
 -- How the noting of prepared copies is answered: it is completed, or stopped at one of its writes.
 pub record IsAdopting (last : ℕ) (copies : List (ℕ × TapeCopy)) (old new : OnlineFacts) (result : Result (Unit {0}) OnlineFault) : Type 0 where

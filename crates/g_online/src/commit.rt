@@ -1,11 +1,9 @@
 //! One commit of the directory that is in memory.
 ghost use Rattle.std.specs.Prelude.{◌≡◌, OnErr, OnOk, false};
 ghost use Rattle.std.specs.Option.{ForSome};
-ghost use Rattle.g_base.specs.ToldContent.{Changes};
 ghost use Rattle.g_disc.specs.Disc.{WritesOnly};
-ghost use Rattle.g_dirs.specs.Commit.{OldOrNew};
 ghost use Rattle.g_dirs.specs.Directory.{AreCopies, directory_of};
-ghost use Rattle.g_online.specs.Commit.{HasCommitted, IsMarked, commit_blocks};
+ghost use Rattle.g_online.specs.Commit.{CommitStopped, HasCommitted, IsMarked, commit_blocks};
 ghost use Rattle.g_online.specs.Invariant.{AreWhole};
 
 use crate::OnlineFault;
@@ -35,8 +33,8 @@ pub(crate) fn commit<D: Disc>(
     ensures ok { OnOk result (HasCommitted (directory_of head.now tree.now.users tree.now.files online.now)
         (D.state disc.old) (D.state disc.new) slots.old slots.new pages.old pages.new) }
     ensures stopped { OnErr result
-        (Changes (OldOrNew (directory_of head.now tree.now.users tree.now.files online.now))
-        (D.state disc.old).held (D.state disc.new).held) }
+        (CommitStopped (directory_of head.now tree.now.users tree.now.files online.now)
+        (D.state disc.old) (D.state disc.new) pages.old) }
     ensures counts { WritesOnly (commit_blocks (directory_of head.now tree.now.users tree.now.files online.now)
         slots.old pages.old) (D.state disc.old) (D.state disc.new) result }
     ensures lives { OnOk result (live.new ≡ live.old) }
@@ -44,6 +42,8 @@ pub(crate) fn commit<D: Disc>(
     ensures whole { ForSome (D.state disc.new).held (AreWhole (D.state disc.new).size) }
     ensures only { OnErr result (result ≡ Err OnlineFault.Stopped) }
 {
+    // Its clause says that durable blocks are syncable.
+    let _size = disc.size();
     let listing = Listing::new(head, tree.users(), tree.files(), online);
     match write_changed(disc, slots, &listing, pages, writer) {
         Ok(()) => {

@@ -1,13 +1,15 @@
 //! How an online filestore begins: it is loaded from its disc or created on it.
-ghost use Rattle.std.specs.Prelude.{◌≡◌, ◌≢◌, ◌⊎◌, ◌<◌, ◌≤◌, ℕ, AllPairs, IfErr, IfOk, List, map, is_some, [], OnErr};
+ghost use Rattle.std.specs.Prelude.{◌≡◌, ◌≢◌, ◌⊎◌, ◌<◌, ◌≤◌, ℕ, AllPairs, IfErr, IfOk, List, map, is_some, [], OnErr, true};
 ghost use Rattle.std.specs.Option.{ForSome};
 ghost use Rattle.g_base.specs.ToldContent.{Changes};
 ghost use Rattle.g_blocks.specs.Pool.{IsFresh};
-ghost use Rattle.g_disc.specs.Disc.{Causes, ReadsByCause};
+ghost use Rattle.g_disc.specs.Disc.{Causes, ReadsByCause, is_durable};
+ghost use Rattle.g_disc.specs.Durable.{PowerLossLeaves};
 ghost use Rattle.g_entry.specs.Rules.{AreUsers};
 ghost use Rattle.g_slots.specs.Layout.{GateNames};
 ghost use Rattle.g_tree.specs.Records.{IsRecords};
 ghost use Rattle.g_dirs.specs.Directory.{AreCopies, Directory, directory_of};
+ghost use Rattle.g_dirs.specs.Durable.{IsDiscSafe};
 ghost use Rattle.g_dirs.specs.Image.{StandsFor};
 ghost use Rattle.g_dirs.specs.Pages.{nothing};
 ghost use Rattle.g_dirs.specs.Rules.{AreApart, numbers_of};
@@ -95,6 +97,15 @@ impl<D: Disc> Online<D> {
             → ((D.state e.1).held ≡ (D.state disc).held) × ((D.state e.1).writes ≡ (D.state disc).writes)) }
         ensures causes { IfErr result (λ e. Causes (e.0 ≡ OnlineFault.ReadFault) (e.0 ≡ OnlineFault.Stopped)
             (D.state disc) (D.state e.1)) }
+
+        // If the disc was safe and its gate durable, a power loss leaves what it held or the new filestore.
+        ensures survives { IfErr result (λ e. e.0 ≡ OnlineFault.Stopped
+            → is_durable (D.state disc) 0 ≡ true → IsDiscSafe (D.state disc)
+            → IsDiscSafe (D.state e.1) × PowerLossLeaves (AsBeforeOr
+            (first_contents (is_some (D.state disc).held) head tree.users tree.files))
+            (D.state disc) (D.state e.1)) }
+        ensures still { IfErr result (λ e. e.0 ≢ OnlineFault.Stopped
+            → ((D.state e.1).volatile ≡ (D.state disc).volatile) × ((D.state e.1).dropped ≡ (D.state disc).dropped)) }
         ensures only { IfErr result (λ e. (e.0 ≡ OnlineFault.ReadFault) ⊎ (e.0 ≡ OnlineFault.Stopped)
             ⊎ (e.0 ≡ OnlineFault.NoMemory)) }
     {

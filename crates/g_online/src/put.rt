@@ -4,9 +4,8 @@ ghost use Rattle.std.specs.Prelude.{◌≡◌, ◌≢◌, ◌⊎◌, ◌↔◌, 
 ghost use Rattle.std.specs.Option.{ForSome, option_copied};
 ghost use Rattle.std.specs.FinMap as finmap;
 ghost use Rattle.g_base.specs.Block as block;
-ghost use Rattle.g_base.specs.ToldContent.{Changes};
 ghost use Rattle.g_blocks.specs.Pool.{AreLeastFree, HasGiven, HasTaken, IsFree, IsTaken, free_count};
-ghost use Rattle.g_copy.specs.Copy.{Holds, IsCopy, OnlyAt};
+ghost use Rattle.g_copy.specs.Copy.{IsCopy};
 ghost use Rattle.g_disc.specs.Disc.{WritesOnly};
 ghost use Rattle.g_entry.specs.declared.format.Format.TheVariants.{Two};
 ghost use Rattle.g_tree.specs.Records.{IsRecords, by_number};
@@ -19,7 +18,7 @@ ghost use Rattle.g_online.specs.Copies.{with_copy_at, without_copies, without_co
 ghost use Rattle.g_online.specs.Outcomes.{IsApplied};
 ghost use Rattle.g_online.specs.Invariant.{AreWhole, GivesUnless, copy_places, head_after};
 ghost use Rattle.g_online.specs.Unloading.{MarksFiles, places_off};
-ghost use Rattle.g_online.specs.NewBytes.{IsUntouched, TakesBeside, TakesFilesOff, is_pinned_at, noted_for, recs_with, stamped, users_with, with_bytes};
+ghost use Rattle.g_online.specs.NewBytes.{IsUntouched, TakesBeside, TakesFilesOff, WritingStopped, WroteBytes, is_pinned_at, noted_for, recs_with, stamped, users_with, with_bytes};
 
 use crate::change::Change;
 use crate::commit::commit;
@@ -347,9 +346,9 @@ fn write_new<D: Disc>(
     requires len { copy.now.len ≡ length bytes.now }
     ensures counts { WritesOnly (length copy.now.blocks) (D.state disc.old) (D.state disc.new) result }
     ensures ok { OnOk result
-        (Changes (Holds copy.now.blocks bytes.now) (D.state disc.old).held (D.state disc.new).held) }
+        (WroteBytes copy.now.blocks bytes.now (D.state disc.old) (D.state disc.new)) }
     ensures stopped { OnErr result
-        (Changes (OnlyAt copy.now.blocks) (D.state disc.old).held (D.state disc.new).held) }
+        (WritingStopped copy.now.blocks (D.state disc.old) (D.state disc.new)) }
     ensures lives { OnOk result (live.new ≡ live.old) }
     ensures dies { OnErr result (live.new ≡ false) }
     ensures whole { ForSome (D.state disc.new).held (AreWhole (D.state disc.new).size) }

@@ -19,6 +19,10 @@ impl<D: Disc> Disc for BoxedDisc<D> {
         self.disc.read(k, into)
     }
 
+    fn secure(&mut self) -> Result<(), ReadFailed> {
+        self.disc.secure()
+    }
+
     fn write(&mut self, k: u32, from: &Block) -> Result<(), WriteFailed> {
         self.disc.write(k, from)
     }

@@ -1,5 +1,5 @@
 -- What one write does to the gate, the slots and the copy area.
--- serves: find (ok), flip (any, gate), prepare (ok, stopped, torn), read (ok), Filling, crates above
+-- serves: commit (one_survives), find (ok), flip (any, gate), prepare (ok, stopped, torn), read (ok), Filling, crates above
 use Rattle.std.proofs.Common.{◌≡◌, ◌≢◌, ℕ, ◌+◌, ◌%◌, ◌<◌, ◌≤◌, ◌==◌, if◌then◌else◌, List, [], length, get_or, take, drop, Option, Some, sym, ◌∙◌, ap, arith, slice_get, get_or-set_other, get_or-set_same, length-set, length-take, length-drop}
 use Rattle.std.specs.Prelude.{Result, Ok, Err, OnErr}
 use Rattle.std.proofs.Math.ListN.{set}
@@ -14,12 +14,12 @@ use Rattle.g_slots.specs.declared.side.Side.TheVariants.{A, B}
 use Rattle.g_slots.specs.Layout.{other, start_of, slot, copy_area, gate_block, gate_side}
 use Rattle.g_slots.specs.Commit.{Flips, KeepsCurrent, Prepares, Tears}
 
--- what holds whatever a call answers
+-- a fact that holds for any result
 pub on_err : {T E P : Type 0} (result : Result T E) → P → OnErr result P
 on_err (Ok t) holds = tt
 on_err (Err e) holds = holds
 
--- the gate names a slot by its first byte alone
+-- the gate names a slot by its first byte
 pub gate_side-named : (blocks : List (List ℕ)) (gate : List ℕ) → slice_get blocks 0 ≡ Some gate → gate_side blocks ≡ (if get_or gate 0 0 % 2 == 0 then A else B)
 unfolding gate_side
 gate_side-named blocks gate is =
@@ -55,7 +55,7 @@ gate_side-gate_block B blocks there = gate_side-named (set blocks 0 (gate_block 
 pub slot-read : (side : Side) (k start : ℕ) (blocks : List (List ℕ)) (block : List ℕ) → start ≡ start_of side → k < 1088 → slice_get blocks (start + k) ≡ Some block → slice_get (slot side blocks) k ≡ Some block
 slot-read side k start blocks block at below is = slot-get side k blocks block below (ap (λ (s : ℕ). slice_get blocks (s + k)) (sym at) ∙ is)
 
--- a write behind the gate
+-- a write after the gate
 pub gate_side-set : (blocks : List (List ℕ)) (place : ℕ) (v : List ℕ) → 0 < place → gate_side (set blocks place v) ≡ gate_side blocks
 unfolding gate_side
 gate_side-set blocks place v behind =
@@ -112,7 +112,7 @@ flips blocks v = record {
   copies = copy_area-set blocks 0 v (omega arith);
 }
 
--- the same for what is told of a disc, by its one write
+-- the same for a disc whose blocks may be observable, after one write
 module _ (side : Side) (k start : ℕ) (v : List ℕ) (before after : Option (List (List ℕ))) where
   pub prepared : start ≡ start_of (other side) → k < 1088 → after ≡ with_block (start + k) v before → Changes (Prepares side k v) before after
   prepared at below is =

@@ -1,4 +1,4 @@
--- What the steps of a commit do to the parts of a disc.
+-- What each step of a commit does to the parts of a disc.
 use Rattle.std.specs.Prelude.{◌≡◌, ℕ, List, length, slice_set, ◌⊎◌}
 use Rattle.g_base.specs.Block.{IsBlock}
 use Rattle.g_slots.specs.declared.side.Side.{Side}
@@ -16,7 +16,7 @@ pub record Prepares (side : Side) (k : ℕ) (block : List ℕ) (before after : L
   pub kept : KeepsCurrent side before after
   pub written : slot (other side) after ≡ slice_set (slot (other side) before) k block
 
--- in the slot opposite `side` no block but block k has changed, which may hold any bytes
+-- in the slot opposite `side` no block but block k has changed; block k may hold any bytes
 pub record Tears (side : Side) (k : ℕ) (before after : List (List ℕ)) : Type 0 where
   pub left : List ℕ
   pub whole : IsBlock left
@@ -41,7 +41,7 @@ pub record Commits (side : Side) (image before after : List (List ℕ)) : Type 0
   pub kept : slot side after ≡ slot side before
   pub copies : copy_area after ≡ copy_area before
 
--- the current slot holds what it held, or the image, whole
+-- the current slot is unchanged, or is the whole image
 pub record CommitsOrNot (image before after : List (List ℕ)) : Type 0 where
   pub size : length after ≡ length before
   pub whole : (current after ≡ current before) ⊎ (current after ≡ image)

@@ -3,7 +3,7 @@
 use g_base::{ReadFailed, WriteFailed};
 use thiserror::Error;
 
-/// The disc's own count of faults rose in the call. Nothing else makes a call on the slots fail.
+/// The disc failed, and its count of that kind of fault rose. Nothing else makes a call on the slots fail.
 #[derive(Clone, Copy, Debug, PartialEq, Eq, Error)]
 pub enum SlotFault {
     /// A block couldn't be read; nothing on the disc has changed.

@@ -7,7 +7,7 @@ use crate::Side;
 use g_base::Block;
 use std::marker::Model;
 
-/// A gate that is kept from commit to commit, so that each writes one byte of it. Contracts see the block.
+/// A gate block that is reused by all commits, so that each changes only one byte of it. Contracts see the block.
 #[derive(Drop)]
 pub(crate) struct Gate {
     block: Block,
@@ -29,7 +29,7 @@ impl Gate {
         Gate { block: [0; 512] }
     }
 
-    /// Lets it name this slot.
+    /// Makes it name this slot.
     pub(crate) fn set(&mut self, side: Side)
         ensures { self.new ≡ gate_block side }
     {

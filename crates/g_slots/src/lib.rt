@@ -1,5 +1,5 @@
-//! The two slots of a disc: which of them is current, and the commit that makes the other one
-//! current, old or new and never in between.
+//! The two slots of a disc: which one is current, and the atomic commit that makes the other one
+//! current.
 #![tactic(auto)]
 
 mod fault;

@@ -1,4 +1,4 @@
-//! The names of the two slots, and how the gate gives them.
+//! The two slots, and how the gate names one of them.
 
 ghost use Rattle.std.specs.Prelude.{◌≡◌, ◌==◌, ◌%◌, slice_index, if◌then◌else◌};
 ghost use Rattle.g_slots.specs.Layout.{byte_of, other, start_of};
@@ -33,8 +33,8 @@ impl Side {
         }
     }
 
-    /// The slot that a gate names, by the parity of its first byte alone: a failed write may have
-    /// left any bytes there.
+    /// The slot that a gate names. Only the parity of its first byte counts, because a failed write may
+    /// leave any bytes in the gate.
     pub(crate) fn named_by(gate: &Block) -> Side
         ensures { result ≡ (if slice_index gate.now 0 % 2 == 0 then Side.A else Side.B) }
     {

@@ -1,10 +1,11 @@
 //! The current slot of a disc, and the commit of a new image into the other one.
 
-ghost use Rattle.std.specs.Prelude.{◌≡◌, ◌<◌, IfOk, OnOk, OnErr, Some, length, slice_get};
+ghost use Rattle.std.specs.Prelude.{◌≡◌, ◌≢◌, ◌+◌, ◌<◌, ◌⊎◌, ℕ, IfOk, OnOk, OnErr, Some, length, slice_get, true};
 ghost use Rattle.std.specs.Option.{ForSome};
 ghost use Rattle.g_base.specs.ToldContent.{Changes};
-ghost use Rattle.g_disc.specs.Disc.{ReadsOnly, WritesOnly};
-ghost use Rattle.g_slots.specs.Layout.{GateNames, GateWritten, other, slot};
+ghost use Rattle.g_disc.specs.Disc.{GateFailed, HasSynced, ReadsOnly, StaySyncable, WritesOnly, is_durable};
+ghost use Rattle.g_disc.specs.Durable.{AreDurable, DirtiesOnly, PowerLossLeaves};
+ghost use Rattle.g_slots.specs.Layout.{GateNames, GateWritten, IsInSlot, current, other, slot, start_of};
 ghost use Rattle.g_slots.specs.Commit.{Commits, CommitsOrNot, Fills, Flips, KeepsCurrent, Prepares, Tears};
 
 use crate::gate::Gate;
@@ -13,8 +14,8 @@ use g_base::Block;
 use g_disc::Disc;
 use std::marker::Model;
 
-/// The current slot of a disc, as its gate names it. A clause sees the side. It isn't `Copy`: a copy
-/// that is kept over a commit would name the wrong slot.
+/// The current slot of a disc, as its gate names it. Contracts see the side. It isn't `Copy`: a copy
+/// from before a commit would name the wrong slot.
 #[derive(Drop)]
 pub struct Slots {
     current: Side,
@@ -52,7 +53,7 @@ impl Slots {
         self.current
     }
 
-    /// Reads block `k` of the current slot. Where it answers `ReadFault`, nothing is known of `into`.
+    /// Reads block `k` of the current slot. On `ReadFault` the contents of `into` are unspecified.
     pub fn read<D: Disc>(&self, disc: &mut D, k: u32, into: &mut Block) -> Result<(), SlotFault>
         requires place { k < 1088 }
         requires size { 2177 < (D.state disc.old).size }
@@ -66,8 +67,8 @@ impl Slots {
         Ok(())
     }
 
-    /// Writes block `k` of the slot that isn't current. Where this stops, that block may be torn, and
-    /// all else is as it was.
+    /// Writes block `k` of the slot that isn't current. On `Stopped` that block may be torn; all others
+    /// are unchanged.
     pub fn prepare<D: Disc>(&self, disc: &mut D, k: u32, from: &Block) -> Result<(), SlotFault>
         requires place { k < 1088 }
         requires size { 2177 < (D.state disc.old).size }
@@ -79,14 +80,16 @@ impl Slots {
         ensures torn { OnErr result
             (Changes (Tears self.now k) (D.state disc.old).held (D.state disc.new).held) }
         ensures counts { WritesOnly 1 (D.state disc.old) (D.state disc.new) result }
+        ensures dirties { DirtiesOnly (λ j. j ≡ start_of (other self.now) + k)
+            (D.state disc.old) (D.state disc.new) result }
         ensures only { OnErr result (result ≡ Err SlotFault.Stopped) }
     {
         disc.write(self.current.other().start() + k, from)?;
         Ok(())
     }
 
-    /// Writes the gate, so that the other slot is current. Where this stops, the gate names either
-    /// slot, and the disc takes no further call until its gate has been found again.
+    /// Writes the gate, so that the other slot is current. On `Stopped` the gate may name either slot,
+    /// and `find` must be called before any other call.
     pub fn flip<D: Disc>(&mut self, disc: &mut D) -> Result<(), SlotFault>
         requires size { 2177 < (D.state disc.old).size }
         requires gate { GateNames self.old (D.state disc.old).held }
@@ -96,6 +99,14 @@ impl Slots {
         ensures written { OnOk result (GateWritten self.new (D.state disc.new).held) }
         ensures same { OnErr result (self.new ≡ self.old) }
         ensures counts { WritesOnly 1 (D.state disc.old) (D.state disc.new) result }
+
+        // If it is Ok, everything written before is durable, and so is the gate.
+        ensures synced { OnOk result (HasSynced (D.state disc.old) (D.state disc.new)
+            × (is_durable (D.state disc.new) 0 ≡ true)) }
+        ensures gate_failed { OnErr result (GateFailed (D.state disc.old) (D.state disc.new)) }
+        ensures durable { (j : ℕ) → j ≢ 0 → is_durable (D.state disc.old) j ≡ true
+            → is_durable (D.state disc.new) j ≡ true }
+        ensures syncable { OnOk result (StaySyncable (D.state disc.old) (D.state disc.new)) }
         ensures only { OnErr result (result ≡ Err SlotFault.Stopped) }
     {
         let next = self.current.other();
@@ -106,9 +117,8 @@ impl Slots {
         Ok(())
     }
 
-    /// Writes the image into the slot that isn't current, block by block, and then the gate. Where
-    /// this stops, the current slot is as it was, or the image whole; which of the two isn't known
-    /// until the gate has been found again.
+    /// Writes the image into the slot that isn't current, block by block, and then the gate. On `Stopped`
+    /// the current slot is unchanged, or is the whole image; only `find` can tell which.
     pub fn commit<D: Disc>(&mut self, disc: &mut D, image: &[Block]) -> Result<(), SlotFault>
         requires image { length image.now ≡ 1088 }
         requires size { 2177 < (D.state disc.old).size }
@@ -122,8 +132,21 @@ impl Slots {
             (Changes (CommitsOrNot image.now) (D.state disc.old).held (D.state disc.new).held) }
         ensures same { OnErr result (self.new ≡ self.old) }
         ensures counts { WritesOnly 1089 (D.state disc.old) (D.state disc.new) result }
+
+        // Whatever a power loss leaves: after Ok the image is current, and the other slot is unchanged. After
+        // Stopped the current slot is unchanged, or is the whole image.
+        ensures survives { OnOk result (PowerLossLeaves (λ _ left. current left ≡ image.now)
+            (D.state disc.old) (D.state disc.new)) }
+        ensures old_survives { AreDurable (IsInSlot self.old) (D.state disc.old)
+            → OnOk result (PowerLossLeaves (λ before left. slot self.old left ≡ slot self.old before)
+            (D.state disc.old) (D.state disc.new)) }
+        ensures one_survives { is_durable (D.state disc.old) 0 ≡ true
+            → AreDurable (IsInSlot self.old) (D.state disc.old)
+            → OnErr result (PowerLossLeaves (λ before left. (current left ≡ current before) ⊎ (current left ≡ image.now))
+            (D.state disc.old) (D.state disc.new)) }
         ensures only { OnErr result (result ≡ Err SlotFault.Stopped) }
     {
+        let _size = disc.size();
         self.fill(disc, image)?;
         self.flip(disc)
     }
@@ -138,6 +161,7 @@ impl Slots {
         ensures stopped { OnErr result
             (Changes (KeepsCurrent self.now) (D.state disc.old).held (D.state disc.new).held) }
         ensures counts { WritesOnly 1088 (D.state disc.old) (D.state disc.new) result }
+        ensures dirties { DirtiesOnly (IsInSlot (other self.now)) (D.state disc.old) (D.state disc.new) result }
         ensures only { OnErr result (result ≡ Err SlotFault.Stopped) }
     {
         let _size = disc.size();

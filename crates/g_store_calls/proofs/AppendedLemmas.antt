@@ -65,12 +65,16 @@ module _ (change : Change) (s : StoreFacts) (mid new : OnlineFacts) (after : Rac
   pub changed_over : HasChanged change mid new → HasChanged change s.online new
   changed_over done =
       let d : HasChanged change (read_online s mid after ⊥ ⊥ unspent store asked) new = subst (λ (x : OnlineFacts). HasChanged change x new) mid_is done in
-      record { live = d.live; contents = d.contents; pins = d.pins; changed = d.changed; touched = d.touched; blocks = d.blocks; commits = d.commits; writes = d.writes }
+      record { live = d.live; contents = d.contents; pins = d.pins; changed = d.changed; touched = d.touched; blocks = d.blocks; commits = d.commits; writes = d.writes; durable = d.durable }
 
   pub stopped_over : HasStopped change mid new → HasStopped change s.online new
   stopped_over stopped =
       let d : HasStopped change (read_online s mid after ⊥ ⊥ unspent store asked) new = subst (λ (x : OnlineFacts). HasStopped change x new) mid_is stopped in
-      record { live = d.live; holds = λ blocks is. record { one = (d.holds blocks is).one } }
+      record {
+        live = d.live;
+        holds = λ blocks is. record { one = (d.holds blocks is).one };
+        survives = λ durable. let both = d.survives durable in (both.0, λ a told left may. record { one = (both.1 a told left may).one });
+      }
 
   pub causes_over : {Q : Type 0} → Causes ⊥ Q mid.disc new.disc → Causes ⊥ Q s.online.disc new.disc
   causes_over causes = record {

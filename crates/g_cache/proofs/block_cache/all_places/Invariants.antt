@@ -1,4 +1,4 @@
--- The places so far, from 0 on.
+-- The places so far, counted from 0.
 use Rattle.std.proofs.Common.{◌≡◌, ◌<◌, ℕ, length, get_or}
 use Rattle.g_cache.proofs.block_cache.all_places.Given as goal
 

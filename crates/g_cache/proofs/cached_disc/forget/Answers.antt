@@ -1,4 +1,4 @@
--- A block that is known to be absent is gone already.
+-- A block that is noted as absent isn't cached.
 use Rattle.std.proofs.Common.{sym, ◌∙◌}
 use Rattle.g_cache.proofs.AbsentLemmas.{absent_forgotten, missing_stays}
 use Rattle.g_cache.proofs.cached_disc.forget.Goals as goal

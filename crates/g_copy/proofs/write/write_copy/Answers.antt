@@ -1,9 +1,12 @@
 use Rattle.std.proofs.Common.{◌≡◌, ◌≢◌, ℕ, ◌<◌, List, length, subst, sym, ap, ◌∙◌, arith}
-use Rattle.std.specs.Prelude.{All, AllPairs}
+use Rattle.std.specs.Prelude.{All, AllPairs, Contains, Err, Ok}
 use Rattle.g_base.specs.Fields.{padded}
 use Rattle.g_base.specs.ToldContent.{Changes}
+use Rattle.g_copy.specs.declared.fault.CopyFault.{CopyFault}
+use Rattle.g_copy.specs.declared.fault.CopyFault.TheVariants.{Stopped}
 use Rattle.g_copy.specs.Copy.{Holds, OnlyAt}
-use Rattle.g_copy.proofs.Writing.{written_none, written_more, written_torn, written_all}
+use Rattle.g_disc.specs.Durable.{DirtiesOnly}
+use Rattle.g_copy.proofs.Writing.{dirties_all, dirties_torn, written_none, written_more, written_torn, written_all}
 use Rattle.g_copy.proofs.write.write_copy.Goals as goal
 
 pub loop-i-init : goal.loop-i-init
@@ -37,3 +40,16 @@ returns-clause-ok g c =
     let all : length c.as_slice-places.result.now ≡ c.loop-i.i = omega arith in
     subst (λ (ps : List ℕ). Changes (Holds ps c.args.bytes.now) (g.D.Disc.state c.args.disc.now).held (g.D.Disc.state c.loop-i.disc).held) is
     (written_all c.as_slice-places.result.now c.args.bytes.now (g.D.Disc.state c.args.disc.now) (g.D.Disc.state c.loop-i.disc) (omega arith) (rw all c.loop-i.invariant))
+
+pub returns-in-Err-clause-dirties : goal.returns-in-Err-clause-dirties
+returns-in-Err-clause-dirties g c =
+    subst (λ (ps : List ℕ). DirtiesOnly {T = Unit {0}} {E = CopyFault} (Contains ps) (g.D.Disc.state c.args.disc.now) (g.D.Disc.state c.write.new.self) (Err Stopped)) c.as_slice-places.ensures.value
+    (dirties_torn c.loop-i.i c.as_slice-places.result.now c.args.bytes.now _ _ _ _ _ Stopped (omega arith) c.loop-i.invariant c.in-Err.ensures)
+
+pub returns-clause-dirties : goal.returns-clause-dirties
+returns-clause-dirties g c =
+    let is = c.as_slice-places.ensures.value in
+    let long = ap length is in
+    let all : length c.as_slice-places.result.now ≡ c.loop-i.i = omega arith in
+    subst (λ (ps : List ℕ). DirtiesOnly {T = Unit {0}} {E = CopyFault} (Contains ps) (g.D.Disc.state c.args.disc.now) (g.D.Disc.state c.loop-i.disc) (Ok tt)) is
+    (dirties_all c.as_slice-places.result.now c.args.bytes.now (g.D.Disc.state c.args.disc.now) (g.D.Disc.state c.loop-i.disc) tt (rw all c.loop-i.invariant))

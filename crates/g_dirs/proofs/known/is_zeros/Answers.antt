@@ -1,4 +1,4 @@
--- Where nothing was put there are zeros.
+-- If nothing was put, all bytes are zeros.
 use Rattle.std.proofs.Common.{length, ap, sym, ◌∙◌}
 use Rattle.std.proofs.lemmas.Bool.{eqb-true}
 use Rattle.g_dirs.proofs.KeptLemmas.{nothing_put}

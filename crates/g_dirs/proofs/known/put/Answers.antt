@@ -1,4 +1,4 @@
--- Zeros behind the end don't show, whether they are written or not.
+-- Zeros after the end make no difference, whether or not they are written.
 use Rattle.std.proofs.Common.{◌+◌, ◌-◌, ◌≤◌, ℕ, List, length, replicate, slice_index_or, sym, ap, ◌∙◌, arith, get_or-set_other}
 use Rattle.std.proofs.lemmas.List.{get_or_past}
 use Rattle.std.proofs.lemmas.Slice.Eq.{bytes_eq-Decides}

@@ -4,6 +4,7 @@ use Rattle.g_slots.specs.declared.side.Side.{Side}
 use Rattle.g_slots.specs.Layout.{other}
 use Rattle.g_dirs.specs.Marks.{IsNext}
 use Rattle.g_dirs.specs.Pages.{marks_of}
+use Rattle.g_dirs.proofs.Surviving.{dirties_none, dirties_then, dirties_until}
 use Rattle.g_dirs.proofs.WriteLemmas.{keeps_then, remembers_now, wrote_counts, wrote_next, wrote_to_first, wrote_whole}
 use Rattle.g_dirs.proofs.write.fill.Goals as goal
 
@@ -13,6 +14,7 @@ loop-k-init g c = record {
   wrote = wrote_to_first c.args.slots.now c.args.listing.now c.next_marked-k.result (g.D.Disc.state c.args.disc.now) c.args.last.now c.requires.remembers c.requires.covers
       (subst (λ (s : Side). IsNext (marks_of s c.args.last.now) 0 c.next_marked-k.result) (c.other-side.ensures ∙ ap other c.side.ensures) c.next_marked-k.ensures);
   marks = record { a = refl; b = refl };
+  dirties = dirties_none c.args.slots.now (g.D.Disc.state c.args.disc.now) c.args.last.now tt;
 }
 
 pub write_page-requires-clause-remembers : goal.write_page-requires-clause-remembers
@@ -32,7 +34,14 @@ loop-k-preserved g c = record {
       (subst (λ (s : Side). IsNext (marks_of s c.write_page.new.last) (c.loop-k.k + 1) c.next_marked-k-in-loop-k.result) (c.other-side.ensures ∙ ap other c.side.ensures)
       c.next_marked-k-in-loop-k.ensures);
   marks = keeps_then c.loop-k.invariant.marks c.in-Ok.ensures.pages.marks;
+  dirties = dirties_then c.args.slots.now (g.D.Disc.state c.args.disc.now) (g.D.Disc.state c.loop-k.disc) (g.D.Disc.state c.write_page.new.disc) c.args.last.now c.loop-k.last
+      c.write_page.new.last tt c.in-Ok.field-0 tt c.loop-k.invariant.dirties c.in-Ok.ensures.dirties;
 }
+
+pub returns-in-Err-clause-dirties : goal.returns-in-Err-clause-dirties
+returns-in-Err-clause-dirties g c =
+    dirties_until c.args.slots.now (g.D.Disc.state c.args.disc.now) (g.D.Disc.state c.loop-k.disc) (g.D.Disc.state c.write_page.new.disc) c.args.last.now c.loop-k.last
+    c.write_page.new.last tt c.in-Err.fault c.loop-k.invariant.dirties c.in-Err.ensures.dirties
 
 pub returns-clause-ok : goal.returns-clause-ok
 returns-clause-ok g c =

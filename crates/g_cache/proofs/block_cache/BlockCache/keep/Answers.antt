@@ -1,4 +1,4 @@
--- The block comes to a free place, or to that of the block that is pushed out.
+-- The block is stored at a free place, or at that of the block that it evicts.
 use Rattle.std.proofs.Common.{◌≡◌, ◌≢◌, ◌-◌, ◌∷◌, [], ℕ, take, length, sym, ap, subst, ◌∙◌, arith, inl}
 use Rattle.std.proofs.Math.ListN.{set}
 use Rattle.std.proofs.lemmas.List.Elements.{All-take}

@@ -1,4 +1,4 @@
--- The block at the place of the number is copied, and the place goes first.
+-- The block at the place of the number is copied, and the place moves to the front.
 use Rattle.std.proofs.Common.{◌<◌, ◌∷◌, [], Some, is_some, length, sym, ap, ◌∙◌, arith, true≢false}
 use Rattle.std.proofs.lemmas.List.{get_or_default}
 use Rattle.g_cache.specs.CachedDisc.{without_block}

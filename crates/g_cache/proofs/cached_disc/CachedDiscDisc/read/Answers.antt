@@ -15,7 +15,7 @@ returns-then-recall g c =
     CachedReads-found g.D.Disc.state c.args.k c.self.inside.cache c.recall.new.self c.recall.new.into c.args.self.now c.self.inside.disc tt c.self.view_is
     (c.recall.ensures.block c.if-recall.true) (c.recall.ensures.first c.if-recall.true) c.self.invariant.0
 
--- it was written since it was read last
+-- it was written since its last read
 pub invariant_of-self-then-has : goal.invariant_of-self-then-has
 invariant_of-self-then-has g c = (
   Agrees-read c.args.k c.self.inside.cache c.recall.new.self c.recall.new.self c.read.new.into (g.D.Disc.state c.self.inside.disc).held

@@ -1,4 +1,4 @@
--- From the end of the list into the front of the table.
+-- Copies move from the end of the list to the front of the table.
 use Rattle.std.proofs.Common.{◌++◌, ap, ◌∙◌}
 use Rattle.std.proofs.lemmas.List.{append-nil}
 use Rattle.g_dirs.proofs.CopyLemmas.{Copies}

@@ -1,4 +1,4 @@
--- Behind what both have there are the same zeros, so that the fronts tell.
+-- Both blocks end in the same zeros, so comparing the fronts is enough.
 use Rattle.std.proofs.Common.{List, length, take, ℕ, ap, ◌∙◌, arith}
 use Rattle.std.specs.Str.{bytes_eq}
 use Rattle.g_base.specs.Fields.{padded}

@@ -1,4 +1,4 @@
--- Behind what both have there are the same zeros, so that the front is all that changes.
+-- Both blocks end in the same zeros, so only the front changes.
 use Rattle.std.proofs.Common.{List, length, take, ℕ, ap, sym, subst, ◌∙◌, arith}
 use Rattle.g_base.specs.Fields.{IsPartWritten, padded}
 use Rattle.g_dirs.proofs.KeptLemmas.{front_kept, padded_is_part, same_ends}

@@ -1,4 +1,4 @@
--- A block that is known is compared as it is kept.
+-- A known block is compared in its stored form.
 use Rattle.std.proofs.Common.{◌≡◌, List, Option, ℕ, true, false, replicate, slice_get, slice_index_or, sym, ap, ◌∙◌, arith}
 use Rattle.std.specs.Str.{bytes_eq}
 use Rattle.std.proofs.lemmas.Grind.{common_steps}

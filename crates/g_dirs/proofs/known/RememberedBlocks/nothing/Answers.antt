@@ -1,4 +1,4 @@
--- Nothing is known of any block.
+-- No block is known.
 use Rattle.std.proofs.Common.{◌≡◌, Bool, List, false, replicate, ap, ◌∙◌}
 use Rattle.g_dirs.specs.KnownBlocks.{seen}
 use Rattle.g_dirs.proofs.KnownLemmas.{seen_nothing}

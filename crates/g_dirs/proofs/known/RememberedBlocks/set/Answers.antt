@@ -1,4 +1,4 @@
--- One more block is known, and the others are as they were.
+-- One more block is known, and the others are unchanged.
 use Rattle.std.proofs.Common.{List, Option, ℕ, slice_get, ap, ◌∙◌, arith}
 use Rattle.g_base.specs.Fields.{padded}
 use Rattle.g_dirs.proofs.KnownLemmas.{set_here, set_rest}

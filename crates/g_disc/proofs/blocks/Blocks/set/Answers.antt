@@ -1,4 +1,4 @@
--- What is behind the last written block is zeros, before and after.
+-- The blocks after the last written one are zeros, before and after.
 use Rattle.std.proofs.Common.{◌<◌, ℕ, List, length, replicate, slice_set, ap, ◌∙◌, arith}
 use Rattle.g_disc.proofs.BlocksLemmas.{filled-length, filled-set_reached}
 use Rattle.g_disc.proofs.blocks.Blocks.set.Goals as goal

@@ -7,4 +7,4 @@ pub returns-clause-tied : goal.returns-clause-tied
 returns-clause-tied g c =
     tied (g.D.Disc.state c.arm.new.self) _
     (kept_still (g.D.Disc.state c.self.inside.disc) (g.D.Disc.state c.arm.new.self) _ (ap (λ (s : DiscState). s.held) c.arm.ensures) (ap (λ (s : DiscState).
-    s.size) c.arm.ensures) c.self.invariant)
+    s.size) c.arm.ensures) (ap (λ (s : DiscState). s.dropped) c.arm.ensures) c.self.invariant)

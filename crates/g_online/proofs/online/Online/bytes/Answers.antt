@@ -55,4 +55,4 @@ pub returns-clause-tied : goal.returns-clause-tied
 returns-clause-tied g c =
     tied (g.D.Disc.state c.read_copy.new.disc) _
     (kept_still (g.D.Disc.state c.self.inside.disc) (g.D.Disc.state c.read_copy.new.disc) _ c.read_copy.ensures.counts.held c.read_copy.ensures.counts.size
-    c.self.invariant)
+    c.read_copy.ensures.counts.dropped c.self.invariant)

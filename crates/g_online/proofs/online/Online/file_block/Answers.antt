@@ -39,4 +39,4 @@ returns-clause-block g c =
 pub returns-clause-tied : goal.returns-clause-tied
 returns-clause-tied g c =
     tied (g.D.Disc.state c.read.new.self) _
-    (kept_still (g.D.Disc.state c.self.inside.disc) (g.D.Disc.state c.read.new.self) _ c.read.ensures.held c.read.ensures.size c.self.invariant)
+    (kept_still (g.D.Disc.state c.self.inside.disc) (g.D.Disc.state c.read.new.self) _ c.read.ensures.held c.read.ensures.size c.read.ensures.dropped c.self.invariant)

@@ -4,7 +4,7 @@ use Rattle.g_disc.proofs.CallLemmas.{Causes-ReadsByCause, Causes-WritesOnly_err,
 use Rattle.g_online.specs.declared.fault.OnlineFault.{OnlineFault}
 use Rattle.g_online.specs.declared.fault.OnlineFault.TheVariants.{ReadFault, Stopped}
 use Rattle.g_online.specs.Beginning.{empty_copies}
-use Rattle.g_online.proofs.BegunLemmas.{first_agreed, first_copies, first_marked, first_stopped, has_made, numbers_below}
+use Rattle.g_online.proofs.BegunLemmas.{first_agreed, first_copies, first_marked, first_stopped, first_survives, has_made, numbers_below}
 use Rattle.g_online.proofs.TwoLemmas.{stopped_is}
 use Rattle.g_online.proofs.online.Online.fresh.Goals as goal
 
@@ -39,7 +39,7 @@ begin-requires-clause-agreed g c =
     first_agreed (g.D.Disc.state c.args.disc) c.args.head c.args.tree.users c.args.tree.files c.requires.high c.requires.rules (g.D.Disc.state
     c.find.new.disc) (g.D.Disc.state c.commit.new.disc) c.in-Ok-find.slots c.commit.new.slots
     c.in-Ok.made.0 c.commit.new.pages c.in-Ok.made.1 c.in-Ok-of.online (c.in-Ok-of.ensures ∙ c.in-Ok-empty_copies.ensures ∙ ap empty_copies c.files.ensures.value)
-    c.in-Ok-commit.ensures.ok
+    c.in-Ok.ensures.pages c.in-Ok-commit.ensures.ok
     (subst (λ (n : ℕ). IsFresh n [] c.in-Ok.made.1) size c.in-Ok.ensures.pool)
 
 pub returns-in-Ok-commit-clause-ok : goal.returns-in-Ok-commit-clause-ok
@@ -57,7 +57,14 @@ returns-in-Err-commit-clause-stopped g c = λ is.
     first_stopped (g.D.Disc.state c.args.disc) c.args.head c.args.tree.users c.args.tree.files c.requires.high c.requires.rules c.in-Ok-of.online
     (g.D.Disc.state c.find.new.disc).held (g.D.Disc.state c.commit.new.disc).held
     c.in-Ok-find.ensures.counts.held (c.in-Ok-of.ensures ∙ c.in-Ok-empty_copies.ensures ∙ ap empty_copies c.files.ensures.value)
-    c.in-Err-commit.ensures.stopped
+    c.in-Err-commit.ensures.stopped.content
+
+pub returns-in-Err-commit-clause-survives : goal.returns-in-Err-commit-clause-survives
+returns-in-Err-commit-clause-survives g c = λ is gate is_safe.
+    first_survives (g.D.Disc.state c.args.disc) c.args.head c.args.tree.users c.args.tree.files c.requires.high c.requires.rules (g.D.Disc.state
+    c.find.new.disc) (g.D.Disc.state c.commit.new.disc) c.in-Ok.made.0 c.in-Ok-of.online c.in-Ok-find.ensures.counts
+    (c.in-Ok-of.ensures ∙ c.in-Ok-empty_copies.ensures ∙ ap empty_copies c.files.ensures.value) c.in-Ok.ensures.pages
+    c.in-Err-commit.ensures.stopped gate is_safe
 
 pub returns-in-Err-find-clause-causes : goal.returns-in-Err-find-clause-causes
 returns-in-Err-find-clause-causes g c = Causes-ReadsByCause (λ is. cc) (ReadsByCause-ReadsOnly_err refl c.in-Err-find.ensures.counts)

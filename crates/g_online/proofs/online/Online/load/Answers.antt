@@ -55,7 +55,7 @@ returns-in-Ok-from_records-clause-ok g c =
     let made = c.in-Ok-pool_of.made in
     has_loaded (g.D.Disc.state c.args.disc) (g.D.Disc.state c.find.new.disc) c.in-Ok.found.0 dirs.head dirs.users.items dirs.files.items dirs.online.items
     c.in-Ok.ensures.found c.in-Ok.ensures.copies
-    made.0 made.1 c.in-Ok-from_records.tree.users c.in-Ok-from_records.tree.files c.begin.result c.in-Ok.ensures.reads (λ is. cc)
+    made.0 made.1 c.in-Ok-from_records.tree.users c.in-Ok-from_records.tree.files c.begin.result (λ b told. (c.size.ensures.blocks b told).0 ∙ c.size.ensures.size) c.requires.low c.in-Ok.ensures.reads (λ is. cc)
     c.in-Ok-pool_of.ensures.pages c.in-Ok-from_records.ensures.users c.in-Ok-from_records.ensures.files
     (c.begin.ensures.facts ∙ ap (λ (l : Copies). facts_of (g.D.Disc.state c.find.new.disc) (memory_of c.in-Ok.found.0 made.0 made.1
     c.in-Ok-from_records.tree.users c.in-Ok-from_records.tree.files dirs.head l)) c.in-Ok-of.ensures)

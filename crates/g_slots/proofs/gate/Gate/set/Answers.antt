@@ -1,4 +1,4 @@
--- One byte, and zeros behind.
+-- One byte, followed by zeros.
 use Rattle.std.proofs.Common.{ℕ, List, ap, ◌∙◌, ◌∷◌, replicate}
 use Rattle.std.specs.Prelude.{slice_set}
 use Rattle.g_slots.specs.Layout.{gate_block}
