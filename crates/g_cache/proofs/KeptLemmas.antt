@@ -79,6 +79,8 @@ module _ {D T E : Type 0} (state : D → DiscState) (k : ℕ) (kept after : List
       writes = refl;
       fuse = refl;
       arms = refl;
+      volatile = refl;
+      dropped = refl;
       block = agrees (k, into) (Contains-kept_block k kept into is);
       kept = refl;
       rose = tt;

@@ -7,7 +7,7 @@ use Rattle.g_store_meaning.specs.StoreInvariant.{StoreFacts}
 abbrev pub nothing : StoreFacts
 nothing = record {
   online = record {
-    disc = record { held = None; size = 0; read_faults = 0; write_faults = 0; writes = 0; fuse = None; arms = never };
+    disc = record { held = None; size = 0; read_faults = 0; write_faults = 0; writes = 0; fuse = None; arms = never; volatile = []; dropped = [] };
     live = false;
     contents = record { head = record { next_stamp = 0; last_dump = 0; intent = None }; users = []; files = [] };
     pins = None;

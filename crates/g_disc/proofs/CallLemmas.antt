@@ -22,18 +22,19 @@ then_later first second = omega (arith, first, second)
 -- nothing but the count of read faults changes
 abbrev IsUntouched : DiscState → DiscState → Type 0
 IsUntouched x y = (y.held ≡ x.held) × (y.size ≡ x.size) × (y.write_faults ≡ x.write_faults) × (y.writes ≡ x.writes) × (y.fuse ≡ x.fuse) × (y.arms ≡ x.arms)
+    × (y.volatile ≡ x.volatile) × (y.dropped ≡ x.dropped)
 
 reads_by : {P : Type 0} {x y : DiscState} → IsUntouched x y → ((P → ⊥) → y.read_faults ≡ x.read_faults) → (P → Rose x.read_faults y.read_faults) → ReadsByCause P x y
-reads_by (held, size, write_faults, writes, fuse, arms) kept rose =
-    record { held = held; size = size; write_faults = write_faults; writes = writes; fuse = fuse; arms = arms; kept = kept; rose = rose }
+reads_by (held, size, write_faults, writes, fuse, arms, volatile, dropped) kept rose =
+    record { held = held; size = size; write_faults = write_faults; writes = writes; fuse = fuse; arms = arms; volatile = volatile; dropped = dropped; kept = kept; rose = rose }
 
 -- no call
 pub ReadsByCause-none : {P : Type 0} (state : DiscState) → (P → ⊥) → ReadsByCause P state state
-ReadsByCause-none state none = reads_by (refl, refl, refl, refl, refl, refl) (λ no. refl) (λ is. absurd (none is))
+ReadsByCause-none state none = reads_by (refl, refl, refl, refl, refl, refl, refl, refl) (λ no. refl) (λ is. absurd (none is))
 
 -- one read, which went well or failed
 untouched_read : {T E : Type 0} {k : ℕ} {into : List ℕ} {x y : DiscState} {result : Result T E} → Reads k into x y result → IsUntouched x y
-untouched_read read = (read.held, read.size, read.write_faults, read.writes, read.fuse, read.arms)
+untouched_read read = (read.held, read.size, read.write_faults, read.writes, read.fuse, read.arms, read.volatile, read.dropped)
 
 pub ReadsByCause-Reads_ok : {T E P : Type 0} {k : ℕ} {into : List ℕ} {x y : DiscState} {t : T} → (P → ⊥)
     → Reads {T = T} {E = E} k into x y (Ok t) → ReadsByCause P x y
@@ -41,7 +42,7 @@ ReadsByCause-Reads_ok none read = reads_by (untouched_read read) (λ no. read.ke
 
 -- the same of calls that read and do nothing else
 untouched_only : {T E : Type 0} {x y : DiscState} {result : Result T E} → ReadsOnly x y result → IsUntouched x y
-untouched_only reads = (reads.held, reads.size, reads.write_faults, reads.writes, reads.fuse, reads.arms)
+untouched_only reads = (reads.held, reads.size, reads.write_faults, reads.writes, reads.fuse, reads.arms, reads.volatile, reads.dropped)
 
 pub ReadsByCause-ReadsOnly_ok : {T E P : Type 0} {x y : DiscState} {t : T} → (P → ⊥)
     → ReadsOnly {T = T} {E = E} x y (Ok t) → ReadsByCause P x y
@@ -55,13 +56,13 @@ ReadsByCause-ReadsOnly_err is reads = reads_by (untouched_only reads) (λ no. ab
 pub ReadsByCause-then : {P Q : Type 0} {x y z : DiscState} → (P → ⊥)
     → ReadsByCause P x y → ReadsByCause Q y z → ReadsByCause Q x z
 ReadsByCause-then none first second =
-    reads_by (second.held ∙ first.held, second.size ∙ first.size, second.write_faults ∙ first.write_faults, second.writes ∙ first.writes, second.fuse ∙ first.fuse, second.arms ∙ first.arms)
+    reads_by (second.held ∙ first.held, second.size ∙ first.size, second.write_faults ∙ first.write_faults, second.writes ∙ first.writes, second.fuse ∙ first.fuse, second.arms ∙ first.arms, second.volatile ∙ first.volatile, second.dropped ∙ first.dropped)
     (λ no. second.kept no ∙ first.kept none) (λ is. rose_then (first.kept none) (second.rose is))
 
 -- for an answer that is given in just the same cases
 pub ReadsByCause-for : {P Q : Type 0} {x y : DiscState} → (P → Q) → (Q → P) → ReadsByCause P x y → ReadsByCause Q x y
 ReadsByCause-for there back reads =
-    reads_by (reads.held, reads.size, reads.write_faults, reads.writes, reads.fuse, reads.arms) (λ no. reads.kept (λ p. no (there p))) (λ q. reads.rose (back q))
+    reads_by (reads.held, reads.size, reads.write_faults, reads.writes, reads.fuse, reads.arms, reads.volatile, reads.dropped) (λ no. reads.kept (λ p. no (there p))) (λ q. reads.rose (back q))
 
 -- WRITES
 

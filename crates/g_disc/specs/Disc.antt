@@ -1,11 +1,14 @@
--- What a disc is to its callers, and what its calls do to it.
-use Rattle.std.specs.Prelude.{◌≡◌, ◌≤◌, ℕ, List, Option, Some, Result, OnOk, OnErr, slice_get}
+-- The state of a disc, and what each call does to it.
+use Rattle.std.specs.Prelude.{◌≡◌, ◌≢◌, ◌⊎◌, ◌≤◌, ℕ, Bool, true, List, Option, Some, Result, OnOk, OnErr, nat_eq, not, slice_get}
+use Rattle.std.specs.List.{list_any}
 use Rattle.std.specs.Option.{ForSome}
 use Rattle.g_base.specs.Block.{IsBlock, with_block}
 use Rattle.g_base.specs.Counts.{one_more, Rose, RoseBy}
 use Rattle.g_base.specs.Fuse.{Arms, BurnsByWrites, burnt}
 
--- a disc: its blocks, where they are told, how many they are, its counts, its fuse, and what it was armed with
+-- A disc: its blocks, if they are observable; their number; its counts of failed reads, failed writes and writes; its fuse, and what
+-- it was armed with. A power loss may change the `volatile` blocks. Of these, no sync makes the `dropped` ones durable: they were
+-- written before a sync that failed, and not since.
 pub record DiscState : Type 0 where
   pub held : Option (List (List ℕ))
   pub size : ℕ
@@ -14,6 +17,36 @@ pub record DiscState : Type 0 where
   pub writes : ℕ
   pub fuse : Option ℕ
   pub arms : Arms
+  pub volatile : List ℕ
+  pub dropped : List ℕ
+
+-- whether block k survives a power loss as reads see it
+abbrev pub is_durable : DiscState → ℕ → Bool
+is_durable d k = not (list_any (nat_eq k) d.volatile)
+
+-- whether it would, after a sync that succeeds
+abbrev pub is_syncable : DiscState → ℕ → Bool
+is_syncable d k = not (list_any (nat_eq k) d.dropped)
+
+-- a sync has nothing to do for a durable block
+abbrev pub DurableAreSyncable : DiscState → Type 0
+DurableAreSyncable d = (k : ℕ) → is_durable d k ≡ true → is_syncable d k ≡ true
+
+-- durable blocks stay durable
+abbrev pub StayDurable : DiscState → DiscState → Type 0
+StayDurable before after = (j : ℕ) → is_durable before j ≡ true → is_durable after j ≡ true
+
+-- syncable blocks stay syncable
+abbrev pub StaySyncable : DiscState → DiscState → Type 0
+StaySyncable before after = (j : ℕ) → is_syncable before j ≡ true → is_syncable after j ≡ true
+
+-- a sync succeeded: every syncable block is durable, except perhaps the gate, which was written since
+abbrev pub HasSynced : DiscState → DiscState → Type 0
+HasSynced before after = (j : ℕ) → j ≢ 0 → is_syncable before j ≡ true → is_durable after j ≡ true
+
+-- A write of the gate failed: the gate is unchanged, and as durable as it was; or a sync of all other blocks succeeded before it.
+abbrev pub GateFailed : DiscState → DiscState → Type 0
+GateFailed before after = ((after.held ≡ before.held) × (is_durable before 0 ≡ true → is_durable after 0 ≡ true)) ⊎ HasSynced before after
 
 -- what a disc's fuse is at each moment
 abbrev pub IsFused : DiscState → Type 0
@@ -27,12 +60,14 @@ pub record Reads {T E : Type 0} (k : ℕ) (into : List ℕ) (before after : Disc
   pub writes : after.writes ≡ before.writes
   pub fuse : after.fuse ≡ before.fuse
   pub arms : after.arms ≡ before.arms
+  pub volatile : after.volatile ≡ before.volatile
+  pub dropped : after.dropped ≡ before.dropped
   pub block : OnOk result (ForSome before.held (λ blocks. slice_get blocks k ≡ Some into))
   pub kept : OnOk result (after.read_faults ≡ before.read_faults)
   pub rose : OnErr result (Rose before.read_faults after.read_faults)
 
--- Block k is `from` now, or, where the write failed, any block at all. All other blocks stay. A write
--- burns the fuse, and where the fuse is 1 it fails.
+-- Block k is `from` now, or, if the write failed, any block at all. All other blocks are unchanged, and stay durable. A write
+-- burns the fuse, and fails if the fuse is 1. A write of the gate (block 0) is preceded and followed by a sync.
 pub record Writes {T E : Type 0} (k : ℕ) (from : List ℕ) (before after : DiscState) (result : Result T E) : Type 0 where
   pub size : after.size ≡ before.size
   pub read_faults : after.read_faults ≡ before.read_faults
@@ -44,8 +79,27 @@ pub record Writes {T E : Type 0} (k : ℕ) (from : List ℕ) (before after : Dis
   pub kept : OnOk result (after.write_faults ≡ before.write_faults)
   pub torn : OnErr result ((left : List ℕ) × IsBlock left × (after.held ≡ with_block k left before.held))
   pub rose : OnErr result (Rose before.write_faults after.write_faults)
+  pub durable : (j : ℕ) → j ≢ k → is_durable before j ≡ true → is_durable after j ≡ true
+  pub syncable : OnOk result (StaySyncable before after)
+  pub here : OnOk result (is_syncable after k ≡ true)
+  pub gate : k ≡ 0 → OnOk result (HasSynced before after × (is_durable after 0 ≡ true))
+  pub gate_failed : k ≡ 0 → OnErr result (GateFailed before after)
 
--- a call that reads and does nothing else, and that fails only where a read failed
+-- The gate was made durable. Nothing else that a caller can observe has changed; or the device failed, which counts as a failed read.
+pub record Secures {T E : Type 0} (before after : DiscState) (result : Result T E) : Type 0 where
+  pub held : after.held ≡ before.held
+  pub size : after.size ≡ before.size
+  pub write_faults : after.write_faults ≡ before.write_faults
+  pub writes : after.writes ≡ before.writes
+  pub fuse : after.fuse ≡ before.fuse
+  pub arms : after.arms ≡ before.arms
+  pub durable : StayDurable before after
+  pub syncable : OnOk result (StaySyncable before after)
+  pub gate : OnOk result (is_durable after 0 ≡ true)
+  pub kept : OnOk result (after.read_faults ≡ before.read_faults)
+  pub rose : OnErr result (Rose before.read_faults after.read_faults)
+
+-- a call that reads and does nothing else, and that fails only if a read failed
 pub record ReadsOnly {T E : Type 0} (before after : DiscState) (result : Result T E) : Type 0 where
   pub held : after.held ≡ before.held
   pub size : after.size ≡ before.size
@@ -53,10 +107,12 @@ pub record ReadsOnly {T E : Type 0} (before after : DiscState) (result : Result 
   pub writes : after.writes ≡ before.writes
   pub fuse : after.fuse ≡ before.fuse
   pub arms : after.arms ≡ before.arms
+  pub volatile : after.volatile ≡ before.volatile
+  pub dropped : after.dropped ≡ before.dropped
   pub kept : OnOk result (after.read_faults ≡ before.read_faults)
   pub rose : OnErr result (Rose before.read_faults after.read_faults)
 
--- The same of a call that may answer otherwise too: read_fault is that it answered for a failed read.
+-- The same for a call that may fail for other reasons too: `read_fault` says that it failed because of a failed read.
 pub record ReadsByCause (read_fault : Type 0) (before after : DiscState) : Type 0 where
   pub held : after.held ≡ before.held
   pub size : after.size ≡ before.size
@@ -64,10 +120,12 @@ pub record ReadsByCause (read_fault : Type 0) (before after : DiscState) : Type 
   pub writes : after.writes ≡ before.writes
   pub fuse : after.fuse ≡ before.fuse
   pub arms : after.arms ≡ before.arms
+  pub volatile : after.volatile ≡ before.volatile
+  pub dropped : after.dropped ≡ before.dropped
   pub kept : (read_fault → ⊥) → after.read_faults ≡ before.read_faults
   pub rose : read_fault → Rose before.read_faults after.read_faults
 
--- A call that writes and doesn't read: n blocks where it is Ok; it fails only where a write failed. The count of writes never falls.
+-- A call that writes and doesn't read: n blocks if it is Ok; it fails only if a write failed. The count of writes never falls.
 pub record WritesOnly {T E : Type 0} (n : ℕ) (before after : DiscState) (result : Result T E) : Type 0 where
   pub size : after.size ≡ before.size
   pub read_faults : after.read_faults ≡ before.read_faults
@@ -77,8 +135,8 @@ pub record WritesOnly {T E : Type 0} (n : ℕ) (before after : DiscState) (resul
   pub kept : OnOk result (after.write_faults ≡ before.write_faults)
   pub rose : OnErr result (Rose before.write_faults after.write_faults)
 
--- A call that may read and write, with the facts that it answered for a failed read or a failed write:
--- a count of faults moves only with its own answer, that answer comes only where it rose, the count of writes never falls, and nobody arms.
+-- A call that may read and write; `read_fault` and `stopped` say that it failed because of a failed read or a failed write. A count of
+-- faults rises exactly if the call failed for that reason, the count of writes never falls, and the fuse isn't armed.
 pub record Causes (read_fault stopped : Type 0) (before after : DiscState) : Type 0 where
   pub size : after.size ≡ before.size
   pub arms : after.arms ≡ before.arms

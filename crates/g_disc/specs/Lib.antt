@@ -1,2 +1,3 @@
 pub mod Disc
+pub mod Durable
 pub mod Memory

@@ -1,7 +1,7 @@
 //! A disc in memory, whose failures are set beforehand.
 ghost use Rattle.std.specs.Prelude.{◌≡◌, ◌<◌, ◌≤◌, IfOk, Some};
 ghost use Rattle.g_base.specs.Fuse.{armed_with};
-ghost use Rattle.g_disc.specs.Memory.{MemoryReads, MemoryWrites, blank, left_by};
+ghost use Rattle.g_disc.specs.Memory.{MemoryReads, MemorySecures, MemoryWrites, blank, left_by};
 
 use crate::blocks::Blocks;
 use crate::disc::Disc;
@@ -9,10 +9,10 @@ use g_base::{Armings, Block, Fuse, NoMemory, ReadFailed, WriteFailed, raised};
 use std::alloc::Global;
 use std::marker::Model;
 
-/// What a failing write leaves of the block that it was to replace.
+/// What a failing write leaves in the block.
 #[derive(Drop)]
 pub enum Leave {
-    /// The block as it was.
+    /// The block, unchanged.
     Old,
     /// The new block.
     Whole,
@@ -22,13 +22,15 @@ pub enum Leave {
     These(Block),
 }
 
-/// A disc in memory. Nothing fails but the write at which its fuse is 1 and the reads that are named.
+/// A disc in memory, whose writes are durable at once. Nothing fails but the write at which its fuse is 1, the reads that are named,
+/// and `secure` if that is set.
 #[derive(Drop)]
 pub struct MemoryDisc {
     blocks: Blocks,
     leave: Leave,
     fail: Vec<u64>,
     reads: u64,
+    insecure: bool,
     read_faults: u64,
     write_faults: u64,
     writes: u64,
@@ -37,7 +39,7 @@ pub struct MemoryDisc {
 }
 
 impl Model for MemoryDisc {
-    ghost use Rattle.std.specs.Prelude.{◌<◌, ◌^◌, All, Some, length};
+    ghost use Rattle.std.specs.Prelude.{◌<◌, ◌^◌, [], All, Some, length};
     ghost use Rattle.g_base.specs.Block.{IsBlock};
     ghost use Rattle.g_base.specs.Fuse.{BurnsByWrites};
     ghost use Rattle.g_disc.specs.Memory.{Memory};
@@ -53,10 +55,13 @@ impl Model for MemoryDisc {
         writes = m.writes;
         fuse = m.fuse;
         arms = m.arms;
+        volatile = [];
+        dropped = [];
       };
       leave = m.leave;
       fail = m.fail.items;
       reads = m.reads;
+      insecure = m.insecure;
     } };
 
     ghost invariant = { λ m. (length m.blocks < 2 ^ 32) × All IsBlock m.blocks
@@ -64,8 +69,7 @@ impl Model for MemoryDisc {
 }
 
 impl MemoryDisc {
-    /// A disc of so many blocks of zeros. Its failing writes leave the block as it was, until
-    /// `set_leave` says otherwise.
+    /// A disc of `blocks` blocks of zeros. Its failing writes leave the block unchanged until `set_leave` says otherwise.
     pub fn new(alloc: Global, blocks: u32) -> Result<MemoryDisc, NoMemory>
         ensures { IfOk result (λ m. m ≡ blank blocks) }
     {
@@ -74,6 +78,7 @@ impl MemoryDisc {
             leave: Leave::Old,
             fail: Vec::new(alloc),
             reads: 0,
+            insecure: false,
             read_faults: 0,
             write_faults: 0,
             writes: 0,
@@ -96,6 +101,13 @@ impl MemoryDisc {
     {
         self.fail = calls;
     }
+
+    /// Says whether `secure` fails from now on.
+    pub fn set_insecure(&mut self, fails: bool)
+        ensures { self.new ≡ record self.old { insecure = fails } }
+    {
+        self.insecure = fails;
+    }
 }
 
 impl Disc for MemoryDisc {
@@ -115,6 +127,16 @@ impl Disc for MemoryDisc {
             return Err(ReadFailed);
         }
         self.blocks.read(k, into);
+        Ok(())
+    }
+
+    fn secure(&mut self) -> Result<(), ReadFailed>
+        ensures { MemorySecures self.old self.new result }
+    {
+        if self.insecure {
+            self.read_faults = raised(self.read_faults);
+            return Err(ReadFailed);
+        }
         Ok(())
     }
 

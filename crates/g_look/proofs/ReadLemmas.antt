@@ -230,6 +230,8 @@ compared_step P Q disc mid now old rmid rnew online dumped files slice i r is_sl
         writes = reads.writes ∙ before.writes;
         fuse = reads.fuse ∙ before.fuse;
         arms = reads.arms ∙ before.arms;
+        volatile = reads.volatile ∙ before.volatile;
+        dropped = reads.dropped ∙ before.dropped;
         kept = λ never. reads.kept not_p ∙ before.kept never;
         rose = λ wrong. absurd wrong;
       };

@@ -27,17 +27,20 @@ use Rattle.g_process.specs.Progress.{AreReadable, FailedAt, Fills, IsReadable, R
 use Rattle.g_process.proofs.WriteLemmas.{element, element_below, placed}
 
 -- A DISC THAT WAS READ is as it was, but for the count of failed reads
-abbrev disc_of : Option (List (List ℕ)) → ℕ → ℕ → ℕ → Option ℕ → Arms → ℕ → DiscState
-disc_of held size faults writes fuse arms reads = record { held = held; size = size; read_faults = reads; write_faults = faults; writes = writes; fuse = fuse; arms = arms }
+abbrev disc_of : Option (List (List ℕ)) → ℕ → ℕ → ℕ → Option ℕ → Arms → List ℕ → List ℕ → ℕ → DiscState
+disc_of held size faults writes fuse arms volatile dropped reads =
+    record { held = held; size = size; read_faults = reads; write_faults = faults; writes = writes; fuse = fuse; arms = arms; volatile = volatile; dropped = dropped }
 
 pub disc_failed : (F : Type 0) (a b : DiscState) → ReadsByCause F a b → b ≡ record a { read_faults = b.read_faults }
 disc_failed F a b r =
-    ap (λ (x : Option (List (List ℕ))). disc_of x b.size b.write_faults b.writes b.fuse b.arms b.read_faults) r.held
-    ∙ ap (λ (x : ℕ). disc_of a.held x b.write_faults b.writes b.fuse b.arms b.read_faults) r.size
-    ∙ ap (λ (x : ℕ). disc_of a.held a.size x b.writes b.fuse b.arms b.read_faults) r.write_faults
-    ∙ ap (λ (x : ℕ). disc_of a.held a.size a.write_faults x b.fuse b.arms b.read_faults) r.writes
-    ∙ ap (λ (x : Option ℕ). disc_of a.held a.size a.write_faults a.writes x b.arms b.read_faults) r.fuse
-    ∙ ap (λ (x : Arms). disc_of a.held a.size a.write_faults a.writes a.fuse x b.read_faults) r.arms
+    ap (λ (x : Option (List (List ℕ))). disc_of x b.size b.write_faults b.writes b.fuse b.arms b.volatile b.dropped b.read_faults) r.held
+    ∙ ap (λ (x : ℕ). disc_of a.held x b.write_faults b.writes b.fuse b.arms b.volatile b.dropped b.read_faults) r.size
+    ∙ ap (λ (x : ℕ). disc_of a.held a.size x b.writes b.fuse b.arms b.volatile b.dropped b.read_faults) r.write_faults
+    ∙ ap (λ (x : ℕ). disc_of a.held a.size a.write_faults x b.fuse b.arms b.volatile b.dropped b.read_faults) r.writes
+    ∙ ap (λ (x : Option ℕ). disc_of a.held a.size a.write_faults a.writes x b.arms b.volatile b.dropped b.read_faults) r.fuse
+    ∙ ap (λ (x : Arms). disc_of a.held a.size a.write_faults a.writes a.fuse x b.volatile b.dropped b.read_faults) r.arms
+    ∙ ap (λ (x : List ℕ). disc_of a.held a.size a.write_faults a.writes a.fuse a.arms x b.dropped b.read_faults) r.volatile
+    ∙ ap (λ (x : List ℕ). disc_of a.held a.size a.write_faults a.writes a.fuse a.arms a.volatile x b.read_faults) r.dropped
 
 pub online_failed : (F : Type 0) (o o' : OnlineFacts) → o' ≡ record o { disc = o'.disc } → ReadsByCause F o.disc o'.disc → o' ≡ record o { disc = record o.disc { read_faults = o'.disc.read_faults } }
 online_failed F o o' same r = same ∙ ap (λ (d : DiscState). let x : OnlineFacts = record o { disc = d } in x) (disc_failed F o.disc o'.disc r)

@@ -233,6 +233,8 @@ read_faults_alone o new same reads =
       writes = reads.writes i;
       fuse = reads.fuse i;
       arms = reads.arms i;
+      volatile = reads.volatile i;
+      dropped = reads.dropped i;
     } in
     let x : OnlineFacts = record o { disc = d } in x)
 

@@ -44,6 +44,8 @@ module _ (s : StoreFacts) (new : OnlineFacts) (after : Rack) (disc_fault tape_fa
         writes = asked.disc.writes i;
         fuse = asked.disc.fuse i;
         arms = asked.disc.arms i;
+        volatile = asked.disc.volatile i;
+        dropped = asked.disc.dropped i;
       } in d
 
   abbrev pub read_online : OnlineFacts
