@@ -5,7 +5,7 @@ ghost use Rattle.std.specs.IoError.{error_kind};
 ghost use Rattle.g_base.specs.ToldContent.{Changes};
 ghost use Rattle.g_files.specs.Bytes.{AreBytes};
 ghost use Rattle.g_files.specs.Calls.{HasCut, HasRead, HasWritten};
-ghost use Rattle.g_files.specs.Durability.{Durability, DurableAreSyncable, SyncsDurability, WritesDurability};
+ghost use Rattle.g_files.specs.Durability.{Durability, DurableAreSyncable, HasSyncable, SyncsDurability, WritesDurability};
 
 use std::io::{self, ErrorKind};
 
@@ -22,7 +22,7 @@ pub trait RawFile {
     fn len(&mut self) -> io::Result<u64>
         ensures size { IfOk result (λ n. ForSome (content self.old) (λ bytes. length bytes ≡ n)) }
         ensures bytes { ForSome (content self.old) AreBytes }
-        ensures syncable { DurableAreSyncable (durability self.old) }
+        ensures sound { DurableAreSyncable (durability self.old) }
         ensures same { content self.new ≡ content self.old }
         ensures as_durable { durability self.new ≡ durability self.old };
 
@@ -40,17 +40,20 @@ pub trait RawFile {
         requires bytes { AreBytes from.now }
         ensures count { IfOk result (λ n. n ≤ length from.now) }
         ensures written { Changes (HasWritten at from.now result) (content self.old) (content self.new) }
-        ensures durable { WritesDurability at from.now (content self.old) (durability self.old) (durability self.new) result }
-        ensures interrupted { IfErr result (λ e. error_kind e ≡ ErrorKind.Interrupted → content self.new ≡ content self.old) };
+        ensures durability { WritesDurability at from.now (content self.old) (durability self.old) (durability self.new) result }
+        ensures syncable { IfOk result (λ n. HasSyncable at n (durability self.new)) }
+        ensures interrupted { IfErr result (λ e. error_kind e ≡ ErrorKind.Interrupted → content self.new ≡ content self.old) }
+        ensures as_durable { IfErr result (λ e. error_kind e ≡ ErrorKind.Interrupted → durability self.new ≡ durability self.old) };
 
     /// Sets the length: cuts off what follows, or appends zeros.
     fn set_len(&mut self, len: u64) -> io::Result<()>
         ensures cut { Changes (HasCut len result) (content self.old) (content self.new) }
         ensures durable { (j : ℕ) → j < len → (durability self.old).durable j ≡ true → (durability self.new).durable j ≡ true }
-        ensures syncable { (j : ℕ) → j < len → (durability self.old).syncable j ≡ true → (durability self.new).syncable j ≡ true };
+        ensures syncable { (j : ℕ) → j < len → (durability self.old).syncable j ≡ true → (durability self.new).syncable j ≡ true }
+        ensures sound { DurableAreSyncable (durability self.new) };
 
     /// Waits until all writes have reached the device.
     fn sync(&mut self) -> io::Result<()>
         ensures same { content self.new ≡ content self.old }
-        ensures durable { SyncsDurability (durability self.old) (durability self.new) result };
+        ensures durability { SyncsDurability (durability self.old) (durability self.new) result };
 }
