@@ -1,5 +1,5 @@
 -- Which blocks of a disc on a file are durable, from the durable bytes of the file.
--- serves: `FileDisc`
+-- serves: `FileDisc`, `blocks_are_their_bytes`
 use Rattle.std.proofs.Common.{◌≡◌, ℕ, zero, suc, ◌+◌, ◌*◌, ◌<◌, ◌≤◌, Bool, true, false, List, None, length, eqb, leb, ltb, Result, Ok, Err, OnErr, OnOk, refl, sym, ap, subst, ◌∙◌, inl, inr, arith}
 use Rattle.std.specs.Prelude.{◌≢◌, ◌⊎◌, Option, not, ◌&&◌, ◌||◌, option_map}
 use Rattle.std.specs.List.{list_any}
@@ -8,7 +8,7 @@ use Rattle.std.proofs.Math.Bool.{and-true}
 use Rattle.g_base.specs.Fuse.{Arms, never}
 use Rattle.g_files.specs.Bytes.{blocks_of}
 use Rattle.g_files.specs.Durability.{Durability, AreSynced, DurableAreSyncable, GateFailed, HasDurable, HasSyncable, HasSynced, KeepsDurability, StaySyncable, WritesBlock, is_within, overlaid}
-use Rattle.g_files.specs.FileDisc.{all_from, dropped_of, failing, opened, volatile_of}
+use Rattle.g_files.specs.FileDisc.{BlocksAreTheirBytes, all_from, dropped_of, failing, opened, volatile_of}
 use Rattle.g_files.proofs.DiscLemmas.{same_blocks}
 
 -- A TEST AND THE NUMBERS THAT FAIL IT
@@ -203,3 +203,10 @@ pub opened_is : (n : ℕ) (x y : Option (List ℕ)) (d d' : Durability) (f : Opt
       dropped = dropped_of n d;
     } ≡ opened n y d'
 opened_is n x y d d' f a same is fuse arms = rw (same, is, fuse, arms, opened_volatile n d', opened_dropped n d') refl
+
+-- as a law
+pub blocks_bytes : BlocksAreTheirBytes
+blocks_bytes s d volatile dropped k below = rw (volatile, dropped) (
+  (durable_at s.size k d below, λ each. durable_is s.size k d (λ _. each)),
+  (syncable_at s.size k d below, λ each. syncable_is s.size k d (λ _. each)),
+)

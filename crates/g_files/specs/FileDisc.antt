@@ -1,9 +1,9 @@
 -- A disc on an image.
-use Rattle.std.specs.Prelude.{ℕ, zero, suc, ◌+◌, ◌*◌, Bool, true, ◌&&◌, List, [], ◌∷◌, None, Option, option_map, if◌then◌else◌}
+use Rattle.std.specs.Prelude.{◌≡◌, ◌↔◌, ◌<◌, ℕ, zero, suc, ◌+◌, ◌*◌, Bool, true, ◌&&◌, List, [], ◌∷◌, None, Option, option_map, if◌then◌else◌}
 use Rattle.g_base.specs.Fuse.{never}
-use Rattle.g_disc.specs.Disc.{DiscState}
+use Rattle.g_disc.specs.Disc.{DiscState, is_durable, is_syncable}
 use Rattle.g_files.specs.Bytes.{blocks_of}
-use Rattle.g_files.specs.Durability.{Durability}
+use Rattle.g_files.specs.Durability.{Durability, HasDurable, HasSyncable}
 use Rattle.g_files.specs.Image.{blocks_seen, durability_seen, file_of}
 use Rattle.g_files.specs.declared.file_disc.FileDisc.{FileDisc}
 use Rattle.g_files.specs.declared.raw.RawFile.{Ghosts}
@@ -25,6 +25,11 @@ volatile_of n d = failing (λ k. all_from d.durable (512 * k) 512) n
 -- of n blocks, those that have a byte that no sync makes durable
 abbrev pub dropped_of : ℕ → Durability → List ℕ
 dropped_of n d = failing (λ k. all_from d.syncable (512 * k) 512) n
+
+-- a block of a disc is durable exactly if all its bytes are, and syncable exactly if all its bytes are
+abbrev pub BlocksAreTheirBytes : Type 0
+BlocksAreTheirBytes = (s : DiscState) (d : Durability) → s.volatile ≡ volatile_of s.size d → s.dropped ≡ dropped_of s.size d → (k : ℕ) → k < s.size
+    → ((is_durable s k ≡ true) ↔ HasDurable (512 * k) 512 d) × ((is_syncable s k ≡ true) ↔ HasSyncable (512 * k) 512 d)
 
 abbrev pub disc_size : {F : Type 0} {g : Ghosts F} → FileDisc F g → ℕ
 disc_size d = d.image.size

@@ -429,7 +429,7 @@ impl<F: RawFile + Drop> Image<F> {
         ensures settled { settled_of self.new ≡ settled_of self.old }
         ensures durability { SyncsDurability (durability_of self.old) (durability_of self.new) result }
     {
-        self.pending = true;
+        self.pending = true; // unless the sync succeeds
         if self.file.sync().is_err() {
             return Err(WriteFailed);
         }
