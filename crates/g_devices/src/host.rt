@@ -1,6 +1,8 @@
 //! Files and streams of the operating system: each method is one system call. Their bytes aren't observable; if the answers are those
-//! of plain files and streams, everything proved of those whose bytes are observable applies to them.
+//! of plain files and streams, everything proved of those whose bytes are observable applies to them. No clause says anything about
+//! their durability either: it is a property of bytes that are observable.
 ghost use Rattle.std.specs.Prelude.{None};
+ghost use Rattle.g_files.specs.Durability.{all_durable};
 
 use g_files::{RawFile, RawInput, RawOutput};
 use std::fs::File;
@@ -26,6 +28,8 @@ impl HostFile {
 
 impl RawFile for HostFile {
     ghost content = { λ f. None };
+
+    ghost durability = { λ f. all_durable };
 
     /// `InvalidData` unless it is a plain file: anything else has no length.
     fn len(&mut self) -> io::Result<u64> {

@@ -33,7 +33,8 @@ pub fn open_image(rt: &HostRuntime, path: &str) -> io::Result<FileDisc<HostFile>
     FileDisc::open(rt.alloc(), file, origin)
 }
 
-/// Opens an existing image read-only, with a shared lock that keeps off runs. Also returns which file it is.
+/// Opens an existing image read-only, with a shared lock that keeps off runs. Also returns which file it is. A call that secures the
+/// disc or writes to it fails.
 ///
 /// The error is `NotFound` if there is none, `WouldBlock` if a run has it; otherwise it is as `open_image`'s.
 pub(crate) fn look_at_image(
@@ -44,7 +45,7 @@ pub(crate) fn look_at_image(
 {
     let file = open_file(rt, path, Access::Look)?;
     let id = id_of(&file)?;
-    let disc = FileDisc::open(rt.alloc(), HostFile::new(file), Origin::ReadOnly)?;
+    let disc = FileDisc::open(rt.alloc(), HostFile::new(file), Origin::Found)?;
     Ok((disc, id))
 }
 

@@ -1,6 +1,6 @@
 -- What several reads or writes do one after another, and what a mixture of old and new bytes is.
 -- serves: buffer (written), read, read_whole, write (written), write_at (written), write_through (written), write_whole, DiscLemmas, ImageLemmas, MemoryLemmas
-use Rattle.std.proofs.Common.{◌≡◌, ℕ, ◌+◌, ◌-◌, ◌<◌, ◌≤◌, List, [], ◌++◌, length, take, drop, get_or, Result, Ok, Err, is_err, false, OnOk, Some, None, refl, sym, ap, subst, ◌∙◌, inl, inr, arith, length-append, length-drop}
+use Rattle.std.proofs.Common.{◌≡◌, ℕ, ◌+◌, ◌-◌, ◌<◌, ◌≤◌, List, [], ◌++◌, length, take, drop, get_or, Result, Ok, Err, is_err, false, true, OnErr, OnOk, Some, None, refl, sym, ap, subst, ◌∙◌, inl, inr, arith, length-append, length-drop}
 use Rattle.std.specs.Prelude.{Option, option_map}
 use Rattle.std.specs.Option.{ForSome}
 use Rattle.std.proofs.lemmas.Bool.{cases_lt}
@@ -189,3 +189,8 @@ fails_mixed at from r e x y c = Changes-weaken c (λ b a was is. any_mixed at fr
 pub on_ok_at : {T E P : Type 0} (r : Result T E) → is_err r ≡ false → OnOk r P → P
 on_ok_at (Ok x) ok p = p
 on_ok_at (Err e) ok p = absurd (cc)
+
+-- an answer that is one
+pub on_err_at : {T E P : Type 0} (r : Result T E) → is_err r ≡ true → OnErr r P → P
+on_err_at (Ok x) err p = absurd (cc)
+on_err_at (Err e) err p = p

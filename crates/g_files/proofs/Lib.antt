@@ -3,6 +3,9 @@ pub mod BlockLemmas
 pub mod BytesLemmas
 pub mod CallLemmas
 pub mod DiscLemmas
+pub mod DurabilityLemmas
+pub mod DurableBlocksLemmas
 pub mod ImageLemmas
 pub mod MemoryLemmas
 pub mod StreamLemmas
+pub mod WholeLemmas

@@ -1,6 +1,7 @@
 -- An image: a file, with the blocks that aren't written to it yet.
-use Rattle.std.specs.Prelude.{ℕ, List, Option, option_map}
+use Rattle.std.specs.Prelude.{ℕ, Bool, List, Option, length, option_map}
 use Rattle.g_files.specs.Bytes.{blocks_of, put}
+use Rattle.g_files.specs.Durability.{Durability, overlaid}
 use Rattle.g_files.specs.declared.image.Image.{Image}
 use Rattle.g_files.specs.declared.raw.RawFile.{Ghosts}
 
@@ -25,3 +26,15 @@ buffered_at i = i.buffered.at
 
 abbrev pub buffered_of : {F : Type 0} {g : Ghosts F} → Image F g → List ℕ
 buffered_of i = i.buffered.bytes
+
+-- which bytes of the file itself survive a power loss
+abbrev pub durability_of : {F : Type 0} {g : Ghosts F} → Image F g → Durability
+durability_of {g = g} i = g.durability i.file
+
+-- the same for the bytes that reads see
+abbrev pub durability_seen : {F : Type 0} {g : Ghosts F} → Image F g → Durability
+durability_seen {g = g} i = overlaid i.buffered.at (length i.buffered.bytes) (g.durability i.file)
+
+-- whether the gate is known to be durable
+abbrev pub settled_of : {F : Type 0} {g : Ghosts F} → Image F g → Bool
+settled_of i = i.settled

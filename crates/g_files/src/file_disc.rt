@@ -3,8 +3,10 @@ ghost use Rattle.std.specs.Prelude.{◌≡◌, ◌*◌, ◌<◌, ◌≤◌, ℕ,
 ghost use Rattle.std.specs.Option.{ForSome};
 ghost use Rattle.g_base.specs.Block.{IsBlock, with_block};
 ghost use Rattle.g_base.specs.Fuse.{BurnsByWrites};
+ghost use Rattle.g_disc.specs.Disc.{StayDurable, StaySyncable, is_durable, is_syncable};
 ghost use Rattle.g_files.specs.Bytes.{AreBytes, blocks_of};
-ghost use Rattle.g_files.specs.Image.{blocks_seen, size_of};
+ghost use Rattle.g_files.specs.Durability.{DurableAreSyncable, IsSettled, WritesBlock};
+ghost use Rattle.g_files.specs.Image.{blocks_seen, durability_seen, seen, size_of};
 
 use crate::image::{Image, Origin};
 use crate::raw::RawFile;
@@ -31,14 +33,15 @@ pub struct FileDisc<F: RawFile + Drop> {
 }
 
 impl<F: RawFile + Drop> FileDisc<F> {
-    ghost use Rattle.g_files.specs.FileDisc.{disc_file, disc_size, disc_state, opened};
+    ghost use Rattle.g_files.specs.FileDisc.{disc_file, disc_size, disc_state, is_secured, opened};
 
     /// The disc on a file. `InvalidData` unless the file has 2,178 to 1,048,576 whole blocks; otherwise the error is the system's,
     /// or memory has run out.
     pub fn open(alloc: Global, file: F, origin: Origin) -> io::Result<FileDisc<F>>
+        requires new { origin ≡ Origin.New → IsSettled (F.durability file) }
         ensures size { IfOk result (λ disc. (2177 < disc_size disc) × (disc_size disc ≤ 1048576)) }
         ensures whole { IfOk result (λ disc. ForSome (F.content file) (λ bytes. length bytes ≡ 512 * disc_size disc)) }
-        ensures opened { IfOk result (λ disc. disc_state disc ≡ opened (disc_size disc) (F.content file)) }
+        ensures opened { IfOk result (λ disc. disc_state disc ≡ opened (disc_size disc) (F.content file) (F.durability file)) }
     {
         let mut file = file;
         let size = blocks_in(&mut file)?;
@@ -56,7 +59,10 @@ impl<F: RawFile + Drop> FileDisc<F> {
     /// commit doesn't depend on it: everything committed is already on the device.
     pub fn finish(&mut self) -> Result<(), WriteFailed>
         ensures saved { OnOk result (ForSome (disc_file self.new) (λ bytes. (disc_state self.old).held ≡ Some (blocks_of (disc_size self.old) bytes))) }
-        ensures same { disc_state self.new ≡ disc_state self.old }
+        ensures same { disc_state self.new ≡ record (disc_state self.old) { volatile = (disc_state self.new).volatile; dropped = (disc_state self.new).dropped } }
+        ensures durable { StayDurable (disc_state self.old) (disc_state self.new) }
+        ensures syncable { OnOk result (StaySyncable (disc_state self.old) (disc_state self.new)) }
+        ensures synced { OnOk result (is_secured self.old ≡ true → (k : ℕ) → is_syncable (disc_state self.new) k ≡ true → is_durable (disc_state self.new) k ≡ true) }
     {
         self.image.finish()
     }
@@ -73,6 +79,14 @@ impl<F: RawFile + Drop> Disc for FileDisc<F> {
 
     fn read(&mut self, k: u32, into: &mut Block) -> Result<(), ReadFailed> {
         if self.image.read(k, into).is_err() {
+            self.read_faults = raised(self.read_faults);
+            return Err(ReadFailed);
+        }
+        Ok(())
+    }
+
+    fn secure(&mut self) -> Result<(), ReadFailed> {
+        if self.image.secure().is_err() {
             self.read_faults = raised(self.read_faults);
             return Err(ReadFailed);
         }
@@ -108,6 +122,7 @@ fn write_block<F: RawFile + Drop>(
     ensures fired { fires ≡ true → OnOk result ⊥ }
     ensures block { OnOk result (blocks_seen image.new ≡ with_block k from.now (blocks_seen image.old)) }
     ensures torn { OnErr result ((left : List ℕ) × IsBlock left × (blocks_seen image.new ≡ with_block k left (blocks_seen image.old))) }
+    ensures durability { WritesBlock k from.now (seen image.old) (seen image.new) (durability_seen image.old) (durability_seen image.new) result }
 {
     if fires {
         let _torn = image.write_through(k, &from[..256]);
@@ -121,7 +136,9 @@ fn blocks_in<F: RawFile>(file: &mut F) -> io::Result<u32>
     ensures size { IfOk result (λ n. (2177 < n) × (n ≤ 1048576)) }
     ensures whole { IfOk result (λ n. ForSome (F.content file.old) (λ bytes. length bytes ≡ 512 * n)) }
     ensures bytes { ForSome (F.content file.old) AreBytes }
+    ensures sound { DurableAreSyncable (F.durability file.old) }
     ensures same { F.content file.new ≡ F.content file.old }
+    ensures as_durable { F.durability file.new ≡ F.durability file.old }
 {
     let bytes = file.len()?;
     match u32::try_from(bytes / BLOCK_BYTES) {

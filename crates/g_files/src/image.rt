@@ -1,10 +1,12 @@
 //! The image of a disc: a file of whole blocks. Consecutive writes are buffered, and blocks that are read in order are read
-//! ahead; a read always returns what was written last. The gate, block 0, is durable before and after everything else.
-ghost use Rattle.std.specs.Prelude.{◌≡◌, ◌+◌, ◌*◌, ◌<◌, ◌≤◌, [], length, IfOk, OnOk};
+//! ahead; a read always returns what was written last. A write of the gate, block 0, is a commit: it is preceded and followed by a
+//! sync.
+ghost use Rattle.std.specs.Prelude.{◌≡◌, ◌+◌, ◌*◌, ◌<◌, ◌≤◌, [], length, true, false, IfOk, OnOk};
 ghost use Rattle.std.specs.Option.{ForSome};
 ghost use Rattle.g_base.specs.ToldContent.{Changes};
 ghost use Rattle.g_files.specs.Bytes.{AreBytes, part};
 ghost use Rattle.g_files.specs.Calls.{HasWrittenAll};
+ghost use Rattle.g_files.specs.Durability.{AreSynced, DurableAreSyncable, HasDurable, HasSyncable, IsSettled, KeepsDurability, StayDurable, StaySyncable, SyncsDurability, WritesBlock, WritesDurability, overlaid};
 
 use crate::raw::RawFile;
 use crate::whole::{read_whole, write_whole};
@@ -23,8 +25,6 @@ pub enum Origin {
     New,
     /// It existed; writes of an earlier process may not have reached the device.
     Found,
-    /// It existed, and is opened to be read only.
-    ReadOnly,
 }
 
 /// An open image of `size` blocks.
@@ -32,9 +32,9 @@ pub enum Origin {
 pub(crate) struct Image<F: RawFile + Drop> {
     file: F,
     pub size: u32,
-    /// Whether the gate is known to be on the device as it is in the file.
+    /// Whether the gate is known to be durable.
     settled: bool,
-    /// Whether this run wrote to the file since the last sync.
+    /// Whether this run wrote to the file since the last sync that succeeded.
     pending: bool,
     /// Blocks that were written by the caller but not to the file.
     buffered: Window,
@@ -50,22 +50,29 @@ pub(crate) struct Image<F: RawFile + Drop> {
     ghost buffered_bytes: { AreBytes buffered.bytes },
     ghost fresh: { ForSome (F.content file) (λ bytes. ahead.bytes ≡ part ahead.at (length ahead.bytes) bytes) },
     ghost few: { wanted ≤ 64 },
+    ghost sound: { DurableAreSyncable (F.durability file) },
+    ghost apart: { 0 < length buffered.bytes → 512 ≤ buffered.at },
+    ghost gate: { settled ≡ true → HasDurable 0 512 (F.durability file) },
+    ghost synced: { settled ≡ true → pending ≡ false → AreSynced (F.durability file) },
 }
 
 impl<F: RawFile + Drop> Image<F> {
-    ghost use Rattle.g_files.specs.Image.{file_of, seen, size_of};
+    ghost use Rattle.g_files.specs.Image.{durability_seen, file_of, seen, settled_of, size_of};
 
-    /// The image on a file of `size` blocks.
+    /// The image on a file of `size` blocks. A new one needs no further call before its first write: its file was synced.
     pub fn over(alloc: Global, file: F, size: u32, origin: Origin) -> io::Result<Image<F>>
         requires sized { ForSome (F.content file) (λ bytes. length bytes ≡ 512 * size) }
         requires bytes { ForSome (F.content file) AreBytes }
+        requires sound { DurableAreSyncable (F.durability file) }
+        requires new { origin ≡ Origin.New → IsSettled (F.durability file) }
         ensures seen { IfOk result (λ image. seen image ≡ F.content file) }
         ensures size { IfOk result (λ image. size_of image ≡ size) }
+        ensures as_durable { IfOk result (λ image. durability_seen image ≡ overlaid 0 0 (F.durability file)) }
     {
         Ok(Image {
             file,
             size,
-            settled: origin != Origin::Found,
+            settled: is_new(origin),
             pending: false,
             buffered: Window::new(alloc)?,
             ahead: Window::new(alloc)?,
@@ -74,21 +81,31 @@ impl<F: RawFile + Drop> Image<F> {
         })
     }
 
-    /// Reads block k. Before the gate is read, it is made durable: what a run builds on survives a power loss. If that fails,
-    /// so does the read.
+    /// Reads block k.
     pub fn read(&mut self, k: u32, into: &mut Block) -> Result<(), ReadFailed>
         requires { k < size_of self.old }
         ensures block { OnOk result (ForSome (seen self.old) (λ bytes. into.new ≡ part (512 * k) 512 bytes)) }
         ensures same { seen self.new ≡ seen self.old }
         ensures size { size_of self.new ≡ size_of self.old }
+        ensures as_durable { durability_seen self.new ≡ durability_seen self.old }
     {
-        if self.ready_to_read(k).is_err() {
-            return Err(ReadFailed);
-        }
         if self.buffered.copy(k, into) {
             return Ok(());
         }
         self.read_file(k, into)
+    }
+
+    /// Makes the gate durable. The system may consider written what a sync that failed, perhaps one of an earlier process, didn't
+    /// write; so the gate is written again, unchanged, and synced, unless it is known to be durable.
+    pub fn secure(&mut self) -> Result<(), WriteFailed>
+        requires { 0 < size_of self.old }
+        ensures same { seen self.new ≡ seen self.old }
+        ensures size { size_of self.new ≡ size_of self.old }
+        ensures durability { KeepsDurability (durability_seen self.old) (durability_seen self.new) result }
+        ensures gate { OnOk result (HasDurable 0 512 (durability_seen self.new)) }
+        ensures settled { OnOk result (settled_of self.new ≡ true) }
+    {
+        if self.settled { Ok(()) } else { self.settle() }
     }
 
     /// Writes block k. A block that follows the one written before is buffered, with at most 63 others, and reaches the file
@@ -98,11 +115,12 @@ impl<F: RawFile + Drop> Image<F> {
         requires { k < size_of self.old }
         ensures written { Changes (HasWrittenAll (512 * k) block.now result) (seen self.old) (seen self.new) }
         ensures size { size_of self.new ≡ size_of self.old }
+        ensures durability { WritesBlock k block.now (seen self.old) (seen self.new) (durability_seen self.old) (durability_seen self.new) result }
     {
         if k == GATE {
             return self.write_through(k, block);
         }
-        if self.ready().is_err() {
+        if self.secure().is_err() {
             return Err(WriteFailed);
         }
         if self.buffered.is_next(k) {
@@ -115,15 +133,16 @@ impl<F: RawFile + Drop> Image<F> {
     }
 
     /// Writes these bytes at the start of block k, after all buffered blocks. Writing the gate is a commit: everything written
-    /// before is on the device before it, and it is on the device before anything written later.
+    /// before is durable before it, and it is durable before anything written later.
     pub fn write_through(&mut self, k: u32, bytes: &[u8]) -> Result<(), WriteFailed>
         requires block { k < size_of self.old }
         requires few { length bytes.now ≤ 512 }
         requires bytes { AreBytes bytes.now }
         ensures written { Changes (HasWrittenAll (512 * k) bytes.now result) (seen self.old) (seen self.new) }
         ensures size { size_of self.new ≡ size_of self.old }
+        ensures durability { WritesBlock k bytes.now (seen self.old) (seen self.new) (durability_seen self.old) (durability_seen self.new) result }
     {
-        if self.ready().is_err() {
+        if self.secure().is_err() {
             return Err(WriteFailed);
         }
         if self.flush().is_err() {
@@ -141,6 +160,8 @@ impl<F: RawFile + Drop> Image<F> {
         ensures saved { OnOk result (file_of self.new ≡ seen self.old) }
         ensures same { seen self.new ≡ seen self.old }
         ensures size { size_of self.new ≡ size_of self.old }
+        ensures durability { KeepsDurability (durability_seen self.old) (durability_seen self.new) result }
+        ensures synced { OnOk result (settled_of self.old ≡ true → AreSynced (durability_seen self.new)) }
     {
         if self.flush().is_err() {
             return Err(WriteFailed);
@@ -153,16 +174,7 @@ impl<F: RawFile + Drop> Image<F> {
 }
 
 impl<F: RawFile + Drop> Image<F> {
-    ghost use Rattle.g_files.specs.Image.{buffered_at, buffered_of, file_of, seen, size_of};
-
-    /// Makes sure that the gate is on the device if that is the block to be read.
-    fn ready_to_read(&mut self, k: u32) -> Result<(), WriteFailed>
-        requires { 0 < size_of self.old }
-        ensures same { seen self.new ≡ seen self.old }
-        ensures size { size_of self.new ≡ size_of self.old }
-    {
-        if k == GATE { self.ready() } else { Ok(()) }
-    }
+    ghost use Rattle.g_files.specs.Image.{buffered_at, buffered_of, durability_of, durability_seen, file_of, seen, settled_of, size_of};
 
     /// Reads block k of the file.
     fn read_file(&mut self, k: u32, into: &mut Block) -> Result<(), ReadFailed>
@@ -172,6 +184,7 @@ impl<F: RawFile + Drop> Image<F> {
         ensures at { buffered_at self.new ≡ buffered_at self.old }
         ensures buffered { buffered_of self.new ≡ buffered_of self.old }
         ensures size { size_of self.new ≡ size_of self.old }
+        ensures as_durable { durability_of self.new ≡ durability_of self.old }
     {
         if self.ahead.copy(k, into) {
             self.next = k.saturating_add(1);
@@ -193,6 +206,7 @@ impl<F: RawFile + Drop> Image<F> {
         ensures at { buffered_at self.new ≡ buffered_at self.old }
         ensures buffered { buffered_of self.new ≡ buffered_of self.old }
         ensures size { size_of self.new ≡ size_of self.old }
+        ensures as_durable { durability_of self.new ≡ durability_of self.old }
     {
         let in_order = k == self.next;
         self.next = k.saturating_add(1);
@@ -210,8 +224,10 @@ impl<F: RawFile + Drop> Image<F> {
         requires few { length bytes.now ≤ 512 }
         requires bytes { AreBytes bytes.now }
         requires empty { buffered_of self.old ≡ [] }
+        requires settled { settled_of self.old ≡ true }
         ensures written { Changes (HasWrittenAll 0 bytes.now result) (seen self.old) (seen self.new) }
         ensures size { size_of self.new ≡ size_of self.old }
+        ensures durability { WritesBlock 0 bytes.now (seen self.old) (seen self.new) (durability_seen self.old) (durability_seen self.new) result }
     {
         if self.sync_before_gate().is_err() {
             return Err(WriteFailed);
@@ -229,28 +245,24 @@ impl<F: RawFile + Drop> Image<F> {
 
     /// Syncs what was written before the gate.
     fn sync_before_gate(&mut self) -> Result<(), WriteFailed>
+        requires settled { settled_of self.old ≡ true }
         ensures buffered { buffered_of self.new ≡ buffered_of self.old }
         ensures same { seen self.new ≡ seen self.old }
         ensures size { size_of self.new ≡ size_of self.old }
+        ensures settled { settled_of self.new ≡ settled_of self.old }
+        ensures durability { SyncsDurability (durability_of self.old) (durability_of self.new) result }
     {
         if self.pending { self.sync() } else { Ok(()) }
-    }
-
-    /// Makes sure that the gate is on the device.
-    fn ready(&mut self) -> Result<(), WriteFailed>
-        requires { 0 < size_of self.old }
-        ensures same { seen self.new ≡ seen self.old }
-        ensures size { size_of self.new ≡ size_of self.old }
-    {
-        if self.settled { Ok(()) } else { self.settle() }
     }
 
     /// Buffers block k, which follows the last buffered one; flushes first if 64 are buffered.
     fn buffer(&mut self, k: u32, block: &Block) -> Result<(), WriteFailed>
         requires block { k < size_of self.old }
         requires next { 512 * k ≡ buffered_at self.old + length (buffered_of self.old) }
+        requires other { 0 < k }
         ensures written { Changes (HasWrittenAll (512 * k) block.now result) (seen self.old) (seen self.new) }
         ensures size { size_of self.new ≡ size_of self.old }
+        ensures durability { WritesBlock k block.now (seen self.old) (seen self.new) (durability_seen self.old) (durability_seen self.new) result }
     {
         if self.make_room(k).is_err() {
             return Err(WriteFailed);
@@ -267,6 +279,7 @@ impl<F: RawFile + Drop> Image<F> {
         ensures room { OnOk result (length (buffered_of self.new) < 32768) }
         ensures same { seen self.new ≡ seen self.old }
         ensures size { size_of self.new ≡ size_of self.old }
+        ensures durability { KeepsDurability (durability_seen self.old) (durability_seen self.new) result }
     {
         if !self.buffered.is_full() {
             return Ok(());
@@ -284,6 +297,7 @@ impl<F: RawFile + Drop> Image<F> {
         ensures empty { OnOk result (buffered_of self.new ≡ []) }
         ensures same { seen self.new ≡ seen self.old }
         ensures size { size_of self.new ≡ size_of self.old }
+        ensures durability { KeepsDurability (durability_seen self.old) (durability_seen self.new) result }
     {
         if self.flush().is_err() {
             return Err(WriteFailed);
@@ -292,12 +306,14 @@ impl<F: RawFile + Drop> Image<F> {
         Ok(())
     }
 
-    /// Makes the gate durable, before it is first read or anything is written, and after a sync of it failed. The system may
-    /// consider written what a failed sync didn't write, so the gate is written again, unchanged.
+    /// Writes the gate unchanged, and syncs it.
     fn settle(&mut self) -> Result<(), WriteFailed>
-        requires { 0 < size_of self.old }
+        requires some { 0 < size_of self.old }
+        requires unsettled { settled_of self.old ≡ false }
         ensures same { seen self.new ≡ seen self.old }
         ensures size { size_of self.new ≡ size_of self.old }
+        ensures durability { KeepsDurability (durability_seen self.old) (durability_seen self.new) result }
+        ensures settled { OnOk result (settled_of self.new ≡ true) }
     {
         if self.flush().is_err() {
             return Err(WriteFailed);
@@ -316,8 +332,14 @@ impl<F: RawFile + Drop> Image<F> {
     fn rewrite_gate(&mut self) -> Result<(), WriteFailed>
         requires some { 0 < size_of self.old }
         requires empty { buffered_of self.old ≡ [] }
+        requires unsettled { settled_of self.old ≡ false }
+        ensures empty { buffered_of self.new ≡ [] }
         ensures same { seen self.new ≡ seen self.old }
         ensures size { size_of self.new ≡ size_of self.old }
+        ensures settled { settled_of self.new ≡ settled_of self.old }
+        ensures durable { StayDurable (durability_of self.old) (durability_of self.new) }
+        ensures kept { OnOk result (StaySyncable (durability_of self.old) (durability_of self.new)) }
+        ensures here { OnOk result (HasSyncable 0 512 (durability_of self.new)) }
     {
         let mut gate = [0; 512];
         if self.read_gate(&mut gate).is_err() {
@@ -333,6 +355,8 @@ impl<F: RawFile + Drop> Image<F> {
         ensures empty { buffered_of self.new ≡ [] }
         ensures same { seen self.new ≡ seen self.old }
         ensures size { size_of self.new ≡ size_of self.old }
+        ensures settled { settled_of self.new ≡ settled_of self.old }
+        ensures as_durable { durability_of self.new ≡ durability_of self.old }
     {
         read_whole(&mut self.file, gate, 0)
     }
@@ -342,8 +366,14 @@ impl<F: RawFile + Drop> Image<F> {
         requires some { 0 < size_of self.old }
         requires empty { buffered_of self.old ≡ [] }
         requires gate { ForSome (seen self.old) (λ bytes. gate.now ≡ part 0 512 bytes) }
+        requires unsettled { settled_of self.old ≡ false }
+        ensures empty { buffered_of self.new ≡ [] }
         ensures same { seen self.new ≡ seen self.old }
         ensures size { size_of self.new ≡ size_of self.old }
+        ensures settled { settled_of self.new ≡ settled_of self.old }
+        ensures durable { StayDurable (durability_of self.old) (durability_of self.new) }
+        ensures kept { OnOk result (StaySyncable (durability_of self.old) (durability_of self.new)) }
+        ensures here { OnOk result (HasSyncable 0 512 (durability_of self.new)) }
     {
         self.write_at(GATE, gate)
     }
@@ -353,6 +383,8 @@ impl<F: RawFile + Drop> Image<F> {
         ensures empty { OnOk result (buffered_of self.new ≡ []) }
         ensures same { seen self.new ≡ seen self.old }
         ensures size { size_of self.new ≡ size_of self.old }
+        ensures settled { settled_of self.new ≡ settled_of self.old }
+        ensures durability { KeepsDurability (durability_seen self.old) (durability_seen self.new) result }
     {
         if self.buffered.is_empty() {
             return Ok(());
@@ -372,9 +404,13 @@ impl<F: RawFile + Drop> Image<F> {
         requires few { length bytes.now ≤ 512 }
         requires bytes { AreBytes bytes.now }
         requires empty { buffered_of self.old ≡ [] }
+        requires unsettled { k ≡ 0 → settled_of self.old ≡ false }
         ensures written { Changes (HasWrittenAll (512 * k) bytes.now result) (seen self.old) (seen self.new) }
         ensures empty { buffered_of self.new ≡ [] }
         ensures size { size_of self.new ≡ size_of self.old }
+        ensures settled { settled_of self.new ≡ settled_of self.old }
+        ensures durability { WritesDurability (512 * k) bytes.now (file_of self.old) (durability_of self.old) (durability_of self.new) result }
+        ensures syncable { OnOk result (HasSyncable (512 * k) (length bytes.now) (durability_of self.new)) }
     {
         self.ahead.truncate(k);
         self.pending = true;
@@ -390,11 +426,24 @@ impl<F: RawFile + Drop> Image<F> {
         ensures file { file_of self.new ≡ file_of self.old }
         ensures same { seen self.new ≡ seen self.old }
         ensures size { size_of self.new ≡ size_of self.old }
+        ensures settled { settled_of self.new ≡ settled_of self.old }
+        ensures durability { SyncsDurability (durability_of self.old) (durability_of self.new) result }
     {
+        self.pending = true; // unless the sync succeeds
         if self.file.sync().is_err() {
             return Err(WriteFailed);
         }
         self.pending = false;
         Ok(())
+    }
+}
+
+/// Whether this process made and synced the image.
+fn is_new(origin: Origin) -> bool
+    ensures { result ≡ true → origin ≡ Origin.New }
+{
+    match origin {
+        Origin::New => true,
+        Origin::Found => false,
     }
 }

@@ -1,6 +1,7 @@
-//! A file in memory, whose bytes are observable. Its calls can be made short, and one of them can be made to fail.
+//! A file in memory, whose bytes are observable and durable at once. Its calls can be made short, and one of them can be made to fail.
 ghost use Rattle.std.specs.Prelude.{◌≡◌, ◌<◌, ◌≤◌, IfOk, OnErr, OnOk, Some, length, replicate, take};
 ghost use Rattle.g_files.specs.Bytes.{AreBytes, padded, put};
+ghost use Rattle.g_files.specs.Durability.{all_durable};
 
 use crate::raw::RawFile;
 use std::alloc::Global;
@@ -63,6 +64,8 @@ impl MemoryFile {
 
 impl RawFile for MemoryFile {
     ghost content = { λ f. Some f.bytes.items };
+
+    ghost durability = { λ f. all_durable };
 
     fn len(&mut self) -> io::Result<u64> {
         if self.fires() {

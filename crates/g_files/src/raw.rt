@@ -1,10 +1,11 @@
 //! An open file, accessed by single system calls.
-ghost use Rattle.std.specs.Prelude.{◌≡◌, ℕ, ◌≤◌, List, Option, length, IfOk, IfErr};
+ghost use Rattle.std.specs.Prelude.{◌≡◌, ℕ, ◌<◌, ◌≤◌, true, List, Option, length, IfOk, IfErr};
 ghost use Rattle.std.specs.Option.{ForSome};
 ghost use Rattle.std.specs.IoError.{error_kind};
 ghost use Rattle.g_base.specs.ToldContent.{Changes};
 ghost use Rattle.g_files.specs.Bytes.{AreBytes};
 ghost use Rattle.g_files.specs.Calls.{HasCut, HasRead, HasWritten};
+ghost use Rattle.g_files.specs.Durability.{Durability, DurableAreSyncable, HasSyncable, SyncsDurability, WritesDurability};
 
 use std::io::{self, ErrorKind};
 
@@ -14,17 +15,23 @@ pub trait RawFile {
     /// The bytes of the file, if they are observable.
     ghost content: { Self → Option (List ℕ) };
 
+    /// Which of its bytes survive a power loss.
+    ghost durability: { Self → Durability };
+
     /// The length in bytes.
     fn len(&mut self) -> io::Result<u64>
         ensures size { IfOk result (λ n. ForSome (content self.old) (λ bytes. length bytes ≡ n)) }
         ensures bytes { ForSome (content self.old) AreBytes }
-        ensures same { content self.new ≡ content self.old };
+        ensures sound { DurableAreSyncable (durability self.old) }
+        ensures same { content self.new ≡ content self.old }
+        ensures as_durable { durability self.new ≡ durability self.old };
 
     /// Reads some bytes from position `at` on, and returns how many. It returns 0 only at the end of the file.
     fn read_at(&mut self, into: &mut [u8], at: u64) -> io::Result<usize>
         ensures count { IfOk result (λ n. n ≤ length into.new) }
         ensures given { IfOk result (λ n. ForSome (content self.old) (HasRead at n (length into.new) into.new)) }
-        ensures same { content self.new ≡ content self.old };
+        ensures same { content self.new ≡ content self.old }
+        ensures as_durable { durability self.new ≡ durability self.old };
 
     /// Writes some of these bytes at position `at`, and returns how many. After an error, each byte of the range is the old
     /// one or the one to be written. A call that a signal interrupted wrote nothing.
@@ -33,13 +40,20 @@ pub trait RawFile {
         requires bytes { AreBytes from.now }
         ensures count { IfOk result (λ n. n ≤ length from.now) }
         ensures written { Changes (HasWritten at from.now result) (content self.old) (content self.new) }
-        ensures interrupted { IfErr result (λ e. error_kind e ≡ ErrorKind.Interrupted → content self.new ≡ content self.old) };
+        ensures durability { WritesDurability at from.now (content self.old) (durability self.old) (durability self.new) result }
+        ensures syncable { IfOk result (λ n. HasSyncable at n (durability self.new)) }
+        ensures interrupted { IfErr result (λ e. error_kind e ≡ ErrorKind.Interrupted → content self.new ≡ content self.old) }
+        ensures as_durable { IfErr result (λ e. error_kind e ≡ ErrorKind.Interrupted → durability self.new ≡ durability self.old) };
 
     /// Sets the length: cuts off what follows, or appends zeros.
     fn set_len(&mut self, len: u64) -> io::Result<()>
-        ensures cut { Changes (HasCut len result) (content self.old) (content self.new) };
+        ensures cut { Changes (HasCut len result) (content self.old) (content self.new) }
+        ensures durable { (j : ℕ) → j < len → (durability self.old).durable j ≡ true → (durability self.new).durable j ≡ true }
+        ensures syncable { (j : ℕ) → j < len → (durability self.old).syncable j ≡ true → (durability self.new).syncable j ≡ true }
+        ensures sound { DurableAreSyncable (durability self.new) };
 
     /// Waits until all writes have reached the device.
     fn sync(&mut self) -> io::Result<()>
-        ensures same { content self.new ≡ content self.old };
+        ensures same { content self.new ≡ content self.old }
+        ensures durability { SyncsDurability (durability self.old) (durability self.new) result };
 }

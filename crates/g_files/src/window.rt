@@ -127,6 +127,7 @@ impl Window {
         ensures at { self.new.at ≡ 512 * k }
         ensures given { ForSome (F.content file.old) (λ bytes. self.new.bytes ≡ part self.new.at (length self.new.bytes) bytes) }
         ensures same { F.content file.new ≡ F.content file.old }
+        ensures as_durable { F.durability file.new ≡ F.durability file.old }
     {
         self.first = k;
         self.count = read_blocks(file, &mut self.bytes, wanted, k);
@@ -160,6 +161,7 @@ fn read_blocks<F: RawFile>(file: &mut F, bytes: &mut [u8], wanted: u32, k: u32) 
     ensures few { result ≤ 64 }
     ensures given { ForSome (F.content file.old) (λ held. take (512 * result) bytes.new ≡ part (512 * k) (512 * result) held) }
     ensures same { F.content file.new ≡ F.content file.old }
+    ensures as_durable { F.durability file.new ≡ F.durability file.old }
 {
     match file.read_at(&mut bytes[..512 * wanted as usize], 512 * u64::from(k)) {
         Ok(count) => (count / 512) as u32,

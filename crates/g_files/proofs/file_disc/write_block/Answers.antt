@@ -1,7 +1,9 @@
 use Rattle.std.proofs.Common.{◌*◌, arith, length-take, take}
-use Rattle.g_files.specs.Image.{seen}
+use Rattle.g_base.specs.declared.fault.WriteFailed.{WriteFailed}
+use Rattle.g_files.specs.Image.{durability_seen, seen}
 use Rattle.g_files.proofs.BytesLemmas.{AreBytes-take}
 use Rattle.g_files.proofs.DiscLemmas.{block_torn, torn_err, written_ok}
+use Rattle.g_files.proofs.DurabilityLemmas.{torn_write}
 use Rattle.g_files.proofs.ImageLemmas.{seen_bytes, seen_sized}
 use Rattle.g_files.proofs.file_disc.write_block.Goals as goal
 
@@ -36,3 +38,11 @@ returns-clause-torn g c =
     rw size (torn_err i.size c.args.k c.args.from.now c.write.result (seen i) (seen c.write.new.self) c.requires (omega (arith, whole)) (λ j. c.fits-from j)
     (seen_sized i.buffered.at (512 * i.size) i.buffered.bytes file i.sized i.within)
     (seen_bytes i.buffered.at (512 * i.size) i.buffered.bytes file i.sized i.bytes i.within i.buffered_bytes) c.write.ensures.written)
+
+pub returns-then-fires-clause-durability : goal.returns-then-fires-clause-durability
+returns-then-fires-clause-durability g c =
+    let i = c.args.image.now in
+    let new = c.write_through-torn.new.self in
+    let e : WriteFailed = record {} in
+    torn_write c.args.k c.args.from.now (take 256 c.args.from.now) (seen i) (seen new) (durability_seen i) (durability_seen new) c.write_through-torn.result e
+    c.write_through-torn.ensures.durability

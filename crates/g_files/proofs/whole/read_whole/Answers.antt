@@ -15,12 +15,14 @@ loop-call-preserved g c =
       | in-Ok w ↦ rw w.done-is record {
         within = search (rules, places);
         same = w.in-Ok.ensures.same ∙ inv.same;
+        as_durable = w.in-Ok.ensures.as_durable ∙ inv.as_durable;
         told = λ x is. read_step c.args.at done w.in-Ok.count room into new x inv.within (w.in-Ok.ensures.count) (inv.told x is)
             ((w.in-Ok.ensures.given x (inv.same ∙ is)).given);
       }
       | in-Err w ↦ rw w.done-is record {
         within = search (rules, places);
         same = w.in-Err.ensures.same ∙ inv.same;
+        as_durable = w.in-Err.ensures.as_durable ∙ inv.as_durable;
         told = λ x is. read_none done room into new inv.within ∙ inv.told x is;
       }
     ]

@@ -7,5 +7,6 @@ abbrev pub invariant-loop-call : goal.invariant-loop-call
 invariant-loop-call g l = record {
   within : l.done ≤ length l.into;
   same : g.F.RawFile.content l.file ≡ g.F.RawFile.content l.fn.file;
+  as_durable : g.F.RawFile.durability l.file ≡ g.F.RawFile.durability l.fn.file;
   told : ForSome (g.F.RawFile.content l.fn.file) (λ bytes. take l.done l.into ≡ part l.at l.done bytes);
 }

@@ -2,6 +2,7 @@ use Rattle.std.proofs.Common.{◌-◌, length, take, drop, arith, length-take, l
 use Rattle.std.proofs.lemmas.List.{take_rest}
 use Rattle.g_files.proofs.BytesLemmas.{AreBytes-drop, AreBytes-take}
 use Rattle.g_files.proofs.CallLemmas.{write_step, write_fails, changes_before}
+use Rattle.g_files.proofs.WholeLemmas.{more_err, more_ok, more_syncable}
 use Rattle.std.specs.declared.io.Error.{Error}
 use Rattle.g_files.proofs.whole.write_whole.Goals as goal
 use Rattle.g_files.proofs.whole.write_whole.Goals.{in-Ok, in-Err}
@@ -20,6 +21,11 @@ returns-in-Err-2 g c =
       written = write_fails c.args.at done from (take (length from - done) (drop done from)) c.in-Err.fault c.in-Err.fault (bytes c.args.file.now)
           (bytes c.loop-call.file) (bytes c.write_at.new.self)
           c.requires.within c.loop-call.invariant.within (take_rest from done) c.loop-call.invariant.told c.in-Err.ensures.written;
+      durability = more_err c.args.at done from (take (length from - done) (drop done from)) c.write_at.result c.in-Err.fault (bytes c.args.file.now)
+          (bytes c.loop-call.file) (g.F.RawFile.durability c.args.file.now) (g.F.RawFile.durability c.loop-call.file)
+          (g.F.RawFile.durability c.write_at.new.self) c.requires.within c.loop-call.invariant.within (take_rest from done)
+          c.loop-call.invariant.told c.loop-call.invariant.durability c.write_at.ensures.durability;
+      syncable = tt;
     }
 
 pub loop-call-preserved : goal.loop-call-preserved
@@ -33,9 +39,28 @@ loop-call-preserved g c =
         told = write_step Error c.args.at done w.in-Ok.count from (take (length from - done) (drop done from)) (bytes c.args.file.now)
             (bytes c.loop-call.file) (bytes c.write_at.new.self)
             c.requires.within c.loop-call.invariant.within (take_rest from done) c.loop-call.invariant.told w.in-Ok.ensures.written;
+        durability = more_ok c.args.at done w.in-Ok.count from (take (length from - done) (drop done from)) (bytes c.args.file.now)
+            (bytes c.loop-call.file) (g.F.RawFile.durability c.args.file.now) (g.F.RawFile.durability c.loop-call.file)
+            (g.F.RawFile.durability c.write_at.new.self) c.requires.within c.loop-call.invariant.within (take_rest from done)
+            c.loop-call.invariant.told c.loop-call.invariant.durability w.in-Ok.ensures.durability;
+        syncable = more_syncable c.args.at done w.in-Ok.count (take (length from - done) (drop done from)) (bytes c.loop-call.file)
+            (g.F.RawFile.durability c.loop-call.file) (g.F.RawFile.durability c.write_at.new.self) c.loop-call.invariant.syncable
+            w.in-Ok.ensures.durability w.in-Ok.ensures.syncable;
       }
       | in-Err w ↦ rw w.done-is record {
         within = c.loop-call.invariant.within;
         told = changes_before (w.in-Err.ensures.interrupted (w.is_interrupted.ensures.0 w.if-is_interrupted.true)) c.loop-call.invariant.told;
+        durability = rw (w.in-Err.ensures.as_durable (w.is_interrupted.ensures.0 w.if-is_interrupted.true)) c.loop-call.invariant.durability;
+        syncable = rw (w.in-Err.ensures.as_durable (w.is_interrupted.ensures.0 w.if-is_interrupted.true)) c.loop-call.invariant.syncable;
       }
     ]
+
+pub returns-in-Ok-eq0-clause-durability : goal.returns-in-Ok-eq0-clause-durability
+returns-in-Ok-eq0-clause-durability g c =
+    let done = c.loop-call.done in
+    let bytes = g.F.RawFile.content in
+    let from = c.args.from.now in
+    more_err c.args.at done from (take (length from - done) (drop done from)) c.write_at.result _ (bytes c.args.file.now)
+    (bytes c.loop-call.file) (g.F.RawFile.durability c.args.file.now) (g.F.RawFile.durability c.loop-call.file)
+    (g.F.RawFile.durability c.write_at.new.self) c.requires.within c.loop-call.invariant.within (take_rest from done)
+    c.loop-call.invariant.told c.loop-call.invariant.durability c.write_at.ensures.durability

@@ -1,5 +1,7 @@
-use Rattle.std.proofs.Common.{◌≡◌, ◌≤◌, length, take}
+use Rattle.std.proofs.Common.{◌≡◌, ◌≤◌, length, take, Ok}
+use Rattle.std.specs.declared.io.Error.{Error}
 use Rattle.g_files.specs.Bytes.{put}
+use Rattle.g_files.specs.Durability.{HasSyncable, WritesDurability}
 use Rattle.g_base.specs.ToldContent.{Changes}
 use Rattle.g_files.proofs.whole.write_whole.Given as goal
 
@@ -7,4 +9,7 @@ abbrev pub invariant-loop-call : goal.invariant-loop-call
 invariant-loop-call g l = record {
   within : l.done ≤ length l.from;
   told : Changes (λ old new. new ≡ put l.at (take l.done l.from) old) (g.F.RawFile.content l.fn.file) (g.F.RawFile.content l.file);
+  durability : WritesDurability {T = Unit {0}} {E = Error} l.at l.from (g.F.RawFile.content l.fn.file) (g.F.RawFile.durability l.fn.file)
+      (g.F.RawFile.durability l.file) (Ok tt);
+  syncable : HasSyncable l.at l.done (g.F.RawFile.durability l.file);
 }
