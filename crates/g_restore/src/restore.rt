@@ -3,8 +3,6 @@ ghost use Rattle.std.specs.Prelude.{◌≡◌, ◌≢◌, ◌⊎◌, ◌↔◌, 
 ghost use Rattle.g_base.specs.Counts.{Rose};
 ghost use Rattle.g_base.specs.ToldContent.{Changes};
 ghost use Rattle.g_disc.specs.Disc.{Causes};
-ghost use Rattle.g_disc.specs.Durable.{PowerLossLeaves};
-ghost use Rattle.g_dirs.specs.Durable.{IsDiscSafe};
 ghost use Rattle.g_tape.specs.Reads.{OnlyReads};
 ghost use Rattle.g_disc_contents.specs.Contents.{Contents};
 ghost use Rattle.g_disc_contents.specs.Facts.{IsTied};
@@ -113,7 +111,7 @@ fn dumped_directory<T: Tapes>(alloc: Global, tapes: &mut T) -> Result<Dumped, St
 /// Builds a filestore with the directory on the disc. `DiscReadFault`, `Stopped` and `NoMemory` as for `rebuild`.
 fn make<D: Disc>(
     alloc: Global,
-    mut disc: D,
+    disc: D,
     dumped: Dumped,
 ) -> Result<(Online<D>, u64), (StoreFault, D)>
     requires low { 2177 < (D.state disc).size }
@@ -129,10 +127,6 @@ fn make<D: Disc>(
     ensures same { IfErr result (λ e. e.0 ≢ StoreFault.Stopped
         → ((D.state e.1).held ≡ (D.state disc).held) × ((D.state e.1).writes ≡ (D.state disc).writes)) }
     ensures causes { IfErr result (λ e. Causes (e.0 ≡ StoreFault.DiscReadFault) (e.0 ≡ StoreFault.Stopped)
-        (D.state disc) (D.state e.1)) }
-    ensures safe { IfErr result (λ e. IsDiscSafe (D.state disc) → IsDiscSafe (D.state e.1)) }
-    ensures survives { IfErr result (λ e. e.0 ≡ StoreFault.Stopped → IsDiscSafe (D.state disc) → PowerLossLeaves (AsBeforeOr
-        (first_contents (is_some (D.state disc).held) (head_of dumped) dumped.users.items dumped.files.items))
         (D.state disc) (D.state e.1)) }
     ensures only { IfErr result (λ e. IsOfDisc e.0) }
 {
@@ -151,11 +145,6 @@ fn make<D: Disc>(
         Ok(tree) => tree,
         Err(_) => return Err((StoreFault::NoMemory, disc)),
     };
-    // A commit that stops leaves the old slot or the new one only if the gate was durable before it.
-    match disc.secure() {
-        Ok(()) => {}
-        Err(_) => return Err((StoreFault::DiscReadFault, disc)),
-    }
     match Online::fresh(alloc, disc, tree, head) {
         Ok(online) => Ok((online, number)),
         Err((fault, disc)) => Err((fault.into(), disc)),

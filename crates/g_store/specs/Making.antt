@@ -4,9 +4,7 @@ use Rattle.std.specs.Option.{ForSome}
 use Rattle.std.specs.FinMap.{empty}
 use Rattle.g_base.specs.Counts.{Rose}
 use Rattle.g_base.specs.ToldContent.{Changes}
-use Rattle.g_disc.specs.Disc.{Causes, DiscState, Secures}
-use Rattle.g_disc.specs.Durable.{PowerLossLeaves}
-use Rattle.g_dirs.specs.Durable.{IsDiscSafe}
+use Rattle.g_disc.specs.Disc.{Causes, DiscState}
 use Rattle.g_entry.specs.declared.head.Intent.{Intent}
 use Rattle.g_tape.specs.Rack.{Rack, is_mounted, reel}
 use Rattle.g_tape.specs.Reads.{OnlyReads}
@@ -18,7 +16,6 @@ use Rattle.g_store_model.specs.State.{Holding, State}
 use Rattle.g_store_model.specs.CallStep.{Outcome, Plain, DiscRead, TapeRead, Cut}
 use Rattle.g_store_model.specs.Rising.{FormatStep, StartStep, RestoreStep}
 use Rattle.g_disc_contents.specs.Contents.{Contents, Holds, has}
-use Rattle.g_disc_contents.specs.Durable.{IsDurable}
 use Rattle.g_disc_contents.specs.Facts.{OnlineFacts}
 use Rattle.g_online.specs.Beginning.{AsBeforeOr, HasLoaded, WroteFirst}
 use Rattle.g_restore.specs.Losses.{LostIsNamed}
@@ -40,8 +37,6 @@ pub record Makes {A : Type 0} (given : Type 0) (by : State → Outcome → Resul
   pub unkept : All (λ u. has new.online.changed u.number ≡ true) new.online.contents.users
   pub keeps : IsStore new
   pub causes : Causes ⊥ ⊥ disc new.online.disc
-  -- if the disc was safe, the store is durable
-  pub durable : ForSome disc.held (λ _. IsDiscSafe disc → IsDurable new.online)
   pub tapes : OnlyReads rack new.rack
   pub tape_read : new.rack.read_faults ≡ rack.read_faults
   pub wrote : WroteFirst (count reply) disc new.online
@@ -73,8 +68,6 @@ StepsDown by before disc rack fault disc' rack' = LeadsDown by before disc rack 
 -- The store isn't made, and the devices are returned.
 pub record Refuses {A : Type 0} (given : Type 0) (by : State → Outcome → Result A StoreFault → State → Type 0) (disc : DiscState) (rack : Rack) (fault : StoreFault) (disc' : DiscState) (rack' : Rack) : Type 0 where
   pub causes : Causes (fault ≡ DiscReadFault) (fault ≡ Stopped) disc disc'
-  -- a safe disc stays safe
-  pub safe : IsDiscSafe disc → IsDiscSafe disc'
   pub tapes : OnlyReads rack rack'
   pub tape_read : fault ≡ TapeReadFault → Rose rack.read_faults rack'.read_faults
   pub tape_read_only : (fault ≡ TapeReadFault → ⊥) → rack'.read_faults ≡ rack.read_faults
@@ -112,7 +105,7 @@ pub record Formats (disc : DiscState) (rack : Rack) (new : StoreFacts) : Type 0 
 pub record RefusesFormat (disc : DiscState) (rack : Rack) (fault : StoreFault) (disc' : DiscState) (rack' : Rack) : Type 0 where
   pub refuses : Refuses (Unit {0}) FormatStep disc rack fault disc' rack'
   pub full : (serial : ℕ) → (fault ≡ RackNotEmpty serial) ↔ (first_used rack.reels ≡ Some serial)
-  pub stopped : fault ≡ Stopped → (c : Contents) × IsNew c × Changes (AsBeforeOr c) disc.held disc'.held × (IsDiscSafe disc → PowerLossLeaves (AsBeforeOr c) disc disc')
+  pub stopped : fault ≡ Stopped → (c : Contents) × IsNew c × Changes (AsBeforeOr c) disc.held disc'.held
   pub only : IsOfFormat fault
 
 -- START requires that disc and rack belong together. The reel of an intent is mounted, for every rack.
@@ -134,10 +127,8 @@ IsOfStart fault = ⊥
 pub record Begun (disc : DiscState) (rack : Rack) (adopted : Option ℕ) (new : StoreFacts) : Type 0 where
   pub makes : Makes (Belong disc.held rack) StartStep commits_of_start disc rack adopted new
   pub intent : IfSome new.online.contents.head.intent (λ i. is_mounted (reel i.serial rack.reels) ≡ true)
-  -- what the disc holds, read after its gate was made durable; unchanged or with the dump of its intent adopted, whether or not disc and
-  -- rack belong together
-  pub loaded : (secured : DiscState) × Secures {T = Unit {0}} {E = Unit {0}} disc secured (Ok tt)
-      × (o : OnlineFacts) × HasLoaded secured o × Takes o rack (Ok adopted) new.online
+  -- what the disc holds, unchanged or with the dump of its intent adopted, whether or not disc and rack belong together
+  pub loaded : (o : OnlineFacts) × HasLoaded disc o × Takes o rack (Ok adopted) new.online
 
 -- Why START made no store. `MountFirst` names the reel of the intent, which isn't mounted.
 pub record RefusesStart (disc : DiscState) (rack : Rack) (fault : StoreFault) (disc' : DiscState) (rack' : Rack) : Type 0 where
@@ -147,8 +138,7 @@ pub record RefusesStart (disc : DiscState) (rack : Rack) (fault : StoreFault) (d
   pub none : fault ≡ NoFilestore → ForSome disc.held (λ blocks. (c : Contents) → Holds blocks c → ⊥)
   pub named : (serial : ℕ) → fault ≡ MountFirst serial
       → ForSome disc.held (λ blocks. (c : Contents) × Holds blocks c × (i : Intent) × (c.head.intent ≡ Some i) × (i.serial ≡ serial))
-  pub stopped : fault ≡ Stopped → (secured : DiscState) × Secures {T = Unit {0}} {E = Unit {0}} disc secured (Ok tt)
-      × (o : OnlineFacts) × (left : OnlineFacts) × HasLoaded secured o × (left.disc ≡ disc') × Takes o rack (Err Stopped) left
+  pub stopped : fault ≡ Stopped → (o : OnlineFacts) × (left : OnlineFacts) × HasLoaded disc o × (left.disc ≡ disc') × Takes o rack (Err Stopped) left
   pub only : IsOfStart fault
 
 -- RESTORE also requires that disc and rack belong together, and that every reel is mounted; it reports the first one that

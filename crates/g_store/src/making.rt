@@ -31,7 +31,7 @@ pub struct Refused<D: Disc, T: Tapes> {
 ///   what it represented before, or the new filestore.
 pub fn format<D: Disc, T: Tapes>(
     alloc: Global,
-    mut disc: D,
+    disc: D,
     tapes: KnownReels<T>,
 ) -> Result<Store<D, T>, Refused<D, T>>
     requires low { 2177 < (D.state disc).size }
@@ -65,17 +65,6 @@ pub fn format<D: Disc, T: Tapes>(
         last_dump: 0,
         intent: None,
     };
-    // A commit that stops leaves the old slot or the new one only if the gate was durable before it.
-    match disc.secure() {
-        Ok(()) => {}
-        Err(_) => {
-            return Err(Refused {
-                fault: StoreFault::DiscReadFault,
-                disc,
-                tapes,
-            });
-        }
-    }
     match Online::fresh(alloc, disc, tree, head) {
         Ok(online) => Ok(Store {
             online,

@@ -33,7 +33,7 @@ use std::alloc::Global;
 /// - `Stopped`: a write failed, and the disc represents what it represented before, or that with the dump adopted.
 pub fn start<D: Disc, T: Tapes>(
     alloc: Global,
-    mut disc: D,
+    disc: D,
     mut tapes: KnownReels<T>,
 ) -> Result<(Store<D, T>, Option<u64>), Refused<D, T>>
     requires low { 2177 < (D.state disc).size }
@@ -41,17 +41,6 @@ pub fn start<D: Disc, T: Tapes>(
     ensures ok { IfOk result (λ p. Begun (D.state disc) (T.rack tapes) p.1 p.0) }
     ensures refused { IfErr result (λ e. RefusesStart (D.state disc) (T.rack tapes) e.fault (D.state e.disc) (T.rack e.tapes)) }
 {
-    // What the gate names is believed only once no power loss can take it back.
-    match disc.secure() {
-        Ok(()) => {}
-        Err(_) => {
-            return Err(Refused {
-                fault: StoreFault::DiscReadFault,
-                disc,
-                tapes,
-            });
-        }
-    }
     let mut online = match Online::load(alloc, disc) {
         Ok(online) => online,
         Err((fault, disc)) => {
