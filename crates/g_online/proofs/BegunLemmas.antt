@@ -44,7 +44,7 @@ use Rattle.g_disc_contents.proofs.SurvivalLemmas.{commit_survives}
 use Rattle.g_online.specs.declared.fault.OnlineFault.TheVariants.{NoFilestore, NoMemory, ReadFault}
 use Rattle.g_online.specs.declared.pinned.Pinned.{Pinned}
 use Rattle.g_online.specs.AllowedChanges.{KeepsRules}
-use Rattle.g_online.specs.Beginning.{AsBeforeOr, HasLoaded, HasMade, HoldsAsBefore, IsFound, empty_copies, empty_copy, first_contents, first_file, memory_of, refusal_of}
+use Rattle.g_online.specs.Beginning.{AsBeforeOr, HasLoaded, HasMade, HasRead, HoldsAsBefore, IsFound, SecuresAndReads, WroteFirst, empty_copies, empty_copy, first_contents, first_file, memory_of, refusal_of}
 use Rattle.g_online.specs.Change.{told_bytes}
 use Rattle.g_online.specs.Commit.{AreSaved, CommitStopped, HasCommitted, IsMarked, commit_blocks}
 use Rattle.g_online.specs.Invariant.{AreNoted, AreWhole, IsAgreed, IsPooled, IsStored, Memory, PinsAre, directory_in, facts_of}
@@ -229,10 +229,10 @@ module _ (old new : DiscState) (side : Side) (head : Head) (users : List UserRec
       (subst (λ (p : Remembered). IsAgreed new (memory_of side p pool users files head online)) (sym unknown)
       (loaded_agreed new side pool users files head online (found_here reads) copies fresh)))
 
-  pub has_loaded : {P : Type 0} (pages : Remembered) (pool : List Bool) (us : List UserRec) (fs : List FileRec) (o : OnlineFacts) → ForSome new.held (λ b. length b ≡ new.size) → 2177 < old.size → ReadsByCause P old new → (P → ⊥) → pages ≡ nothing → us ≡ users → fs ≡ files
-      → o ≡ facts_of new (memory_of side pages pool us fs head online) → HasLoaded old o
-  has_loaded pages pool us fs o whole large reads none unknown same_users same_files is =
-      subst (HasLoaded old) (sym is) (record {
+  pub has_read : {P : Type 0} (pages : Remembered) (pool : List Bool) (us : List UserRec) (fs : List FileRec) (o : OnlineFacts) → ForSome new.held (λ b. length b ≡ new.size) → 2177 < old.size → ReadsByCause P old new → (P → ⊥) → pages ≡ nothing → us ≡ users → fs ≡ files
+      → o ≡ facts_of new (memory_of side pages pool us fs head online) → HasRead old o
+  has_read pages pool us fs o whole large reads none unknown same_users same_files is =
+      subst (HasRead old) (sym is) (record {
         begun = record { live = refl; pins = refl; touched = refl; changed = refl };
         reads = ReadsByCause-for none (λ never. absurd never) reads;
         holds = λ blocks told.

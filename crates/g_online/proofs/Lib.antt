@@ -22,6 +22,7 @@ pub mod BytesLemmas
 pub mod FileLemmas
 pub mod EraseLemmas
 pub mod BegunLemmas
+pub mod SecuredLemmas
 pub mod PoolLemmas
 pub mod OffLemmas
 pub mod OffRuleLemmas

@@ -1,9 +1,9 @@
 -- How an online filestore begins: it is loaded from its disc or created on it.
 use Rattle.std.specs.Prelude.{◌≡◌, ◌⊎◌, ℕ, ◌==◌, Bool, true, false, List, [], map, filter, None, is_some, if◌then◌else◌}
 use Rattle.std.specs.Option.{ForSome}
-use Rattle.g_base.specs.Counts.{RoseBy}
+use Rattle.g_base.specs.Counts.{Rose, RoseBy}
 use Rattle.g_copy.specs.declared.copy.DiscCopy.{DiscCopy}
-use Rattle.g_disc.specs.Disc.{Causes, DiscState, ReadsByCause, is_durable}
+use Rattle.g_disc.specs.Disc.{Causes, DiscState, ReadsByCause, StayDurable, is_durable}
 use Rattle.g_entry.specs.declared.file_rec.FileRec.{FileRec}
 use Rattle.g_entry.specs.declared.format.Format.TheVariants.{Two}
 use Rattle.g_entry.specs.declared.head.Head.{Head}
@@ -41,14 +41,35 @@ pub record WroteFirst (n : ℕ) (disc : DiscState) (new : OnlineFacts) : Type 0 
   pub commits : Commits n found new.layout blocks
   pub writes : RoseBy blocks disc.writes new.disc.writes
 
--- The filestore was loaded: its contents are those that the disc holds, and nothing was written.
-pub record HasLoaded (disc : DiscState) (o : OnlineFacts) : Type 0 where
+-- The disc was read: the contents of the filestore are those that it holds, and nothing was written.
+pub record HasRead (disc : DiscState) (o : OnlineFacts) : Type 0 where
   pub begun : IsBegun o
   pub reads : ReadsByCause ⊥ disc o.disc
   pub holds : ForSome disc.held (λ blocks. Holds blocks o.contents)
   pub unknown : o.layout.pages ≡ nothing
   pub gate : GateNames o.layout.side disc.held
   pub durable : ForSome disc.held (λ _. IsDiscSafe disc → is_durable disc 0 ≡ true → IsDurable o)
+
+-- The gate was made durable, and then the disc was read. Nothing else that a caller can observe has changed. A read failed if and only if the cause holds.
+pub record SecuresAndReads (read_fault : Type 0) (before after : DiscState) : Type 0 where
+  pub held : after.held ≡ before.held
+  pub size : after.size ≡ before.size
+  pub write_faults : after.write_faults ≡ before.write_faults
+  pub writes : after.writes ≡ before.writes
+  pub fuse : after.fuse ≡ before.fuse
+  pub arms : after.arms ≡ before.arms
+  pub durable : StayDurable before after
+  pub kept : (read_fault → ⊥) → after.read_faults ≡ before.read_faults
+  pub rose : read_fault → Rose before.read_faults after.read_faults
+
+-- The filestore was loaded: its contents are those that the disc holds, and nothing was written. If the disc was safe, the filestore is durable.
+pub record HasLoaded (disc : DiscState) (o : OnlineFacts) : Type 0 where
+  pub begun : IsBegun o
+  pub reads : SecuresAndReads ⊥ disc o.disc
+  pub holds : ForSome disc.held (λ blocks. Holds blocks o.contents)
+  pub unknown : o.layout.pages ≡ nothing
+  pub gate : GateNames o.layout.side disc.held
+  pub durable : ForSome disc.held (λ _. IsDiscSafe disc → IsDurable o)
 
 -- A file without blocks: on the disc if it is empty, otherwise only on tape.
 abbrev pub first_file : Bool → FileRec → File

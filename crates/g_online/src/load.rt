@@ -16,7 +16,7 @@ ghost use Rattle.g_dirs.specs.Rules.{AreApart, numbers_of};
 ghost use Rattle.g_disc_contents.specs.Contents.{Contents, Holds};
 ghost use Rattle.g_disc_contents.specs.Facts.{IsTied};
 ghost use Rattle.g_online.specs.AllowedChanges.{KeepsRules};
-ghost use Rattle.g_online.specs.Beginning.{AsBeforeOr, HasLoaded, HasMade, IsFound, empty_copies, first_contents, memory_of, refusal_of};
+ghost use Rattle.g_online.specs.Beginning.{AsBeforeOr, HasLoaded, HasMade, HasRead, IsFound, SecuresAndReads, empty_copies, first_contents, memory_of, refusal_of};
 ghost use Rattle.g_online.specs.Invariant.{IsAgreed, facts_of};
 
 use crate::commit::commit;
@@ -33,9 +33,10 @@ use g_tree::Tree;
 use std::alloc::Global;
 
 impl<D: Disc> Online<D> {
-    /// Loads the filestore that the disc holds, in either format (docs/FORMATS.md). No block of its slots is remembered,
-    /// and all users count as changed. Nothing is written. A refusal returns the disc, whose contents are unchanged:
-    /// `NoFilestore` only if it holds no filestore, `ReadFault` if and only if a read failed, otherwise `NoMemory`.
+    /// Loads the filestore that the disc holds, in either format (docs/FORMATS.md). The gate is made durable before it is
+    /// read, so that no power loss can take back what it names. No block of the slots is remembered, and all users count as
+    /// changed. Nothing is written. A refusal returns the disc, whose contents are unchanged: `NoFilestore` only if it holds
+    /// no filestore, `ReadFault` if and only if the gate couldn't be made durable or a read failed, otherwise `NoMemory`.
     pub fn load(alloc: Global, mut disc: D) -> Result<Online<D>, (OnlineFault, D)>
         requires low { 2177 < (D.state disc).size }
         requires high { (D.state disc).size ≤ 1_048_576 }
@@ -43,39 +44,22 @@ impl<D: Disc> Online<D> {
         ensures tied { IfOk result (λ o. IsTied o) }
         ensures none { IfErr result (λ e. e.0 ≡ OnlineFault.NoFilestore
             → ForSome (D.state disc).held (λ blocks. (c : Contents) → Holds blocks c → ⊥)) }
-        ensures refused { IfErr result (λ e. ReadsByCause (e.0 ≡ OnlineFault.ReadFault)
+        ensures refused { IfErr result (λ e. SecuresAndReads (e.0 ≡ OnlineFault.ReadFault)
             (D.state disc) (D.state e.1)) }
         ensures only { IfErr result (λ e. (e.0 ≡ OnlineFault.ReadFault)
             ⊎ (e.0 ≡ OnlineFault.NoFilestore) ⊎ (e.0 ≡ OnlineFault.NoMemory)) }
     {
-        let (slots, dirs) = match find(alloc, &mut disc) {
-            Ok(found) => found,
-            Err(fault) => return Err((fault, disc)),
-        };
-        let (pages, pool) = match pool_of(alloc, disc.size(), dirs.online.as_slice()) {
-            Ok(made) => made,
-            Err(_) => return Err((OnlineFault::NoMemory, disc)),
-        };
-        let Dirs {
-            head,
-            users,
-            files,
-            online,
-        } = dirs;
-        let online = match CopyTable::of(alloc, online) {
-            Ok(online) => online,
-            Err(_) => return Err((OnlineFault::NoMemory, disc)),
-        };
-        match Tree::from_records(alloc, users, files) {
-            Ok(tree) => Ok(begin(disc, slots, pages, pool, tree, head, online)),
-            Err(_) => Err((OnlineFault::NoMemory, disc)),
+        match disc.secure() {
+            Ok(()) => read_filestore(alloc, disc),
+            Err(_) => Err((OnlineFault::ReadFault, disc)),
         }
     }
 
-    /// Creates a filestore of these records on the disc by one commit, for any previous contents. All files are offline
-    /// except the empty ones. No block of the slots is remembered from before, and all users count as changed. A refusal
-    /// returns the disc. After `Stopped`, when a write failed, the disc holds what it held before or the new filestore.
-    /// After `ReadFault`, when the gate couldn't be read, and after `NoMemory` its contents are unchanged.
+    /// Creates a filestore of these records on the disc by one commit, for any previous contents. The gate is made durable
+    /// before the commit. All files are offline except the empty ones. No block of the slots is remembered from before, and
+    /// all users count as changed. A refusal returns the disc. After `Stopped`, when a write failed, the disc holds what it
+    /// held before or the new filestore. After `ReadFault`, when the gate couldn't be made durable or read, and after
+    /// `NoMemory` its contents are unchanged.
     pub fn fresh(
         alloc: Global,
         mut disc: D,
@@ -98,47 +82,122 @@ impl<D: Disc> Online<D> {
         ensures causes { IfErr result (λ e. Causes (e.0 ≡ OnlineFault.ReadFault) (e.0 ≡ OnlineFault.Stopped)
             (D.state disc) (D.state e.1)) }
 
-        // If the disc was safe and its gate durable, a power loss leaves what it held or the new filestore.
+        // A safe disc stays safe, and a power loss after a failed write leaves what it held or the new filestore.
+        ensures safe { IfErr result (λ e. IsDiscSafe (D.state disc) → IsDiscSafe (D.state e.1)) }
         ensures survives { IfErr result (λ e. e.0 ≡ OnlineFault.Stopped
-            → is_durable (D.state disc) 0 ≡ true → IsDiscSafe (D.state disc)
-            → IsDiscSafe (D.state e.1) × PowerLossLeaves (AsBeforeOr
+            → IsDiscSafe (D.state disc) → PowerLossLeaves (AsBeforeOr
             (first_contents (is_some (D.state disc).held) head tree.users tree.files))
             (D.state disc) (D.state e.1)) }
-        ensures still { IfErr result (λ e. e.0 ≢ OnlineFault.Stopped
-            → ((D.state e.1).volatile ≡ (D.state disc).volatile) × ((D.state e.1).dropped ≡ (D.state disc).dropped)) }
         ensures only { IfErr result (λ e. (e.0 ≡ OnlineFault.ReadFault) ⊎ (e.0 ≡ OnlineFault.Stopped)
             ⊎ (e.0 ≡ OnlineFault.NoMemory)) }
     {
-        let (mut pages, pool) = match pool_of(alloc, disc.size(), &[]) {
-            Ok(made) => made,
-            Err(_) => return Err((OnlineFault::NoMemory, disc)),
-        };
-        let copies = match empty_copies(alloc, tree.files()) {
-            Ok(copies) => copies,
-            Err(_) => return Err((OnlineFault::NoMemory, disc)),
-        };
-        let online = match CopyTable::of(alloc, copies) {
-            Ok(online) => online,
-            Err(_) => return Err((OnlineFault::NoMemory, disc)),
-        };
-        let mut slots = match Slots::find(&mut disc) {
-            Ok(slots) => slots,
-            Err(_) => return Err((OnlineFault::ReadFault, disc)),
-        };
-        let mut live = true;
-        match commit(
-            &mut disc,
-            &mut slots,
-            &mut pages,
-            &mut live,
-            &head,
-            &tree,
-            &online,
-            &mut BlockWriter::new(),
-        ) {
-            Ok(()) => Ok(begin(disc, slots, pages, pool, tree, head, online)),
-            Err(fault) => Err((fault, disc)),
+        match disc.secure() {
+            Ok(()) => write_filestore(alloc, disc, tree, head),
+            Err(_) => Err((OnlineFault::ReadFault, disc)),
         }
+    }
+}
+
+/// Reads the filestore that the disc holds. Refuses as `Online::load`.
+fn read_filestore<D: Disc>(alloc: Global, mut disc: D) -> Result<Online<D>, (OnlineFault, D)>
+    requires low { 2177 < (D.state disc).size }
+    requires high { (D.state disc).size ≤ 1_048_576 }
+    ensures ok { IfOk result (HasRead (D.state disc)) }
+    ensures tied { IfOk result (λ o. IsTied o) }
+    ensures none { IfErr result (λ e. e.0 ≡ OnlineFault.NoFilestore
+        → ForSome (D.state disc).held (λ blocks. (c : Contents) → Holds blocks c → ⊥)) }
+    ensures refused { IfErr result (λ e. ReadsByCause (e.0 ≡ OnlineFault.ReadFault)
+        (D.state disc) (D.state e.1)) }
+    ensures only { IfErr result (λ e. (e.0 ≡ OnlineFault.ReadFault)
+        ⊎ (e.0 ≡ OnlineFault.NoFilestore) ⊎ (e.0 ≡ OnlineFault.NoMemory)) }
+{
+    let (slots, dirs) = match find(alloc, &mut disc) {
+        Ok(found) => found,
+        Err(fault) => return Err((fault, disc)),
+    };
+    let (pages, pool) = match pool_of(alloc, disc.size(), dirs.online.as_slice()) {
+        Ok(made) => made,
+        Err(_) => return Err((OnlineFault::NoMemory, disc)),
+    };
+    let Dirs {
+        head,
+        users,
+        files,
+        online,
+    } = dirs;
+    let online = match CopyTable::of(alloc, online) {
+        Ok(online) => online,
+        Err(_) => return Err((OnlineFault::NoMemory, disc)),
+    };
+    match Tree::from_records(alloc, users, files) {
+        Ok(tree) => Ok(begin(disc, slots, pages, pool, tree, head, online)),
+        Err(_) => Err((OnlineFault::NoMemory, disc)),
+    }
+}
+
+/// Writes a filestore of these records by one commit. Refuses as `Online::fresh`.
+fn write_filestore<D: Disc>(
+    alloc: Global,
+    mut disc: D,
+    tree: Tree,
+    head: Head,
+) -> Result<Online<D>, (OnlineFault, D)>
+    requires low { 2177 < (D.state disc).size }
+    requires high { (D.state disc).size ≤ 1_048_576 }
+    requires rules { KeepsRules
+        (first_contents (is_some (D.state disc).held) head tree.users tree.files) }
+    ensures ok { IfOk result (HasMade
+        (first_contents (is_some (D.state disc).held) head tree.users tree.files) (D.state disc)) }
+    ensures tied { IfOk result (λ o. IsTied o) }
+    ensures stopped { IfErr result (λ e. e.0 ≡ OnlineFault.Stopped
+        → Changes (AsBeforeOr
+        (first_contents (is_some (D.state disc).held) head tree.users tree.files))
+        (D.state disc).held (D.state e.1).held) }
+    ensures same { IfErr result (λ e. e.0 ≢ OnlineFault.Stopped
+        → ((D.state e.1).held ≡ (D.state disc).held) × ((D.state e.1).writes ≡ (D.state disc).writes)) }
+    ensures causes { IfErr result (λ e. Causes (e.0 ≡ OnlineFault.ReadFault) (e.0 ≡ OnlineFault.Stopped)
+        (D.state disc) (D.state e.1)) }
+
+    // If the disc was safe and its gate durable, a power loss leaves what it held or the new filestore.
+    ensures survives { IfErr result (λ e. e.0 ≡ OnlineFault.Stopped
+        → is_durable (D.state disc) 0 ≡ true → IsDiscSafe (D.state disc)
+        → IsDiscSafe (D.state e.1) × PowerLossLeaves (AsBeforeOr
+        (first_contents (is_some (D.state disc).held) head tree.users tree.files))
+        (D.state disc) (D.state e.1)) }
+    ensures still { IfErr result (λ e. e.0 ≢ OnlineFault.Stopped
+        → ((D.state e.1).volatile ≡ (D.state disc).volatile) × ((D.state e.1).dropped ≡ (D.state disc).dropped)) }
+    ensures only { IfErr result (λ e. (e.0 ≡ OnlineFault.ReadFault) ⊎ (e.0 ≡ OnlineFault.Stopped)
+        ⊎ (e.0 ≡ OnlineFault.NoMemory)) }
+{
+    let (mut pages, pool) = match pool_of(alloc, disc.size(), &[]) {
+        Ok(made) => made,
+        Err(_) => return Err((OnlineFault::NoMemory, disc)),
+    };
+    let copies = match empty_copies(alloc, tree.files()) {
+        Ok(copies) => copies,
+        Err(_) => return Err((OnlineFault::NoMemory, disc)),
+    };
+    let online = match CopyTable::of(alloc, copies) {
+        Ok(online) => online,
+        Err(_) => return Err((OnlineFault::NoMemory, disc)),
+    };
+    let mut slots = match Slots::find(&mut disc) {
+        Ok(slots) => slots,
+        Err(_) => return Err((OnlineFault::ReadFault, disc)),
+    };
+    let mut live = true;
+    match commit(
+        &mut disc,
+        &mut slots,
+        &mut pages,
+        &mut live,
+        &head,
+        &tree,
+        &online,
+        &mut BlockWriter::new(),
+    ) {
+        Ok(()) => Ok(begin(disc, slots, pages, pool, tree, head, online)),
+        Err(fault) => Err((fault, disc)),
     }
 }
 
