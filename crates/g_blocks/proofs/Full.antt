@@ -1,12 +1,13 @@
 -- Groups of flags that are noted as full: what preserves the notes, and what follows from them.
 -- serves: all_free, mark_free, mark_taken, skip_taken
-use Rattle.std.proofs.Common.{◌≡◌, ◌≢◌, ℕ, ◌+◌, ◌-◌, ◌/◌, ◌<◌, ◌≤◌, List, Bool, true, false, Some, length, slice_get, get_or, replicate, sym, ◌∙◌, ap, subst, inl, inr, arith, length-set}
+use Rattle.std.proofs.Common.{◌≡◌, ◌≢◌, ℕ, ◌+◌, ◌-◌, ◌/◌, ◌<◌, ◌≤◌, List, Bool, true, false, Some, length, slice_get, get_or, min, replicate, sym, ◌∙◌, ap, subst, inl, inr, arith, length-set}
 use Rattle.std.specs.Prelude.{◌⊎◌}
 use Rattle.std.proofs.Math.ListN.{set}
 use Rattle.std.proofs.lemmas.Bool.{cases_eq}
 use Rattle.std.proofs.lemmas.List.{get_or-replicate, length-replicate}
 use Rattle.std.proofs.lemmas.Option.{get_or_from_slice_get, slice_get_within}
-use Rattle.g_blocks.specs.Flags.{AreFull, AreSetBefore, free_flags}
+use Rattle.g_blocks.specs.Flags.{AreFull, AreSetBefore, AreSetBetween, free_flags}
+use Rattle.g_blocks.proofs.Between.{between-given, between-taken}
 use Rattle.g_blocks.proofs.Marks.{count-given, count-taken, flag-kept, slice_get-set_other, slice_get-set_same}
 
 -- a flag is set, or it is cleared and its group noted as full no more
@@ -60,18 +61,26 @@ full-noted full now flags low are before long noted = record {
       ];
 }
 
--- WHAT A POOL KEEPS, when the flag of a free block is set, and when that of a taken one is cleared
-pub all-taken : (free low : ℕ) (full flags pool : List Bool) (i : ℕ) → flags ≡ pool → slice_get pool i ≡ Some false
-    → (free ≡ free_flags flags) × (2177 + length flags ≤ 1_048_576) × AreSetBefore low flags × AreFull full flags
+-- What a pool preserves when the flag of a free block is set, and when that of a taken one is cleared.
+pub all-taken : (free low next : ℕ) (full flags pool : List Bool) (i : ℕ) → flags ≡ pool → slice_get pool i ≡ Some false
+    → (free ≡ free_flags flags) × (2177 + length flags ≤ 1_048_576) × AreSetBefore low flags × AreFull full flags × AreSetBetween low next flags
     → (free - 1 ≡ free_flags (set flags i true)) × (2177 + length (set flags i true) ≤ 1_048_576) × AreSetBefore low (set flags i true) × AreFull full (set flags i true)
-all-taken free low full flags pool i same is (counted, small, before, are) =
+    × AreSetBetween low next (set flags i true)
+all-taken free low next full flags pool i same is (counted, small, before, are, between) =
     let (count, few, after) = count-taken free low flags pool i same is (counted, small, before) in
-    (count, few, after, full-taken full flags i (slice_get_within flags i false (subst (λ fs. slice_get fs i ≡ Some false) (sym same) is)) are)
+    let inside = slice_get_within flags i false (subst (λ fs. slice_get fs i ≡ Some false) (sym same) is) in
+    (count, few, after, full-taken full flags i inside are, between-taken low next i flags inside between)
 
-pub all-given : (free low now : ℕ) (full flags pool : List Bool) (i : ℕ) → flags ≡ pool → slice_get pool i ≡ Some true → now ≤ low → now ≤ i
-    → (free ≡ free_flags flags) × (2177 + length flags ≤ 1_048_576) × AreSetBefore low flags × AreFull full flags
+pub all-given : (free low now next start result : ℕ) (full flags pool : List Bool) (i : ℕ) → flags ≡ pool → slice_get pool i ≡ Some true → now ≡ min low i → AreSetBefore start flags
+    → (i < low → result ≡ start) → (i ≡ low → result ≡ next) → (low < i → (result ≤ next) × (result ≤ i))
+    → (free ≡ free_flags flags) × (2177 + length flags ≤ 1_048_576) × AreSetBefore low flags × AreFull full flags × AreSetBetween low next flags
     → (free + 1 ≡ free_flags (set flags i false)) × (2177 + length (set flags i false) ≤ 1_048_576) × AreSetBefore now (set flags i false)
-    × AreFull (set full (i / 128) false) (set flags i false)
-all-given free low now full flags pool i same is lower none (counted, small, before, are) =
-    let (count, few, after) = count-given free low now flags pool i same is lower none (counted, small, before) in
-    (count, few, after, full-given full flags i (slice_get_within flags i true (subst (λ fs. slice_get fs i ≡ Some true) (sym same) is)) are)
+    × AreFull (set full (i / 128) false) (set flags i false) × AreSetBetween now result (set flags i false)
+all-given free low now next start result full flags pool i same is is_now set_before lower here higher (counted, small, before, are, between) =
+    let (count, few, after) = count-given free low now flags pool i same is (omega (arith, is_now)) (omega (arith, is_now)) (counted, small, before) in (
+      count,
+      few,
+      after,
+      full-given full flags i (slice_get_within flags i true (subst (λ fs. slice_get fs i ≡ Some true) (sym same) is)) are,
+      between-given i low next start result now flags set_before between lower here higher is_now,
+    )

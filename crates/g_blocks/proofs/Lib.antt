@@ -1,3 +1,4 @@
+mod Between
 mod Full
 pub mod Marks
 pub mod Least

@@ -1,5 +1,5 @@
 -- One flag after another: what a loop that marks blocks has changed so far.
--- serves: all_free, give, least_free, mark_all_taken, mark_free (count), mark_taken (count), new (ok), put_least_free, take, take_into, Full, crates above
+-- serves: all_free, give, least_free, mark_all_taken, mark_free (count), mark_taken (count), new (ok), put_least_free, take, take_into, Between, and 2 more
 use Rattle.std.proofs.Common.{◌≡◌, ◌≢◌, ℕ, zero, suc, ◌+◌, ◌-◌, ◌*◌, ◌<◌, ◌≤◌, List, [], ◌∷◌, ◌++◌, Bool, true, false, not, cond, Some, length, take, drop, All, AllPairs, Contains, slice_get, get_or, replicate, refl, sym, ◌∙◌, ap, subst, inl, inr, arith, length-set, length-take, length-drop}
 use Rattle.std.proofs.Math.ListN.{set}
 use Rattle.std.proofs.lemmas.List.{take_all, take_more, get_or-set_same, get_or-take, get_or_default, get_or-replicate, length-replicate}

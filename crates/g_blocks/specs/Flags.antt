@@ -10,6 +10,11 @@ pub record AreSetBefore (place : ℕ) (flags : List Bool) : Type 0 where
   pub within : place ≤ length flags
   pub each : (i : ℕ) → i < place → slice_get flags i ≡ Some true
 
+-- All flags after the place `low` and before the place `next`, which is at most their number, are set.
+pub record AreSetBetween (low next : ℕ) (flags : List Bool) : Type 0 where
+  pub within : next ≤ length flags
+  pub each : (i : ℕ) → low < i → i < next → slice_get flags i ≡ Some true
+
 -- There is a note for each group of 128 flags. In a group that is noted as full all flags are set.
 pub record AreFull (full flags : List Bool) : Type 0 where
   pub size : length full ≡ length flags / 128 + 1

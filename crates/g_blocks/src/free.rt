@@ -1,10 +1,11 @@
 //! The search for free blocks: one pass over the flags, from a lower bound of the free ones.
-ghost use Rattle.g_blocks.specs.Flags.{AreFull, AreSetBefore};
+ghost use Rattle.g_blocks.specs.Flags.{AreFull, AreSetBefore, AreSetBetween};
 ghost use Rattle.g_blocks.specs.Pool.{AreLeastFree, free_count};
 ghost use Rattle.std.specs.Prelude.{◌≡◌, ◌⊎◌, ℕ, ◌+◌, ◌<◌, ◌≤◌, ◌^◌, true, false, Some, [], length, IfOk, slice_get, slice_index_or};
 
 use g_base::{BlockList, FIRST_COPY_BLOCK};
 use std::alloc::{AllocError, Global};
+use std::cmp::Ordering;
 
 /// The n least blocks whose flag isn't set, in increasing order. None of them is before the place `low`.
 pub(crate) fn least_free(
@@ -50,6 +51,20 @@ pub(crate) fn put_least_free(taken: &[bool], low: usize, n: usize, blocks: &mut 
     }
 }
 
+/// Where the search for the least free block begins: all flags before this place are set. So are those before `low`,
+/// and those after it and before `next`.
+pub(crate) fn search_start(taken: &[bool], low: usize, next: usize) -> usize
+    requires before { AreSetBefore low taken.now }
+    requires between { AreSetBetween low next taken.now }
+    ensures before { AreSetBefore result taken.now }
+    ensures later { low ≤ result }
+{
+    if low == taken.len() {
+        return low;
+    }
+    if taken[low] { next.max(low + 1) } else { low }
+}
+
 /// The number of flags in a group.
 pub(crate) const GROUP: usize = 128;
 
@@ -58,7 +73,8 @@ pub(crate) const GROUP: usize = 128;
 pub(crate) fn first_free(taken: &[bool], full: &[bool], from: usize) -> usize
     requires before { AreSetBefore from taken.now }
     requires full { AreFull full.now taken.now }
-    ensures { AreSetBefore result taken.now }
+    ensures before { AreSetBefore result taken.now }
+    ensures later { from ≤ result }
 {
     let mut place = from;
     while place < taken.len() {
@@ -84,6 +100,20 @@ fn behind(taken: &[bool], full: &[bool], place: usize) -> usize
         (place + GROUP).min(taken.len())
     } else {
         place + 1
+    }
+}
+
+/// The place before which all flags after the lower one of `low` and `place` are set, as soon as the flag at `place` isn't.
+/// So far that was `next` for the flags after `low`, and all flags before `start` are set.
+pub(crate) fn next_without(place: usize, low: usize, next: usize, start: usize) -> usize
+    ensures before { place < low → result ≡ start }
+    ensures same { place ≡ low → result ≡ next }
+    ensures after { low < place → (result ≤ next) × (result ≤ place) }
+{
+    match place.cmp(&low) {
+        Ordering::Less => start,
+        Ordering::Equal => next,
+        Ordering::Greater => next.min(place),
     }
 }
 

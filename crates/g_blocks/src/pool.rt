@@ -1,7 +1,9 @@
 //! The pool of copy blocks: a flag for each, the number of free ones, and where the search for free ones begins.
 ghost use Rattle.std.specs.Prelude.{◌≡◌, ◌≢◌, ◌+◌, ◌-◌, ◌<◌, ◌≤◌, ◌↔◌, ◌⊎◌, All, AllPairs, IfOk, IfErr, OnErr, IsErrOf, IsOkUnless, slice_set, replicate, [], length, true, false};
 
-use crate::free::{GROUP, first_free, least_free, note_full, put_least_free};
+use crate::free::{
+    GROUP, first_free, least_free, next_without, note_full, put_least_free, search_start,
+};
 use g_base::{BlockList, FIRST_COPY_BLOCK};
 use std::alloc::{AllocError, Global};
 use std::marker::Model;
@@ -18,19 +20,21 @@ pub enum PoolFault {
 }
 
 /// The copy blocks of one disc. Contracts see the list of their flags, true for a taken block: the flag at place i is
-/// that of block 2,177 + i. The search for free blocks begins at the place `low`, before which no block is free, and
-/// skips groups of 128 that are noted as full.
+/// that of block 2,177 + i. The search for free blocks begins at the place `low`, before which no block is free. If that
+/// block is taken, it continues at the place `next`, since those between the two aren't free either, and skips groups of
+/// 128 that are noted as full.
 #[derive(Drop)]
 pub struct Pool {
     taken: Vec<bool>,
     full: Vec<bool>,
     free: u32,
     low: usize,
+    next: usize,
 }
 
 impl Model for Pool {
     ghost use Rattle.std.specs.Prelude.{◌≡◌, ◌+◌, ◌≤◌, List, Bool, length};
-    ghost use Rattle.g_blocks.specs.Flags.{free_flags, AreFull, AreSetBefore};
+    ghost use Rattle.g_blocks.specs.Flags.{free_flags, AreFull, AreSetBefore, AreSetBetween};
 
     ghost Value = { List Bool };
 
@@ -38,7 +42,8 @@ impl Model for Pool {
 
     ghost invariant = { λ pool. (pool.free ≡ free_flags pool.taken.items)
         × (2177 + length pool.taken.items ≤ 1_048_576) × AreSetBefore pool.low pool.taken.items
-        × AreFull pool.full.items pool.taken.items };
+        × AreFull pool.full.items pool.taken.items
+        × AreSetBetween pool.low pool.next pool.taken.items };
 }
 
 impl Pool {
@@ -137,6 +142,7 @@ impl Pool {
             full: vec![in alloc; false; blocks as usize / GROUP + 1]?,
             free: blocks,
             low: 0,
+            next: 0,
         })
     }
 
@@ -144,8 +150,9 @@ impl Pool {
     fn skip_taken(&mut self)
         ensures { self.new ≡ self.old }
     {
-        let low = first_free(&self.taken, &self.full, self.low);
-        note_full(&mut self.full, self.low / GROUP, low / GROUP);
+        let start = search_start(&self.taken, self.low, self.next);
+        let low = first_free(&self.taken, &self.full, start);
+        note_full(&mut self.full, start / GROUP, low / GROUP);
         self.low = low;
     }
 
@@ -174,6 +181,8 @@ impl Pool {
         ensures count { free_count self.new ≡ free_count self.old + 1 }
     {
         let place = (block - FIRST_COPY_BLOCK) as usize;
+        let start = search_start(&self.taken, self.low, self.next);
+        self.next = next_without(place, self.low, self.next, start);
         self.taken[place] = false;
         self.full[place / GROUP] = false;
         self.free += 1;

@@ -1,4 +1,5 @@
+use Rattle.std.proofs.Common.{arith}
 use Rattle.g_blocks.proofs.free.first_free.Goals as goal
 
 pub loop-place-init : goal.loop-place-init
-loop-place-init c = c.requires.before
+loop-place-init c = (c.requires.before, omega arith)
