@@ -4,6 +4,8 @@ use Rattle.std.proofs.Common.{◌≡◌, ◌≢◌, ◌⊎◌, ◌↔◌, ℕ, L
 use Rattle.std.specs.Prelude.{IfErr, IfOk, is_some}
 use Rattle.g_base.specs.ToldContent.{Changes}
 use Rattle.g_disc.specs.Disc.{DiscState}
+use Rattle.g_disc.specs.Durable.{PowerLossLeaves}
+use Rattle.g_dirs.specs.Durable.{IsDiscSafe}
 use Rattle.g_tape.specs.Rack.{Rack}
 use Rattle.g_tape.specs.Reads.{OnlyReads}
 use Rattle.g_tape.specs.Reel.{Reel}
@@ -43,10 +45,11 @@ module _ {B : Type 0} (state : B → DiscState) (disc : DiscState) (old new : Ra
   ok_of (Err e) has number = tt
 
   pub stopped_of : (result : Result (OnlineFacts × ℕ) (StoreFault × B)) → IfErr result (λ e. e.0 ≡ Stopped → Changes (AsBeforeOr (first_of disc.held d)) disc.held (state e.1).held)
+      → IfErr result (λ e. e.0 ≡ Stopped → IsDiscSafe disc → PowerLossLeaves (AsBeforeOr (first_of disc.held d)) disc (state e.1))
       → IfErr result (λ e. e.0 ≡ Stopped → (number : ℕ) × (contents : Contents) × IsRestored (told_reels old) disc.held number contents
-      × Changes (AsBeforeOr contents) disc.held (state e.1).held)
-  stopped_of (Ok made) stops = tt
-  stopped_of (Err e) stops = λ wrong. (d.number, first_of disc.held d, given (told_reels old) disc.held d is, stops wrong)
+      × Changes (AsBeforeOr contents) disc.held (state e.1).held × (IsDiscSafe disc → PowerLossLeaves (AsBeforeOr contents) disc (state e.1)))
+  stopped_of (Ok made) stops survives = tt
+  stopped_of (Err e) stops survives = λ wrong. (d.number, first_of disc.held d, given (told_reels old) disc.held d is, stops wrong, survives wrong)
 
   pub unread_of : (result : Result (OnlineFacts × ℕ) (StoreFault × B))
       → IfErr result (λ e. e.0 ≡ DiscReadFault → (number : ℕ) × (contents : Contents) × IsRestored (told_reels old) disc.held number contents)

@@ -6,6 +6,7 @@ use Rattle.std.proofs.lemmas.List.Elements.{All-nil}
 use Rattle.std.proofs.lemmas.Option.{none-some, same_Some}
 use Rattle.g_base.specs.ToldContent.{Changes}
 use Rattle.g_disc.specs.Disc.{Causes, DiscState}
+use Rattle.g_disc.specs.Durable.{PowerLossLeaves}
 use Rattle.g_disc.proofs.CallLemmas.{Causes-for, Causes-none}
 use Rattle.g_entry.specs.declared.file_rec.FileRec.{FileRec}
 use Rattle.g_entry.specs.declared.head.Head.{Head}
@@ -17,6 +18,7 @@ use Rattle.g_plain.specs.PlainStep.{first_fault}
 use Rattle.g_plain.specs.declared.faults.StoreFault.{StoreFault}
 use Rattle.g_plain.specs.declared.faults.StoreFault.TheVariants.{DiscReadFault, NoMemory, RackNotEmpty, Stopped, TapeReadFault}
 use Rattle.g_tree.specs.Records.{tree_of}
+use Rattle.g_dirs.specs.Durable.{IsDiscSafe}
 use Rattle.g_disc_contents.specs.Contents.{Contents, File, Holds, recs_in}
 use Rattle.g_disc_contents.specs.Facts.{IsTied, OnlineFacts}
 use Rattle.g_incr.specs.Layout.{Dump}
@@ -110,6 +112,7 @@ module _ (disc : DiscState) (users : List UserRec) (files : List FileRec) (none 
           unkept = unkept o made.begun;
           keeps = store_made o made.begun rack tied;
           causes = made.causes;
+          durable = λ blocks was is_safe. made.durable;
           tapes = record { reels = refl; write_faults = refl; fuse = refl; arms = refl; read_faults = omega arith; times = λ s k. omega arith };
           tape_read = refl;
           wrote = made.wrote;
@@ -128,7 +131,8 @@ module _ (disc : DiscState) (users : List UserRec) (files : List FileRec) (none 
       }
 
     -- STOPPED
-    module _ (now : DiscState) (causes : Causes ⊥ (Unit {0}) disc now) (changes : Changes (AsBeforeOr c) disc.held now.held) where
+    module _ (now : DiscState) (causes : Causes ⊥ (Unit {0}) disc now) (changes : Changes (AsBeforeOr c) disc.held now.held) (safe : IsDiscSafe disc → IsDiscSafe now)
+        (survives : IsDiscSafe disc → PowerLossLeaves (AsBeforeOr c) disc now) where
       leads : AllTold disc.held reels → (s : state.State) → DevicesStandFor disc.size disc.held reels s → LeadsDown FormatStep s disc rack Stopped now rack
       leads told s devices = by_case (stood disc now reels c changes causes.size told)
         where
@@ -175,6 +179,7 @@ module _ (disc : DiscState) (users : List UserRec) (files : List FileRec) (none 
       cut_is = record {
         refuses = record {
           causes = Causes-for (λ no. absurd no) (λ is. (let no : ⊥ = cc in no)) (λ _. refl) (λ _. tt) causes;
+          safe = safe;
           tapes = record { reels = refl; write_faults = refl; fuse = refl; arms = refl; read_faults = omega arith; times = λ s k. omega arith };
           tape_read = λ is. absurd (let no : ⊥ = cc in no);
           tape_read_only = λ _. refl;
@@ -185,12 +190,12 @@ module _ (disc : DiscState) (users : List UserRec) (files : List FileRec) (none 
           belongs = goes_on;
         };
         full = λ serial. (λ is. absurd (let no : ⊥ = cc in no), λ is. absurd (none-some serial (sym empty ∙ is)));
-        stopped = λ is. (c, held_is, changes);
+        stopped = λ is. (c, held_is, changes, survives);
         only = tt;
       }
 
 -- REFUSED, and nothing has changed
-module _ (disc now : DiscState) (rack : Rack) (held : now.held ≡ disc.held) (writes : now.writes ≡ disc.writes) where
+module _ (disc now : DiscState) (rack : Rack) (held : now.held ≡ disc.held) (writes : now.writes ≡ disc.writes) (safe : IsDiscSafe disc → IsDiscSafe now) where
   abbrev on_tape : List Reel
   on_tape = told_reels rack
 
@@ -198,6 +203,7 @@ module _ (disc now : DiscState) (rack : Rack) (held : now.held ≡ disc.held) (w
       → ((s : state.State) → DevicesStandFor disc.size disc.held on_tape s → StepsDown FormatStep s disc rack fault now rack) → Refuses (Unit {0}) FormatStep disc rack fault now rack
   quietly fault other causes steps = record {
     causes = causes;
+    safe = safe;
     tapes = record { reels = refl; write_faults = refl; fuse = refl; arms = refl; read_faults = omega arith; times = λ s k. omega arith };
     tape_read = λ is. absurd (other is);
     tape_read_only = λ _. refl;
@@ -257,12 +263,14 @@ nothing_caused disc fault read stop = Causes-none disc read stop
 -- as the filestore answered
 pub not_empty : (disc : DiscState) (rack : Rack) (n : ℕ) → Some n ≡ first_used rack.reels → RefusesFormat disc rack (RackNotEmpty n) disc rack
 not_empty disc rack n used =
-    full_is disc disc rack refl refl n (nothing_caused disc (RackNotEmpty n) (λ e. let no : ⊥ = cc in no) (λ e. let no : ⊥ = cc in no)) (sym used)
+    full_is disc disc rack refl refl (λ is_safe. is_safe) n (nothing_caused disc (RackNotEmpty n) (λ e. let no : ⊥ = cc in no) (λ e. let no : ⊥ = cc in no)) (sym used)
 
 pub record HasRefused (made : Contents) (disc now : DiscState) (fault : OnlineFault) : Type 0 where
   pub stopped : fault ≡ online.Stopped → Changes (AsBeforeOr made) disc.held now.held
   pub same : fault ≢ online.Stopped → (now.held ≡ disc.held) × (now.writes ≡ disc.writes)
   pub causes : Causes (fault ≡ online.ReadFault) (fault ≡ online.Stopped) disc now
+  pub safe : IsDiscSafe disc → IsDiscSafe now
+  pub survives : fault ≡ online.Stopped → IsDiscSafe disc → PowerLossLeaves (AsBeforeOr made) disc now
   pub only : (fault ≡ online.ReadFault) ⊎ ((fault ≡ online.Stopped) ⊎ (fault ≡ online.NoMemory))
 
 module _ (disc : DiscState) (users : List UserRec) (files : List FileRec) (none : files ≡ []) (whole : (bytes : FileRec → List ℕ) → tree_of users files bytes 1 ≡ formatted) (rack : Rack) (are : AreReels rack.reels)
@@ -276,18 +284,18 @@ module _ (disc : DiscState) (users : List UserRec) (files : List FileRec) (none 
   unread_said : Says online.ReadFault
   unread_said said =
       let both = said.same (λ e. let no : ⊥ = cc in no) in
-      unread_is disc now rack both.0 both.1
+      unread_is disc now rack both.0 both.1 said.safe
       (Causes-for (λ _. refl) (λ _. refl) (λ e. absurd (let no : ⊥ = cc in no)) (λ is. absurd (let no : ⊥ = cc in no)) said.causes) (sym empty)
 
   stop_said : Says online.Stopped
   stop_said said =
       cut_is disc users files none whole rack are (sym empty) now
-      (Causes-for (λ e. (let no : ⊥ = cc in no)) (λ no. absurd no) (λ _. tt) (λ _. refl) said.causes) (said.stopped refl)
+      (Causes-for (λ e. (let no : ⊥ = cc in no)) (λ no. absurd no) (λ _. tt) (λ _. refl) said.causes) (said.stopped refl) said.safe (said.survives refl)
 
   memory_said : Says online.NoMemory
   memory_said said =
       let both = said.same (λ e. let no : ⊥ = cc in no) in
-      memory_is disc now rack both.0 both.1
+      memory_is disc now rack both.0 both.1 said.safe
       (Causes-for (λ e. absurd (let no : ⊥ = cc in no)) (λ is. absurd (let no : ⊥ = cc in no)) (λ e. absurd (let no : ⊥ = cc in no)) (λ is. absurd (let no : ⊥ = cc in no)) said.causes) (sym empty)
 
   pub format_refused : (fault : OnlineFault) → Says fault

@@ -7,12 +7,14 @@ use Rattle.std.specs.List.{list_all}
 use Rattle.g_base.specs.Counts.{Rose}
 use Rattle.g_base.specs.ToldContent.{Changes}
 use Rattle.g_disc.specs.Disc.{Causes, DiscState}
+use Rattle.g_disc.specs.Durable.{PowerLossLeaves}
 use Rattle.g_tape.specs.Rack.{Rack}
 use Rattle.g_tape.specs.Reads.{OnlyReads}
 use Rattle.g_tape.specs.Reel.{Reel}
 use Rattle.g_plain.specs.PlainStep.{first_fault}
 use Rattle.g_plain.specs.declared.faults.StoreFault.{StoreFault}
 use Rattle.g_plain.specs.declared.faults.StoreFault.TheVariants.{DiscReadFault, LostCopy, LostDirectory, NoDump, NoMemory, RackNotMounted, Stopped, TapeReadFault}
+use Rattle.g_dirs.specs.Durable.{IsDiscSafe}
 use Rattle.g_disc_contents.specs.Contents.{Contents, Holds}
 use Rattle.g_disc_contents.specs.Facts.{IsTied, OnlineFacts, Pin}
 use Rattle.g_incr.specs.Layout.{Dump}
@@ -85,6 +87,7 @@ module _ (disc : DiscState) (rack after : Rack) (only : OnlyReads rack after) wh
         unkept = unkept o has.begun;
         keeps = store_made o has.begun after tied;
         causes = has.causes;
+        durable = λ blocks was is_safe. has.durable;
         tapes = only;
         tape_read = kept;
         wrote = has.wrote;
@@ -199,6 +202,8 @@ module _ (disc : DiscState) (rack after : Rack) (only : OnlyReads rack after) wh
 -- ALL REFUSALS
 pub record HasRefused (disc : DiscState) (rack after : Rack) (fault : StoreFault) (now : DiscState) : Type 0 where
   pub stopped : fault ≡ Stopped → (number : ℕ) × (contents : Contents) × IsRestored (told_reels rack) disc.held number contents × Changes (AsBeforeOr contents) disc.held now.held
+      × (IsDiscSafe disc → PowerLossLeaves (AsBeforeOr contents) disc now)
+  pub safe : IsDiscSafe disc → IsDiscSafe now
   pub unread : fault ≡ DiscReadFault → (number : ℕ) × (contents : Contents) × IsRestored (told_reels rack) disc.held number contents
   pub unmounted : (serial : ℕ) → (fault ≡ RackNotMounted serial) ↔ (first_unmounted rack.reels ≡ Some serial)
   pub none : fault ≡ NoDump → AreOnReels (told_reels rack) []
@@ -236,7 +241,7 @@ module _ (disc : DiscState) (rack after : Rack) where
       gate_down disc rack after said.reads now said.causes.size number made is (all_mounted DiscReadFault (first_unmounted rack.reels) (λ n e. let no : ⊥ = cc in no) said.unmounted) told belong
       (said.same (λ e. let no : ⊥ = cc in no)).0 (said.causes.reads_rose refl) s devices
   steps_down Stopped now said of told belong s devices =
-      let (number, made, is, changes) = said.stopped refl in
+      let (number, made, is, changes, survives) = said.stopped refl in
       stopped_down disc rack after said.reads now said.causes.size number made is (all_mounted Stopped (first_unmounted rack.reels) (λ n e. let no : ⊥ = cc in no) said.unmounted) told belong
       changes (said.causes.writes_rose refl) s devices
   steps_down fault now said (inl never) told belong s devices = absurd never
@@ -250,7 +255,7 @@ module _ (disc : DiscState) (rack after : Rack) where
 
   tells : (fault : StoreFault) (now : DiscState) → HasRefused disc rack after fault now → IsOfReels fault ⊎ IsOfDisc fault → AllTold disc.held (told_reels rack) → AllTold now.held (told_reels after)
   tells Stopped now said of told =
-      let (number, made, is, changes) = said.stopped refl in on_reels disc rack after said.reads (AllTold now.held) (told_then disc now (told_reels rack) made changes said.causes.size told)
+      let (number, made, is, changes, survives) = said.stopped refl in on_reels disc rack after said.reads (AllTold now.held) (told_then disc now (told_reels rack) made changes said.causes.size told)
   tells (RackNotMounted n) now said of told = quiet (RackNotMounted n) now said (λ e. let no : ⊥ = cc in no) told
   tells TapeReadFault now said of told = quiet TapeReadFault now said (λ e. let no : ⊥ = cc in no) told
   tells NoDump now said of told = quiet NoDump now said (λ e. let no : ⊥ = cc in no) told
@@ -265,6 +270,7 @@ module _ (disc : DiscState) (rack after : Rack) where
   restore_refused fault now said = record {
     refuses = record {
       causes = said.causes;
+      safe = said.safe;
       tapes = said.reads;
       tape_read = said.rose;
       tape_read_only = said.kept;

@@ -4,7 +4,7 @@ use Rattle.std.proofs.Common.{◌≡◌, ◌≢◌, ℕ, ◌+◌, Bool, true, fa
 use Rattle.std.specs.Prelude.{◌⊎◌, ◌<◌, IfSome, map, if◌then◌else◌}
 use Rattle.std.specs.Option.{ForSome, option_map}
 use Rattle.g_base.specs.Counts.{Rose, RoseBy}
-use Rattle.g_disc.specs.Disc.{Causes, DiscState, ReadsByCause}
+use Rattle.g_disc.specs.Disc.{Causes, DiscState, StayDurable}
 use Rattle.g_disc.proofs.CallLemmas.{Causes-for, stands_later, then_later}
 use Rattle.g_entry.specs.declared.head.Intent.{Intent}
 use Rattle.g_entry.specs.declared.file_rec.FileRec.{FileRec}
@@ -16,13 +16,14 @@ use Rattle.g_tape.proofs.ReadLemmas.{nothing_read}
 use Rattle.g_plain.specs.declared.faults.StoreFault.{StoreFault}
 use Rattle.g_plain.specs.declared.faults.StoreFault.TheVariants.{DiscReadFault, MountFirst, NoFilestore, NoMemory, Stopped, TapeReadFault}
 use Rattle.g_plain.specs.PlainStep.{first_fault}
+use Rattle.g_dirs.proofs.Surviving.{safe_stays}
 use Rattle.g_disc_contents.specs.Contents.{Contents, Holds, recs_in}
 use Rattle.g_disc_contents.specs.Facts.{IsTied, OnlineFacts}
 use Rattle.g_disc_contents.proofs.HoldLemmas.{holds_one}
 use Rattle.g_online.specs.Faults.{store_fault_of}
 use Rattle.g_online.specs.declared.fault.OnlineFault.{OnlineFault}
 use Rattle.g_online.specs.declared.fault.OnlineFault.TheVariants as online
-use Rattle.g_online.specs.Beginning.{HasLoaded, IsBegun}
+use Rattle.g_online.specs.Beginning.{HasLoaded, IsBegun, SecuresAndReads}
 use Rattle.g_online.specs.Change.{changed, unjammed}
 use Rattle.g_online.specs.Outcomes.{HasChanged, HasStopped}
 use Rattle.g_shelf.specs.CompletedDumps.{AreShelved, all_dumps}
@@ -47,7 +48,7 @@ use Rattle.g_store.proofs.RestoredLemmas.{same_refusal}
 use Rattle.g_store.proofs.StartLemmas as start
 
 -- the counts, after the reads of a load and what followed them
-counted : (read stop late : Type 0) (a b c : DiscState) → (read → ⊥) → (stop → late) → (late → stop) → ReadsByCause ⊥ a b → Causes ⊥ late b c → Causes read stop a c
+counted : (read stop late : Type 0) (a b c : DiscState) → (read → ⊥) → (stop → late) → (late → stop) → SecuresAndReads ⊥ a b → Causes ⊥ late b c → Causes read stop a c
 counted read stop late a b c never to back one two = record {
   size = two.size ∙ one.size;
   arms = two.arms ∙ one.arms;
@@ -65,12 +66,13 @@ module _ (disc now : DiscState) (rack after : Rack) (only : OnlyReads rack after
       subst (λ (rs : List Reel). DevicesStandFor now.size now.held rs s) (sym only.reels)
       (moved disc.size now.size disc.held now.held (told_reels rack) s size held devices)
 
-  unchanged : (fault : StoreFault) → Causes (fault ≡ DiscReadFault) (fault ≡ Stopped) disc now → (fault ≡ TapeReadFault → Rose rack.read_faults after.read_faults)
+  unchanged : StayDurable disc now → (fault : StoreFault) → Causes (fault ≡ DiscReadFault) (fault ≡ Stopped) disc now → (fault ≡ TapeReadFault → Rose rack.read_faults after.read_faults)
       → ((fault ≡ TapeReadFault → ⊥) → after.read_faults ≡ rack.read_faults)
       → (AllTold disc.held (told_reels rack) → Belong disc.held rack → (s : state.State) → DevicesStandFor disc.size disc.held (told_reels rack) s → StepsDown StartStep s disc rack fault now after)
       → Refuses (Belong disc.held rack) StartStep disc rack fault now after
-  unchanged fault causes rose kept steps = record {
+  unchanged durable fault causes rose kept steps = record {
     causes = causes;
+    safe = λ is_safe. safe_stays disc now held durable is_safe;
     tapes = only;
     tape_read = rose;
     tape_read_only = kept;
@@ -97,10 +99,10 @@ module _ (disc : DiscState) (rack : Rack) where
 
   module _ (now : DiscState) where
     abbrev Refused : OnlineFault → Type 0
-    Refused fault = ReadsByCause (fault ≡ online.ReadFault) disc now → (fault ≡ online.NoFilestore → ForSome disc.held (λ blocks. (c : Contents) → Holds blocks c → ⊥))
+    Refused fault = SecuresAndReads (fault ≡ online.ReadFault) disc now → (fault ≡ online.NoFilestore → ForSome disc.held (λ blocks. (c : Contents) → Holds blocks c → ⊥))
         → RefusesStart disc rack (store_fault_of fault) now rack
 
-    by_reads : (fault : StoreFault) (read : Type 0) → (fault ≡ DiscReadFault → read) → (read → fault ≡ DiscReadFault) → fault ≢ Stopped → ReadsByCause read disc now
+    by_reads : (fault : StoreFault) (read : Type 0) → (fault ≡ DiscReadFault → read) → (read → fault ≡ DiscReadFault) → fault ≢ Stopped → SecuresAndReads read disc now
         → Causes (fault ≡ DiscReadFault) (fault ≡ Stopped) disc now
     by_reads fault read to back other reads = record {
       size = reads.size;
@@ -114,7 +116,7 @@ module _ (disc : DiscState) (rack : Rack) where
 
     unread : Refused online.ReadFault
     unread reads none = record {
-      refuses = unchanged disc now rack rack (nothing_read rack) reads.size reads.held reads.writes DiscReadFault
+      refuses = unchanged disc now rack rack (nothing_read rack) reads.size reads.held reads.writes reads.durable DiscReadFault
           (by_reads DiscReadFault (online.ReadFault ≡ online.ReadFault) (λ e. refl) (λ e. refl) (λ e. let no : ⊥ = cc in no) reads) (λ e. let no : ⊥ = cc in absurd no) (λ no. refl)
           (λ told belong s devices. record {
             after = s;
@@ -132,7 +134,7 @@ module _ (disc : DiscState) (rack : Rack) where
 
     unfounded : Refused online.NoFilestore
     unfounded reads none = record {
-      refuses = unchanged disc now rack rack (nothing_read rack) reads.size reads.held reads.writes NoFilestore
+      refuses = unchanged disc now rack rack (nothing_read rack) reads.size reads.held reads.writes reads.durable NoFilestore
           (by_reads NoFilestore (online.NoFilestore ≡ online.ReadFault) (λ e. let no : ⊥ = cc in absurd no) (λ e. let no : ⊥ = cc in absurd no) (λ e. let no : ⊥ = cc in no) reads)
           (λ e. let no : ⊥ = cc in absurd no) (λ no. refl)
           (λ told belong s devices. record {
@@ -151,7 +153,7 @@ module _ (disc : DiscState) (rack : Rack) where
 
     starved : Refused online.NoMemory
     starved reads none = record {
-      refuses = unchanged disc now rack rack (nothing_read rack) reads.size reads.held reads.writes NoMemory
+      refuses = unchanged disc now rack rack (nothing_read rack) reads.size reads.held reads.writes reads.durable NoMemory
           (by_reads NoMemory (online.NoMemory ≡ online.ReadFault) (λ e. let no : ⊥ = cc in absurd no) (λ e. let no : ⊥ = cc in absurd no) (λ e. let no : ⊥ = cc in no) reads)
           (λ e. let no : ⊥ = cc in absurd no) (λ no. refl)
           (λ told belong s devices. stays disc now rack rack (nothing_read rack) reads.size reads.held reads.writes s devices);
@@ -255,6 +257,7 @@ module _ (disc : DiscState) (rack : Rack) (o : OnlineFacts) (loaded : HasLoaded 
           writes_kept = λ no. loaded.reads.write_faults;
           writes_rose = λ is. absurd is;
         };
+        durable = loaded.durable;
         tapes = only;
         tape_read = kept;
         wrote = record {
@@ -317,6 +320,7 @@ module _ (disc : DiscState) (rack : Rack) (o : OnlineFacts) (loaded : HasLoaded 
           unkept = unkept new begun_then;
           keeps = store_made new begun_then after tied;
           causes = all_causes;
+          durable = λ blocks was is_safe. done.durable (loaded.durable blocks was is_safe);
           tapes = only;
           tape_read = kept;
           wrote = record {
@@ -433,6 +437,9 @@ module _ (disc : DiscState) (rack : Rack) (o : OnlineFacts) (loaded : HasLoaded 
       cut_is = record {
         refuses = record {
           causes = cut_causes;
+          safe = λ is_safe blocks there.
+              let (was, is) = told_is disc.held (sym (ap is_some loaded.reads.held) ∙ sym told_same ∙ ap is_some there) in
+              (stopped.survives (loaded.durable was is is_safe)).0 blocks there;
           tapes = only;
           tape_read = λ e. let no : ⊥ = cc in absurd no;
           tape_read_only = λ no. kept;
@@ -479,7 +486,8 @@ module _ (disc : DiscState) (rack : Rack) (o : OnlineFacts) (loaded : HasLoaded 
 
     refuses_by : ((told : AllTold disc.held (told_reels rack)) (belong : Belong disc.held rack) (s : state.State) → DevicesStandFor disc.size disc.held (told_reels rack) s
         → StepsDown StartStep s disc rack fault new.disc after) → Refuses (Belong disc.held rack) StartStep disc rack fault new.disc after
-    refuses_by steps = unchanged disc new.disc rack after only same_size same_disc none_written fault no_causes rose kept steps
+    refuses_by steps =
+        unchanged disc new.disc rack after only same_size same_disc none_written (subst (λ (x : OnlineFacts). StayDurable disc x.disc) (sym same) loaded.reads.durable) fault no_causes rose kept steps
 
   module _ (told : AllTold disc.held (told_reels rack)) (belong : Belong disc.held rack) where
     abbrev at : state.State

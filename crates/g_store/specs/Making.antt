@@ -5,6 +5,8 @@ use Rattle.std.specs.FinMap.{empty}
 use Rattle.g_base.specs.Counts.{Rose}
 use Rattle.g_base.specs.ToldContent.{Changes}
 use Rattle.g_disc.specs.Disc.{Causes, DiscState}
+use Rattle.g_disc.specs.Durable.{PowerLossLeaves}
+use Rattle.g_dirs.specs.Durable.{IsDiscSafe}
 use Rattle.g_entry.specs.declared.head.Intent.{Intent}
 use Rattle.g_tape.specs.Rack.{Rack, is_mounted, reel}
 use Rattle.g_tape.specs.Reads.{OnlyReads}
@@ -16,6 +18,7 @@ use Rattle.g_store_model.specs.State.{Holding, State}
 use Rattle.g_store_model.specs.CallStep.{Outcome, Plain, DiscRead, TapeRead, Cut}
 use Rattle.g_store_model.specs.Rising.{FormatStep, StartStep, RestoreStep}
 use Rattle.g_disc_contents.specs.Contents.{Contents, Holds, has}
+use Rattle.g_disc_contents.specs.Durable.{IsDurable}
 use Rattle.g_disc_contents.specs.Facts.{OnlineFacts}
 use Rattle.g_online.specs.Beginning.{AsBeforeOr, HasLoaded, WroteFirst}
 use Rattle.g_restore.specs.Losses.{LostIsNamed}
@@ -37,6 +40,8 @@ pub record Makes {A : Type 0} (given : Type 0) (by : State → Outcome → Resul
   pub unkept : All (λ u. has new.online.changed u.number ≡ true) new.online.contents.users
   pub keeps : IsStore new
   pub causes : Causes ⊥ ⊥ disc new.online.disc
+  -- if the disc was safe, the store is durable
+  pub durable : ForSome disc.held (λ _. IsDiscSafe disc → IsDurable new.online)
   pub tapes : OnlyReads rack new.rack
   pub tape_read : new.rack.read_faults ≡ rack.read_faults
   pub wrote : WroteFirst (count reply) disc new.online
@@ -68,6 +73,8 @@ StepsDown by before disc rack fault disc' rack' = LeadsDown by before disc rack 
 -- The store isn't made, and the devices are returned.
 pub record Refuses {A : Type 0} (given : Type 0) (by : State → Outcome → Result A StoreFault → State → Type 0) (disc : DiscState) (rack : Rack) (fault : StoreFault) (disc' : DiscState) (rack' : Rack) : Type 0 where
   pub causes : Causes (fault ≡ DiscReadFault) (fault ≡ Stopped) disc disc'
+  -- a safe disc stays safe
+  pub safe : IsDiscSafe disc → IsDiscSafe disc'
   pub tapes : OnlyReads rack rack'
   pub tape_read : fault ≡ TapeReadFault → Rose rack.read_faults rack'.read_faults
   pub tape_read_only : (fault ≡ TapeReadFault → ⊥) → rack'.read_faults ≡ rack.read_faults
@@ -105,7 +112,7 @@ pub record Formats (disc : DiscState) (rack : Rack) (new : StoreFacts) : Type 0 
 pub record RefusesFormat (disc : DiscState) (rack : Rack) (fault : StoreFault) (disc' : DiscState) (rack' : Rack) : Type 0 where
   pub refuses : Refuses (Unit {0}) FormatStep disc rack fault disc' rack'
   pub full : (serial : ℕ) → (fault ≡ RackNotEmpty serial) ↔ (first_used rack.reels ≡ Some serial)
-  pub stopped : fault ≡ Stopped → (c : Contents) × IsNew c × Changes (AsBeforeOr c) disc.held disc'.held
+  pub stopped : fault ≡ Stopped → (c : Contents) × IsNew c × Changes (AsBeforeOr c) disc.held disc'.held × (IsDiscSafe disc → PowerLossLeaves (AsBeforeOr c) disc disc')
   pub only : IsOfFormat fault
 
 -- START requires that disc and rack belong together. The reel of an intent is mounted, for every rack.
@@ -160,5 +167,5 @@ pub record RefusesRestore (disc : DiscState) (rack : Rack) (fault : StoreFault) 
   pub found : ReelsTold (told_reels rack) → Belong disc.held rack → (let answer : Result ℕ StoreFault = Err fault in NothingIsLost answer)
   pub unread : fault ≡ DiscReadFault → (number : ℕ) × (contents : Contents) × IsRestored (told_reels rack) disc.held number contents
   pub stopped : fault ≡ Stopped → (number : ℕ) × (contents : Contents) × IsRestored (told_reels rack) disc.held number contents
-      × Changes (AsBeforeOr contents) disc.held disc'.held
+      × Changes (AsBeforeOr contents) disc.held disc'.held × (IsDiscSafe disc → PowerLossLeaves (AsBeforeOr contents) disc disc')
   pub only : IsOfReels fault ⊎ IsOfDisc fault

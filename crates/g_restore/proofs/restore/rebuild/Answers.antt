@@ -12,7 +12,7 @@ pub returns-in-Ok-clause-ok : goal.returns-in-Ok-clause-ok
 returns-in-Ok-clause-ok g c = ok_of g.D.Disc.state (g.D.Disc.state c.args.disc) _ _ c.in-Ok.ensures.reads _ c.in-Ok.ensures.ok _ c.make.ensures.ok c.make.ensures.number
 
 pub returns-in-Ok-clause-stopped : goal.returns-in-Ok-clause-stopped
-returns-in-Ok-clause-stopped g c = stopped_of g.D.Disc.state (g.D.Disc.state c.args.disc) _ _ c.in-Ok.ensures.reads _ c.in-Ok.ensures.ok _ c.make.ensures.stopped
+returns-in-Ok-clause-stopped g c = stopped_of g.D.Disc.state (g.D.Disc.state c.args.disc) _ _ c.in-Ok.ensures.reads _ c.in-Ok.ensures.ok _ c.make.ensures.stopped c.make.ensures.survives
 
 pub returns-in-Ok-clause-unread : goal.returns-in-Ok-clause-unread
 returns-in-Ok-clause-unread g c = unread_of g.D.Disc.state (g.D.Disc.state c.args.disc) _ _ c.in-Ok.ensures.reads _ c.in-Ok.ensures.ok _
@@ -86,6 +86,12 @@ returns-in-Err-clause-same g c = λ isnt. (refl, refl)
 
 pub returns-in-Err-clause-causes : goal.returns-in-Err-clause-causes
 returns-in-Err-clause-causes g c = idle _ _ c.in-Err.ensures.only
+
+pub returns-in-Ok-clause-safe : goal.returns-in-Ok-clause-safe
+returns-in-Ok-clause-safe g c = c.make.ensures.safe
+
+pub returns-in-Err-clause-safe : goal.returns-in-Err-clause-safe
+returns-in-Err-clause-safe g c = λ is_safe. is_safe
 
 pub returns-in-Err-clause-only : goal.returns-in-Err-clause-only
 returns-in-Err-clause-only g c = inl c.in-Err.ensures.only

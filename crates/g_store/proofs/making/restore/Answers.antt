@@ -22,6 +22,7 @@ returns-in-Err-clause-refused g c =
       rose = λ is. c.in-Err.ensures.rose (ap Err is);
       same = c.in-Err.ensures.same;
       causes = c.in-Err.ensures.causes;
+      safe = c.in-Err.ensures.safe;
       only = c.in-Err.ensures.only;
       belongs = c.in-Err.ensures.belongs_refused;
       found = c.in-Err.ensures.found;
