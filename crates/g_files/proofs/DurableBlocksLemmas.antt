@@ -147,9 +147,9 @@ pub write_gate_failed : {T E : Type 0} (n m k : ℕ) (from : List ℕ) (x y : Op
 write_gate_failed n m k from x y d d' (Ok t) some same w is = tt
 write_gate_failed n m k from x y d d' (Err e) some same w is = elim (w.gate_failed is) [
   | inl unchanged ↦ inl (
-      same_blocks m n y x same unchanged.0,
-      λ was. durable_is m 0 d' (λ below i inside. unchanged.1 (λ j low. durable_at n 0 d some was j low) i inside),
-    )
+    same_blocks m n y x same unchanged.0,
+    λ was. durable_is m 0 d' (λ below i inside. unchanged.1 (λ j low. durable_at n 0 d some was j low) i inside),
+  )
   | inr synced ↦ inr (has_synced n m d d' same synced)
 ]
 
