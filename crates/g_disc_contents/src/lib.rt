@@ -30,7 +30,6 @@ pub fn parts_hold()
 
 /// A disc whose live blocks are durable holds the same after a power loss. After a failed commit, a power loss leaves what the disc held,
 /// or the new contents.
-#[tactic(auto, using(crate::proofs::SurvivalLemmas::contents_survive, crate::proofs::SurvivalLemmas::commit_survives))]
 pub fn contents_survive()
     ensures contents { ContentsSurvive }
     ensures commit { CommitSurvives }
