@@ -1,6 +1,8 @@
-use Rattle.std.proofs.Common.{◌≡◌, refl}
+use Rattle.std.proofs.Common.{◌≡◌, is_some, refl}
 use Rattle.std.proofs.lemmas.Result.{IfErr-weaker, IfOk-weaker}
+use Rattle.g_disc.specs.Durable.{PowerLossLeaves}
 use Rattle.g_dirs.proofs.Surviving.{safe_stays}
+use Rattle.g_online.specs.Beginning.{AsBeforeOr, first_contents}
 use Rattle.g_online.specs.declared.fault.OnlineFault.TheVariants.{ReadFault, Stopped}
 use Rattle.g_online.proofs.SecuredLemmas.{Causes-SecuresAndReads, answer_safe, secured_causes, secured_failed, secured_made, secured_rules, secured_same, secured_stopped, secured_survives}
 use Rattle.g_online.proofs.online.Online.fresh.Goals as goal
@@ -31,7 +33,9 @@ returns-in-Ok-clause-causes g c =
 
 pub returns-in-Ok-clause-safe : goal.returns-in-Ok-clause-safe
 returns-in-Ok-clause-safe g c =
-    answer_safe (g.D.Disc.state c.args.disc) (g.D.Disc.state c.secure.new.self) c.in-Ok.ensures g.D.Disc.state _ c.write_filestore.result c.write_filestore.ensures.only
+    let secured = g.D.Disc.state c.secure.new.self in
+    answer_safe (g.D.Disc.state c.args.disc) secured c.in-Ok.ensures g.D.Disc.state
+    (λ left. PowerLossLeaves (AsBeforeOr (first_contents (is_some secured.held) c.args.head c.args.tree.users c.args.tree.files)) secured left) c.write_filestore.result c.write_filestore.ensures.only
     c.write_filestore.ensures.survives c.write_filestore.ensures.same c.write_filestore.ensures.still
 
 pub returns-in-Ok-clause-survives : goal.returns-in-Ok-clause-survives
