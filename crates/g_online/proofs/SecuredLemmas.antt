@@ -1,5 +1,5 @@
 -- A disc whose gate was made durable, and what was then loaded from it or created on it.
--- serves: fresh, load, StartedLemmas
+-- serves: fresh (causes, ok, safe, same, stopped, survives), load (ok, refused)
 use Rattle.std.proofs.Common.{◌≡◌, ◌≢◌, ℕ, Bool, true, List, Option, Result, Ok, Err, ap, inl, inr, is_some, refl, subst, sym, ◌∙◌}
 use Rattle.std.specs.Prelude.{◌⊎◌, IfErr, nat_eq, not}
 use Rattle.std.specs.List.{list_any}
