@@ -1,11 +1,12 @@
 -- The words of a session.
--- serves: console_words
+-- serves: answer (known), console_words
 use Rattle.std.proofs.Common.{Bool, List, [], ap, arith, codes, get_or, length, refl, sym, true, ℕ, ◌<◌, ◌∙◌, ◌∷◌, ◌≡◌, ◌≤◌, inl, inr}
 use Rattle.std.specs.Borrow.{Bor}
 use Rattle.std.specs.Str.{bytes_eq}
 use Rattle.std.proofs.lemmas.Slice.Eq.{bytes_eq-Decides}
 use Rattle.g_demo.specs.Words.{texts_of}
 use Rattle.g_program.specs.Exit.{IsConsole}
+use Rattle.g_run.specs.Input.{IsRun}
 
 one_word : (words : List (Bor (List ℕ))) (d : Bor (List ℕ)) → 1 ≤ length words → length words < 2 → texts_of words ≡ (get_or words 0 d).now ∷ []
 one_word [] d least most = absurd (omega arith)
@@ -24,3 +25,8 @@ is_one same words d least most tested is = inl (one_word words d least most ∙ 
 pub is_two : (same : Bool) (words : List (Bor (List ℕ))) (d e : Bor (List ℕ)) → 2 ≤ length words → length words < 3 → same ≡ bytes_eq (get_or words 0 d).now (codes "console") → same ≡ true → IsConsole words
 is_two same words d e least most tested is =
     inr ((get_or words 1 e).now, two_words words d e least most ∙ ap (λ (w : List ℕ). w ∷ (get_or words 1 e).now ∷ []) ((bytes_eq-Decides (get_or words 0 d).now (codes "console")).0 (sym tested ∙ is)))
+
+-- the words of a session aren't those of a run
+pub not_run : (words : List (Bor (List ℕ))) → IsConsole words → IsRun words → ⊥
+not_run words (inl is) run = cc
+not_run words (inr (log, is)) run = cc
