@@ -1,5 +1,5 @@
 -- A line that a console moved, byte by byte.
--- serves: `StdConsole::move_bytes`, and `StdConsole::take_line`, clause `taken`.
+-- serves: move_bytes, take_line (taken)
 use Rattle.std.proofs.Common.{◌≡◌, ◌≢◌, ◌≤◌, ◌<◌, ◌+◌, ℕ, false, List, [], ◌∷◌, All, Option, Some, None, IfSome, length, take, refl, sym, subst, arith, slice_set}
 use Rattle.std.proofs.lemmas.Bool.{eqb-false}
 use Rattle.std.proofs.lemmas.List.{length-set, length-take-le, take_all, take_more_set}

@@ -1,5 +1,5 @@
 -- A run by rules whose answers are also answers of other rules is a run by those: a run depends only on the answers.
--- serves: run_by_rules (anew, demo, ends)
+-- serves: run_by_rules (anew, demo, ends), SessionRuleLemmas
 use Rattle.std.proofs.Common.{◌≡◌, ℕ, List, [], ◌∷◌, Option, Some, None, inl, inr}
 use Rattle.std.specs.Fn.{Shared, FnReturnsAt}
 use denote.Ref.{Bor}

@@ -1,4 +1,5 @@
 -- A session by rules whose answers are also answers of other rules is a session by those.
+-- serves: session_by_rules (answers, ends)
 use Rattle.std.proofs.Common.{◌≡◌, ℕ, List, [], ◌∷◌, Option, Some, None}
 use Rattle.std.specs.Fn.{Shared, FnReturnsAt}
 use denote.Ref.{Bor}
