@@ -27,6 +27,13 @@ is_two same words d e least most tested is =
     inr ((get_or words 1 e).now, two_words words d e least most ∙ ap (λ (w : List ℕ). w ∷ (get_or words 1 e).now ∷ []) ((bytes_eq-Decides (get_or words 0 d).now (codes "console")).0 (sym tested ∙ is)))
 
 -- the words of a session aren't those of a run
+first_byte : List (List ℕ) → ℕ
+first_byte ((byte ∷ bytes) ∷ words) = byte
+first_byte words = 0
+
+no_run : (words others : List (List ℕ)) → words ≡ codes "console" ∷ others → words ≡ codes "run" ∷ [] → ⊥
+no_run words others is run = let same : 99 ≡ 114 = ap first_byte (sym is ∙ run) in omega (arith, same)
+
 pub not_run : (words : List (Bor (List ℕ))) → IsConsole words → IsRun words → ⊥
-not_run words (inl is) run = cc
-not_run words (inr (log, is)) run = cc
+not_run words (inl is) run = no_run (texts_of words) [] is run
+not_run words (inr (log, is)) run = no_run (texts_of words) (log ∷ []) is run
