@@ -23,11 +23,7 @@ pub(crate) fn console_words<'a>(words: &[&'a str]) -> Option<Option<&'a str>>
     ensures { MatchOption result (IsConsole words.now → ⊥) (λ log. IsConsole words.now) }
 {
     match words {
-        [word] => if *word == "console" {
-            Some(None)
-        } else {
-            None
-        },
+        [word] => if *word == "console" { Some(None) } else { None },
         [word, log] => if *word == "console" {
             Some(Some(*log))
         } else {
