@@ -1,5 +1,5 @@
 -- The first block in which two reels differ, and racks after reads.
--- serves: compare_twins
+-- serves: compare_twins (text), push_alone, push_first, push_if_alone, push_twins (text)
 use Rattle.std.proofs.Common.{◌≡◌, ◌≢◌, ◌⊎◌, ℕ, zero, suc, ◌+◌, ◌<◌, ◌≤◌, Bool, true, false, List, [], ◌∷◌, ◌++◌, length, map, take, Option, Some, None, is_some, Ok, All, refl, sym, ◌∙◌, ap, subst, inl, inr, arith, slice_get, if◌then◌else◌}
 use Rattle.std.specs.Prelude.{Err, codes, get_or, nat_eq}
 use Rattle.std.specs.Bool.{Decides}
