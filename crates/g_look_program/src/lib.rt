@@ -5,12 +5,14 @@ mod answer;
 mod mount;
 mod status;
 mod tell;
+mod twins;
 mod words;
 
 use crate::answer::answer;
 pub use answer::look;
 use g_devices::{placeholders, texts_of, words_of};
 pub use status::Status;
+pub use twins::tell_twins;
 use std::process::ExitCode;
 pub use words::{Asked, asked_by};
 
