@@ -179,7 +179,6 @@ module _ (disc : DiscState) (users : List UserRec) (files : List FileRec) (none 
       cut_is = record {
         refuses = record {
           causes = Causes-for (λ no. absurd no) (λ is. (let no : ⊥ = cc in no)) (λ _. refl) (λ _. tt) causes;
-          safe = safe;
           tapes = record { reels = refl; write_faults = refl; fuse = refl; arms = refl; read_faults = omega arith; times = λ s k. omega arith };
           tape_read = λ is. absurd (let no : ⊥ = cc in no);
           tape_read_only = λ _. refl;
@@ -189,6 +188,7 @@ module _ (disc : DiscState) (users : List UserRec) (files : List FileRec) (none 
           step = λ told given s devices. leads told s devices;
           belongs = goes_on;
         };
+        safe = safe;
         full = λ serial. (λ is. absurd (let no : ⊥ = cc in no), λ is. absurd (none-some serial (sym empty ∙ is)));
         stopped = λ is. (c, held_is, changes, survives);
         only = tt;
@@ -203,7 +203,6 @@ module _ (disc now : DiscState) (rack : Rack) (held : now.held ≡ disc.held) (w
       → ((s : state.State) → DevicesStandFor disc.size disc.held on_tape s → StepsDown FormatStep s disc rack fault now rack) → Refuses (Unit {0}) FormatStep disc rack fault now rack
   quietly fault other causes steps = record {
     causes = causes;
-    safe = safe;
     tapes = record { reels = refl; write_faults = refl; fuse = refl; arms = refl; read_faults = omega arith; times = λ s k. omega arith };
     tape_read = λ is. absurd (other is);
     tape_read_only = λ _. refl;
@@ -217,6 +216,7 @@ module _ (disc now : DiscState) (rack : Rack) (held : now.held ≡ disc.held) (w
   pub memory_is : Causes (NoMemory ≡ DiscReadFault) (NoMemory ≡ Stopped) disc now → first_used rack.reels ≡ None → RefusesFormat disc rack NoMemory now rack
   memory_is causes empty = record {
     refuses = quietly NoMemory (λ e. let no : ⊥ = cc in no) causes (λ s devices. moved disc.size now.size disc.held now.held on_tape s causes.size held devices);
+    safe = safe;
     full = λ serial. (λ is. absurd (let no : ⊥ = cc in no), λ is. absurd (none-some serial (sym empty ∙ is)));
     stopped = λ is. absurd (let no : ⊥ = cc in no);
     only = tt;
@@ -236,6 +236,7 @@ module _ (disc now : DiscState) (rack : Rack) (held : now.held ≡ disc.held) (w
           step = subst (λ (r : Option StoreFault). Event r tt s (coming_up s new_holding) (Err DiscReadFault) s)
               (sym (ap (λ (o : Option ℕ). first_fault (fault_from RackNotEmpty o ∷ (true, DiscReadFault) ∷ (false, Stopped) ∷ [])) (rows_are s devices ∙ empty))) (refl, refl);
         });
+    safe = safe;
     full = λ serial. (λ is. absurd (let no : ⊥ = cc in no), λ is. absurd (none-some serial (sym empty ∙ is)));
     stopped = λ is. absurd (let no : ⊥ = cc in no);
     only = tt;
@@ -252,6 +253,7 @@ module _ (disc now : DiscState) (rack : Rack) (held : now.held ≡ disc.held) (w
           step = subst (λ (r : Option StoreFault). Event r tt s (coming_up s new_holding) (Err (RackNotEmpty n)) s)
               (sym (ap (λ (o : Option ℕ). first_fault (fault_from RackNotEmpty o ∷ (false, DiscReadFault) ∷ (false, Stopped) ∷ [])) (rows_are s devices ∙ used))) (refl, refl);
         });
+    safe = safe;
     full = λ serial. (λ is. used ∙ ap (λ (m : ℕ). let o : Option ℕ = Some m in o) (let same : n ≡ serial = cc in same), λ is. ap RackNotEmpty (same_Some n serial (sym used ∙ is)));
     stopped = λ is. absurd (let no : ⊥ = cc in no);
     only = tt;

@@ -270,7 +270,6 @@ module _ (disc : DiscState) (rack after : Rack) where
   restore_refused fault now said = record {
     refuses = record {
       causes = said.causes;
-      safe = said.safe;
       tapes = said.reads;
       tape_read = said.rose;
       tape_read_only = said.kept;
@@ -280,6 +279,7 @@ module _ (disc : DiscState) (rack after : Rack) where
       step = λ told belong s devices. steps_down fault now said said.only told belong s devices;
       belongs = λ told was. said.belongs told.each was;
     };
+    safe = said.safe;
     unmounted = said.unmounted;
     lost = said.lost;
     none = said.none;

@@ -16,6 +16,7 @@ use Rattle.g_tape.proofs.ReadLemmas.{nothing_read}
 use Rattle.g_plain.specs.declared.faults.StoreFault.{StoreFault}
 use Rattle.g_plain.specs.declared.faults.StoreFault.TheVariants.{DiscReadFault, MountFirst, NoFilestore, NoMemory, Stopped, TapeReadFault}
 use Rattle.g_plain.specs.PlainStep.{first_fault}
+use Rattle.g_dirs.specs.Durable.{IsDiscSafe}
 use Rattle.g_dirs.proofs.Surviving.{safe_stays}
 use Rattle.g_disc_contents.specs.Contents.{Contents, Holds, recs_in}
 use Rattle.g_disc_contents.specs.Facts.{IsTied, OnlineFacts}
@@ -66,13 +67,12 @@ module _ (disc now : DiscState) (rack after : Rack) (only : OnlyReads rack after
       subst (λ (rs : List Reel). DevicesStandFor now.size now.held rs s) (sym only.reels)
       (moved disc.size now.size disc.held now.held (told_reels rack) s size held devices)
 
-  unchanged : StayDurable disc now → (fault : StoreFault) → Causes (fault ≡ DiscReadFault) (fault ≡ Stopped) disc now → (fault ≡ TapeReadFault → Rose rack.read_faults after.read_faults)
+  unchanged : (fault : StoreFault) → Causes (fault ≡ DiscReadFault) (fault ≡ Stopped) disc now → (fault ≡ TapeReadFault → Rose rack.read_faults after.read_faults)
       → ((fault ≡ TapeReadFault → ⊥) → after.read_faults ≡ rack.read_faults)
       → (AllTold disc.held (told_reels rack) → Belong disc.held rack → (s : state.State) → DevicesStandFor disc.size disc.held (told_reels rack) s → StepsDown StartStep s disc rack fault now after)
       → Refuses (Belong disc.held rack) StartStep disc rack fault now after
-  unchanged durable fault causes rose kept steps = record {
+  unchanged fault causes rose kept steps = record {
     causes = causes;
-    safe = λ is_safe. safe_stays disc now held durable is_safe;
     tapes = only;
     tape_read = rose;
     tape_read_only = kept;
@@ -116,7 +116,7 @@ module _ (disc : DiscState) (rack : Rack) where
 
     unread : Refused online.ReadFault
     unread reads none = record {
-      refuses = unchanged disc now rack rack (nothing_read rack) reads.size reads.held reads.writes reads.durable DiscReadFault
+      refuses = unchanged disc now rack rack (nothing_read rack) reads.size reads.held reads.writes DiscReadFault
           (by_reads DiscReadFault (online.ReadFault ≡ online.ReadFault) (λ e. refl) (λ e. refl) (λ e. let no : ⊥ = cc in no) reads) (λ e. let no : ⊥ = cc in absurd no) (λ no. refl)
           (λ told belong s devices. record {
             after = s;
@@ -125,6 +125,7 @@ module _ (disc : DiscState) (rack : Rack) where
             raised = reads.rose refl;
             step = read_step s s.holding;
           });
+      safe = λ is_safe. safe_stays disc now reads.held reads.durable is_safe;
       first = λ serial e. let no : ⊥ = cc in absurd no;
       none = λ e. let no : ⊥ = cc in absurd no;
       named = λ serial e. let no : ⊥ = cc in absurd no;
@@ -134,7 +135,7 @@ module _ (disc : DiscState) (rack : Rack) where
 
     unfounded : Refused online.NoFilestore
     unfounded reads none = record {
-      refuses = unchanged disc now rack rack (nothing_read rack) reads.size reads.held reads.writes reads.durable NoFilestore
+      refuses = unchanged disc now rack rack (nothing_read rack) reads.size reads.held reads.writes NoFilestore
           (by_reads NoFilestore (online.NoFilestore ≡ online.ReadFault) (λ e. let no : ⊥ = cc in absurd no) (λ e. let no : ⊥ = cc in absurd no) (λ e. let no : ⊥ = cc in no) reads)
           (λ e. let no : ⊥ = cc in absurd no) (λ no. refl)
           (λ told belong s devices. record {
@@ -144,6 +145,7 @@ module _ (disc : DiscState) (rack : Rack) where
             raised = tt;
             step = no_files (none refl) s devices;
           });
+      safe = λ is_safe. safe_stays disc now reads.held reads.durable is_safe;
       first = λ serial e. let no : ⊥ = cc in absurd no;
       none = λ e. none refl;
       named = λ serial e. let no : ⊥ = cc in absurd no;
@@ -153,10 +155,11 @@ module _ (disc : DiscState) (rack : Rack) where
 
     starved : Refused online.NoMemory
     starved reads none = record {
-      refuses = unchanged disc now rack rack (nothing_read rack) reads.size reads.held reads.writes reads.durable NoMemory
+      refuses = unchanged disc now rack rack (nothing_read rack) reads.size reads.held reads.writes NoMemory
           (by_reads NoMemory (online.NoMemory ≡ online.ReadFault) (λ e. let no : ⊥ = cc in absurd no) (λ e. let no : ⊥ = cc in absurd no) (λ e. let no : ⊥ = cc in no) reads)
           (λ e. let no : ⊥ = cc in absurd no) (λ no. refl)
           (λ told belong s devices. stays disc now rack rack (nothing_read rack) reads.size reads.held reads.writes s devices);
+      safe = λ is_safe. safe_stays disc now reads.held reads.durable is_safe;
       first = λ serial e. let no : ⊥ = cc in absurd no;
       none = λ e. let no : ⊥ = cc in absurd no;
       named = λ serial e. let no : ⊥ = cc in absurd no;
@@ -437,9 +440,6 @@ module _ (disc : DiscState) (rack : Rack) (o : OnlineFacts) (loaded : HasLoaded 
       cut_is = record {
         refuses = record {
           causes = cut_causes;
-          safe = λ is_safe blocks there.
-              let (was, is) = told_is disc.held (sym (ap is_some loaded.reads.held) ∙ sym told_same ∙ ap is_some there) in
-              (stopped.survives (loaded.durable was is is_safe)).0 blocks there;
           tapes = only;
           tape_read = λ e. let no : ⊥ = cc in absurd no;
           tape_read_only = λ no. kept;
@@ -449,6 +449,9 @@ module _ (disc : DiscState) (rack : Rack) (o : OnlineFacts) (loaded : HasLoaded 
           step = λ told belong s devices. leads told belong s devices;
           belongs = goes_on;
         };
+        safe = λ is_safe blocks there.
+            let (was, is) = told_is disc.held (sym (ap is_some loaded.reads.held) ∙ sym told_same ∙ ap is_some there) in
+            (stopped.survives (loaded.durable was is is_safe)).0 blocks there;
         first = λ serial e. let no : ⊥ = cc in absurd no;
         none = λ e. let no : ⊥ = cc in absurd no;
         named = λ serial e. let no : ⊥ = cc in absurd no;
@@ -486,8 +489,10 @@ module _ (disc : DiscState) (rack : Rack) (o : OnlineFacts) (loaded : HasLoaded 
 
     refuses_by : ((told : AllTold disc.held (told_reels rack)) (belong : Belong disc.held rack) (s : state.State) → DevicesStandFor disc.size disc.held (told_reels rack) s
         → StepsDown StartStep s disc rack fault new.disc after) → Refuses (Belong disc.held rack) StartStep disc rack fault new.disc after
-    refuses_by steps =
-        unchanged disc new.disc rack after only same_size same_disc none_written (subst (λ (x : OnlineFacts). StayDurable disc x.disc) (sym same) loaded.reads.durable) fault no_causes rose kept steps
+    refuses_by steps = unchanged disc new.disc rack after only same_size same_disc none_written fault no_causes rose kept steps
+
+    stays_safe : IsDiscSafe disc → IsDiscSafe new.disc
+    stays_safe is_safe = safe_stays disc new.disc same_disc (subst (λ (x : OnlineFacts). StayDurable disc x.disc) (sym same) loaded.reads.durable) is_safe
 
   module _ (told : AllTold disc.held (told_reels rack)) (belong : Belong disc.held rack) where
     abbrev at : state.State
@@ -560,6 +565,7 @@ module _ (disc : DiscState) (rack : Rack) (o : OnlineFacts) (loaded : HasLoaded 
                   (subst (λ (n : ℕ). Starts (start.there disc rack told belong o.contents loaded.holds) (Some (start.k disc rack told belong o.contents loaded.holds)) Plain (Err (MountFirst n))
                   (start.there disc rack told belong o.contents loaded.holds)) (sym serial_is) (unmounted_step disc rack o loaded after taken.reads told belong i is));
             });
+        safe = stays_safe disc rack o loaded after taken.reads new same fault (rose_by fault taken) (kept_by fault taken) read stop;
         first = λ n e. let at : n ≡ serial = cc in subst (λ (m : ℕ). is_mounted (reel m rack.reels) ≡ false) (sym (at ∙ serial_is)) is.mounted_is;
         none = λ e. let no : ⊥ = cc in absurd no;
         named = λ n e blocks was. let at : n ≡ serial = cc in (o.contents, loaded.holds blocks was, i, is.is, sym (at ∙ serial_is));
@@ -581,6 +587,7 @@ module _ (disc : DiscState) (rack : Rack) (o : OnlineFacts) (loaded : HasLoaded 
               raised = taken.rose refl;
               step = refused_step disc rack o loaded after taken.reads told belong TapeRead TapeReadFault s devices (unread_step disc rack o loaded after taken.reads told belong up);
             });
+        safe = stays_safe disc rack o loaded after taken.reads new same TapeReadFault (rose_by TapeReadFault taken) (kept_by TapeReadFault taken) read stop;
         first = λ n e. let no : ⊥ = cc in absurd no;
         none = λ e. let no : ⊥ = cc in absurd no;
         named = λ serial e. let no : ⊥ = cc in absurd no;
@@ -596,6 +603,7 @@ module _ (disc : DiscState) (rack : Rack) (o : OnlineFacts) (loaded : HasLoaded 
       record {
         refuses = refuses_by disc rack o loaded after taken.reads new same NoMemory (rose_by NoMemory taken) (kept_by NoMemory taken) read stop
             (λ told belong s devices. left_same disc rack o loaded after taken.reads new same NoMemory (rose_by NoMemory taken) (kept_by NoMemory taken) read stop s devices);
+        safe = stays_safe disc rack o loaded after taken.reads new same NoMemory (rose_by NoMemory taken) (kept_by NoMemory taken) read stop;
         first = λ n e. let no : ⊥ = cc in absurd no;
         none = λ e. let no : ⊥ = cc in absurd no;
         named = λ serial e. let no : ⊥ = cc in absurd no;

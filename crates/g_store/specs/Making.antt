@@ -73,8 +73,6 @@ StepsDown by before disc rack fault disc' rack' = LeadsDown by before disc rack 
 -- The store isn't made, and the devices are returned.
 pub record Refuses {A : Type 0} (given : Type 0) (by : State → Outcome → Result A StoreFault → State → Type 0) (disc : DiscState) (rack : Rack) (fault : StoreFault) (disc' : DiscState) (rack' : Rack) : Type 0 where
   pub causes : Causes (fault ≡ DiscReadFault) (fault ≡ Stopped) disc disc'
-  -- a safe disc stays safe
-  pub safe : IsDiscSafe disc → IsDiscSafe disc'
   pub tapes : OnlyReads rack rack'
   pub tape_read : fault ≡ TapeReadFault → Rose rack.read_faults rack'.read_faults
   pub tape_read_only : (fault ≡ TapeReadFault → ⊥) → rack'.read_faults ≡ rack.read_faults
@@ -111,6 +109,8 @@ pub record Formats (disc : DiscState) (rack : Rack) (new : StoreFacts) : Type 0 
 -- After a stop the disc represents what it represented before, or the new filestore.
 pub record RefusesFormat (disc : DiscState) (rack : Rack) (fault : StoreFault) (disc' : DiscState) (rack' : Rack) : Type 0 where
   pub refuses : Refuses (Unit {0}) FormatStep disc rack fault disc' rack'
+  -- a safe disc stays safe
+  pub safe : IsDiscSafe disc → IsDiscSafe disc'
   pub full : (serial : ℕ) → (fault ≡ RackNotEmpty serial) ↔ (first_used rack.reels ≡ Some serial)
   pub stopped : fault ≡ Stopped → (c : Contents) × IsNew c × Changes (AsBeforeOr c) disc.held disc'.held × (IsDiscSafe disc → PowerLossLeaves (AsBeforeOr c) disc disc')
   pub only : IsOfFormat fault
@@ -140,6 +140,8 @@ pub record Begun (disc : DiscState) (rack : Rack) (adopted : Option ℕ) (new : 
 -- Why START made no store. `MountFirst` names the reel of the intent, which isn't mounted.
 pub record RefusesStart (disc : DiscState) (rack : Rack) (fault : StoreFault) (disc' : DiscState) (rack' : Rack) : Type 0 where
   pub refuses : Refuses (Belong disc.held rack) StartStep disc rack fault disc' rack'
+  -- a safe disc stays safe
+  pub safe : IsDiscSafe disc → IsDiscSafe disc'
   pub first : (serial : ℕ) → fault ≡ MountFirst serial → is_mounted (reel serial rack.reels) ≡ false
   -- for an exposed disc, whether or not disc and rack belong together
   pub none : fault ≡ NoFilestore → ForSome disc.held (λ blocks. (c : Contents) → Holds blocks c → ⊥)
@@ -161,6 +163,8 @@ pub record Restored (disc : DiscState) (rack : Rack) (number : ℕ) (new : Store
 -- something.
 pub record RefusesRestore (disc : DiscState) (rack : Rack) (fault : StoreFault) (disc' : DiscState) (rack' : Rack) : Type 0 where
   pub refuses : Refuses (Belong disc.held rack) RestoreStep disc rack fault disc' rack'
+  -- a safe disc stays safe
+  pub safe : IsDiscSafe disc → IsDiscSafe disc'
   pub unmounted : (serial : ℕ) → (fault ≡ RackNotMounted serial) ↔ (first_unmounted rack.reels ≡ Some serial)
   pub lost : (let answer : Result ℕ StoreFault = Err fault in LostIsNamed (told_reels rack) answer)
   pub none : fault ≡ NoDump → AreOnReels (told_reels rack) []
