@@ -13,7 +13,7 @@
  *
  * FAULT makes one of these calls go wrong, counted from 1: `kill N` kills the process just before its call N, `fail N` makes call N
  * fail (a sync with EIO, a write with ENOSPC), and `full N` also each later write and sync of the same file. BAD_READ names a file
- * whose reads fail.
+ * whose reads fail, from byte BAD_FROM on if that is set.
  */
 #define _GNU_SOURCE
 #include <errno.h>
@@ -32,6 +32,7 @@ static int record = -1;
 static long calls, kill_at, fail_at;
 static int stays_full;
 static unsigned long full_ino, bad_ino;
+static off_t bad_from;
 
 static unsigned long ino_of(int fd) {
     struct stat about;
@@ -55,6 +56,7 @@ __attribute__((constructor)) static void begin(void) {
     if (fault && !strncmp(fault, "fail ", 5)) fail_at = atol(fault + 5);
     if (fault && !strncmp(fault, "full ", 5)) fail_at = atol(fault + 5), stays_full = 1;
     if (bad && !stat(bad, &about)) bad_ino = about.st_ino;
+    if (getenv("BAD_FROM")) bad_from = atol(getenv("BAD_FROM"));
 }
 
 static void note(char what, unsigned long ino, off_t at, const void *bytes, size_t n) {
@@ -95,9 +97,12 @@ ssize_t pwrite64(int fd, const void *bytes, size_t n, off_t at) {
 ssize_t pwrite(int fd, const void *bytes, size_t n, off_t at) { return pwrite64(fd, bytes, n, at); }
 
 ssize_t pread64(int fd, void *into, size_t n, off_t at) {
-    if (bad_ino && ino_of(fd) == bad_ino) {
-        errno = EIO;
-        return -1;
+    if (bad_ino && at + (off_t)n > bad_from && ino_of(fd) == bad_ino) {
+        if (at >= bad_from) {
+            errno = EIO;
+            return -1;
+        }
+        n = bad_from - at;
     }
     return syscall(SYS_pread64, fd, into, n, at);
 }

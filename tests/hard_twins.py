@@ -148,7 +148,7 @@ def tests(hard):
         """A reel that can't be used is named with its folder, and all stays; when it is moved away it is rebuilt."""
         long = b"the image or a reel isn't as long as it may be, or there are too many reels"
         kept = b"the image, the rack or a reel may not be read and written"
-        cases = [("of a wrong length", long, lambda path: os.truncate(path, 100))]
+        cases = [("that is too long", long, lambda path: os.truncate(path, 8193 * BLOCK))]
         if hard.AS_NOBODY or os.geteuid():
             cases.append(("that may not be read", kept, lambda path: os.chmod(path, 0)))
         for rack, twin, other in ((RACK, "first", "second"), (SECOND, "second", "first")):
@@ -187,7 +187,6 @@ def tests(hard):
     def kinds():
         """Reels of wrong sizes, too many of them, and second folders of every wrong kind: 7, and all stays."""
         for what, first, second in (
-            ("half a block", {"1.tape": 0}, {"1.tape": 256}),
             ("a reel that is too long", {}, {"3.tape": 8193 * BLOCK}),
             ("nine and nine reels", {f"{k}.tape": 0 for k in range(1, 10)}, {f"{k}.tape": 0 for k in range(11, 20)}),
         ):
@@ -435,7 +434,41 @@ def tests(hard):
                 check(f"a broken reel of {rack}", (status, text) == (7, b"") and f"{rack}/1.tape".encode() in told, (status, text, told))
                 check(f"a broken reel of {rack} leaves both racks", racks_of(folder) == before)
 
-    more = (begun_again, unreadable)
+    def torn_off():
+        """A piece of a block at a reel's end doesn't count: if it ends the first reel of whole blocks both are alike, and a reel that
+        has nothing else is rebuilt."""
+        for rack, twin in ((RACK, "first"), (SECOND, "second")):
+            with with_pair() as (folder, _):
+                reels, name = rack_of(folder, RACK), f"{rack}/1.tape"
+                folder.put(reels["1.tape"] + bytes(100), name)
+                check_told(f"a piece after the {twin} reel", folder.run(START), 0, START_TEXT, b"")
+                check_same(f"a piece after the {twin} reel is cut off", folder, reels)
+                folder.put(bytes(100), name)
+                check_told(f"the {twin} reel is a piece of a block", folder.run(START), 0, START_TEXT, rebuilt((1, twin)))
+                check_same(f"the {twin} reel was a piece of a block", folder, reels)
+
+    def rebuilt_in_part():
+        """A second reel that differs isn't touched if the first one can't be read to its end, so it can replace it."""
+        if not hard.hard_losses.can_record(hard, "a twin that can't be read to its end", True):
+            return
+        for block in (3, 4, 5):
+            with with_pair() as (folder, _):
+                reels, path = rack_of(folder, RACK), folder.at(f"{SECOND}/1.tape")
+                with open(path, "r+b") as it:
+                    it.seek(2 * BLOCK)
+                    it.write(b"J")
+                before = racks_of(folder)
+                bad = {"LD_PRELOAD": hard.RECORDER, "BAD_READ": f"{RACK}/1.tape", "BAD_FROM": str(block * BLOCK)}
+                status, text, told = folder.run(START, env=bad)
+                good = (status, text) == (7, b"") and f"the cause is the first reel, {RACK}/1.tape; if the second is whole".encode() in told
+                check(f"a first reel that can't be read from block {block} on", good, (status, text, told))
+                after = racks_of(folder)
+                kept = after[0] == before[0] and {**after[1], **before[1]} == after[1]
+                check(f"both reels stay, behind block {block}", kept, {it: len(after[1][it]) for it in after[1]})
+                check_told(f"the next start behind block {block}", folder.run(b""), 0, b"", rebuilt((1, "second")))
+                check_same(f"both racks behind block {block}", folder, reels)
+
+    more = (begun_again, unreadable, torn_off, rebuilt_in_part)
     return (two_racks, damaged, broken, links, kinds, locks, torn, full_second, failing_calls, kills_in_runs, kills_in_rebuilding, *more)
 
 

@@ -14,13 +14,21 @@ pub(crate) fn start_of(k: u32) -> u64
     u64::from(k) * BLOCK_BYTES
 }
 
-/// How many blocks the file has, or `InvalidData` where it is no plain file, or where they aren't whole or more than a disc
-/// or a reel can have.
+/// How many whole blocks the file has. A piece of a block at its end doesn't count: a write that a kill or a power loss interrupted
+/// may have left it. `InvalidData` if the file is no plain file, or has more blocks than a reel can have.
 pub(crate) fn blocks_in(file: &File) -> io::Result<u32> {
     let about = file.metadata()?;
     let bytes = about.len();
     match u32::try_from(bytes / BLOCK_BYTES) {
-        Ok(blocks) if about.is_file() && bytes % BLOCK_BYTES == 0 => Ok(blocks),
+        Ok(blocks) if about.is_file() => Ok(blocks),
         _ => Err(Error::from(ErrorKind::InvalidData)),
+    }
+}
+
+/// Whether the file has at least n blocks; false if the system doesn't say.
+pub(crate) fn has_blocks(file: &File, n: u32) -> bool {
+    match file.metadata() {
+        Ok(about) => start_of(n) <= about.len(),
+        Err(_) => false,
     }
 }

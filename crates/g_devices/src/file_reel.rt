@@ -4,7 +4,7 @@ ghost use Rattle.g_tape.specs.Rack.{refuses_write};
 ghost use Rattle.g_tape.specs.Reel.{IsReel, Remains, cut_at, ending, left_by, untold_reel, with_mounted};
 
 use crate::ahead::ReadAhead;
-use crate::blocks::start_of;
+use crate::blocks::{has_blocks, start_of};
 use crate::names::{FileId, id_of};
 use crate::reach::Reach;
 use g_base::{Block, WriteFailed};
@@ -179,15 +179,24 @@ impl FileReel {
         if k > 0 && self.reach == Reach::Unknown && self.secure().is_err() {
             return Err(Left::Unchanged);
         }
-        if self.file.set_len(start_of(k)).is_err() {
-            return Err(Left::Unchanged);
-        }
         self.durable = self.durable.min(k);
+        if self.file.set_len(start_of(k)).is_err() {
+            return Err(self.left_by_cut());
+        }
         self.reach = Reach::Behind;
         if self.bring(k).is_err() {
             return Err(Left::Shortened);
         }
         Ok(())
+    }
+
+    /// What a failed cut left: all blocks if the file still has them, and otherwise those before the cut.
+    fn left_by_cut(&self) -> Left {
+        if has_blocks(&self.file, self.state.len()) {
+            Left::Unchanged
+        } else {
+            Left::Shortened
+        }
     }
 
     /// Makes the k blocks of the file durable before a block that follows them, if that block or an earlier run needs it.
@@ -203,7 +212,8 @@ impl FileReel {
         }
     }
 
-    /// Writes block k behind the last one of the file. If that fails the file is cut there again.
+    /// Writes block k after the last one of the file. If that fails the file is cut there again; if that fails too, the block counts
+    /// if the file has it.
     fn append(&mut self, k: u32, bytes: &[u8]) -> Result<(), Left>
         requires { k + 1 < 2 ^ 32 }
         ensures { self.new ≡ self.old }
@@ -212,7 +222,7 @@ impl FileReel {
         if self.put(k, bytes).is_ok() {
             return Ok(());
         }
-        if self.file.set_len(start_of(k)).is_err() {
+        if self.file.set_len(start_of(k)).is_err() && has_blocks(&self.file, k + 1) {
             return Err(Left::Torn);
         }
         Err(Left::Shortened)
@@ -290,8 +300,11 @@ impl FileReel {
         self.set_mounted(false);
     }
 
-    /// Syncs what this run wrote.
-    pub fn sync(&self) -> io::Result<()> {
+    /// Cuts off what a failed call may have left after the reel, and syncs what this run wrote, at the end of a run.
+    pub fn finish(&self) -> io::Result<()> {
+        if self.reach == Reach::Failed {
+            self.file.set_len(start_of(self.state.len()))?;
+        }
         if self.reach == Reach::Behind || self.reach == Reach::Failed {
             self.file.sync_data()
         } else {

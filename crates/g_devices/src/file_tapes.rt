@@ -44,11 +44,15 @@ impl FileTapes {
         }
     }
 
-    /// Syncs what this run wrote, at its end. No promise depends on it: each completed dump is durable already.
-    pub fn sync(&self) {
+    /// Cuts off what failed calls may have left after the reels, and syncs what this run wrote, at its end. If that fails for a reel,
+    /// the others are finished all the same, and the error is that of the first. No promise depends on it: each completed dump is
+    /// durable already.
+    pub fn finish(&self) -> io::Result<()> {
+        let mut finished = Ok(());
         for reel in &self.reels {
-            let _synced = reel.sync();
+            finished = finished.and(reel.finish());
         }
+        finished
     }
 
     /// Which files its reels are in.

@@ -5,7 +5,7 @@ ghost use Rattle.g_tape.specs.Reel.{IsReel};
 
 use crate::ahead::ReadAhead;
 use crate::alike::are_alike;
-use crate::claim::{Access, claim, claim_folder, sync_folder};
+use crate::claim::{Access, claim, claim_folder};
 use crate::file_reel::FileReel;
 use crate::file_tapes::FileTapes;
 use crate::names::{is_link, is_there, open_folder, open_unready, sync_folder_of, target_of};
@@ -17,6 +17,9 @@ use g_tape::Tapes;
 use std::fs::{self, File};
 use std::io::{self, Error, ErrorKind};
 
+/// The bytes of a block.
+const BLOCK_BYTES: u64 = 512;
+
 /// The reels of two folders, in rising serial, and those that have to be rebuilt.
 #[derive(Drop)]
 struct Reels {
@@ -25,14 +28,30 @@ struct Reels {
     lost: Vec<(u32, Twin)>,
 }
 
+/// The folders of two racks.
+#[derive(Clone, Copy)]
+struct Folders<'a> {
+    first: &'a str,
+    second: &'a str,
+}
+
+impl<'a> Folders<'a> {
+    /// The folder of a twin.
+    fn of(self, twin: Twin) -> &'a str {
+        match twin {
+            Twin::First => self.first,
+            Twin::Second => self.second,
+        }
+    }
+}
+
 /// Opens the racks of two folders as one, for this run only. The first is made if it isn't there; the second must be. A reel that
 /// one folder lacks is rebuilt from the other's; if both have it and they differ, the first's is rebuilt if only that has no block,
 /// and otherwise the second's. The list says which were rebuilt. The names in both folders are durable then.
 ///
 /// The error is one of `open_rack`; or `InvalidData` if there are more than 16 reels in both. If it lies in one reel, the fault
-/// names that. A reel of the first folder that is rebuilt gets its name when it is whole, so if this is interrupted the next start
-/// begins again, and nothing is lost of what the other one holds. A reel that is a link stays one: the file that it leads to is
-/// rebuilt.
+/// names that. A reel that is rebuilt gets its name when it is whole, so if this is interrupted the next start begins again, and
+/// nothing is lost of what either one holds. A reel that is a link stays one: the file that it leads to is rebuilt.
 pub fn open_duplex(
     rt: &HostRuntime,
     first: &str,
@@ -56,7 +75,7 @@ pub fn open_duplex(
         &lost,
     );
     for entry in &lost {
-        rebuild(rt, first, second, &mut pair, entry.0)?;
+        rebuild(rt, Folders { first, second }, &mut pair, entry.0)?;
     }
     Ok((pair, lost))
 }
@@ -105,8 +124,8 @@ fn serials_of_both(rt: &HostRuntime, first: &str, second: &str) -> io::Result<Ve
     Ok(serials)
 }
 
-/// Opens the two reels of a serial, and says which of them has to be rebuilt. If the first folder has none, or one that has to be
-/// rebuilt, a file that waits for its name is opened in its place; if the second has none, an empty one is made.
+/// Opens the two reels of a serial, and says which of them has to be rebuilt. If a folder has none, or one that has to be rebuilt, a
+/// file that waits for its name is opened in its place.
 fn open_twins(
     rt: &HostRuntime,
     first: &str,
@@ -118,30 +137,30 @@ fn open_twins(
 {
     if !has_reel(rt, first, serial)? {
         let other = open_twin(rt, second, serial, Twin::Second, false)?;
-        let reel = open_first_again(rt, first, serial)?;
+        let reel = open_again(rt, first, serial, Twin::First)?;
         return Ok((reel, other, Some(Twin::First)));
     }
-    let has_other = holds_blocks(rt, second, serial)?;
+    let has_other = holds_blocks(rt, second, serial.number)?;
     let reel = open_twin(rt, first, serial, Twin::First, has_other)?;
-    sync_target(rt, first, serial)?;
-    let has_other = reel.state().len() > 0;
     if !has_reel(rt, second, serial)? {
-        make_reel(rt, second, serial)?;
-        let other = open_twin(rt, second, serial, Twin::Second, has_other)?;
+        let other = open_again(rt, second, serial, Twin::Second)?;
         return Ok((reel, other, Some(Twin::Second)));
     }
+    let has_other = reel.state().len() > 0;
     let other = open_twin(rt, second, serial, Twin::Second, has_other)?;
     if hold_same(rt, &reel, &other)? {
         return Ok((reel, other, None));
     }
-    if reel.state().len() == 0 {
-        let again = open_first_again(rt, first, serial)?;
+    if !has_other {
+        let again = open_again(rt, first, serial, Twin::First)?;
         return Ok((again, other, Some(Twin::First)));
     }
-    Ok((reel, other, Some(Twin::Second)))
+    let again = open_again(rt, second, serial, Twin::Second)?;
+    Ok((reel, again, Some(Twin::Second)))
 }
 
-/// Opens the reel of a serial in one of the folders, or names it in the fault, which says whether the other one has blocks.
+/// Opens the reel of a serial in one of the folders, or names it in the fault, which says whether the other one has blocks. If it is a
+/// link, the name of the file that it leads to is durable then.
 fn open_twin(
     rt: &HostRuntime,
     folder: &str,
@@ -151,28 +170,31 @@ fn open_twin(
 ) -> Result<FileReel, PairFault>
     ensures { IfOk result IsReel }
 {
-    match open_reel(rt, folder, serial, Access::Run) {
+    match open_linked(rt, folder, serial) {
         Ok(reel) => Ok(reel),
         Err(error) => Err(PairFault::in_reel(serial.number, twin, has_other, error)),
     }
 }
 
-/// Opens the file in which the first folder's reel is rebuilt, or names that in the fault.
-fn open_first_again(rt: &HostRuntime, first: &str, serial: Serial) -> Result<FileReel, PairFault>
+/// Opens the reel of a serial. If that is a link, makes the name of the file durable that it leads to: an earlier run may have been
+/// killed after it rebuilt that.
+fn open_linked(rt: &HostRuntime, folder: &str, serial: Serial) -> io::Result<FileReel>
     ensures { IfOk result IsReel }
 {
-    match open_again(rt, first, serial) {
-        Ok(reel) => Ok(reel),
-        Err(error) => Err(PairFault::not_rebuilt(serial.number, Twin::First, error)),
-    }
-}
-
-/// Whether there is a reel of this serial in the folder, or what a link of its name leads to, and it isn't empty.
-fn holds_blocks(rt: &HostRuntime, folder: &str, serial: Serial) -> io::Result<bool> {
+    let reel = open_reel(rt, folder, serial, Access::Run)?;
     let number = serial.number;
     let path = format!(in rt.alloc(); "{folder}/{number}.tape")?;
+    if is_link(rt, path.as_str())? {
+        sync_folder_of(rt, target_of(rt, path.as_str())?.as_str())?;
+    }
+    Ok(reel)
+}
+
+/// Whether there is a reel of this serial in the folder, or what a link of its name leads to, and it has a block.
+fn holds_blocks(rt: &HostRuntime, folder: &str, serial: u32) -> io::Result<bool> {
+    let path = format!(in rt.alloc(); "{folder}/{serial}.tape")?;
     match fs::metadata(rt, path.as_str()) {
-        Ok(about) => Ok(about.len() > 0),
+        Ok(about) => Ok(about.len() >= BLOCK_BYTES),
         Err(_) => Ok(false),
     }
 }
@@ -184,40 +206,28 @@ fn has_reel(rt: &HostRuntime, folder: &str, serial: Serial) -> io::Result<bool> 
     is_there(rt, path.as_str())
 }
 
-/// Makes the file of an empty reel.
-fn make_reel(rt: &HostRuntime, folder: &str, serial: Serial) -> io::Result<()> {
-    let number = serial.number;
-    let path = format!(in rt.alloc(); "{folder}/{number}.tape")?;
-    let _file = open_unready(rt, path.as_str())?;
-    Ok(())
-}
-
-/// If the first folder's reel is a link, makes the name durable of the file that it leads to: an earlier run may have been killed
-/// after it rebuilt that.
-fn sync_target(rt: &HostRuntime, first: &str, serial: Serial) -> Result<(), PairFault> {
-    match sync_linked(rt, first, serial) {
-        Ok(()) => Ok(()),
-        Err(error) => Err(PairFault::in_reel(serial.number, Twin::First, false, error)),
+/// Opens the file in which a reel is rebuilt, or names that in the fault.
+fn open_again(
+    rt: &HostRuntime,
+    folder: &str,
+    serial: Serial,
+    twin: Twin,
+) -> Result<FileReel, PairFault>
+    ensures { IfOk result IsReel }
+{
+    match open_waiting(rt, folder, serial) {
+        Ok(reel) => Ok(reel),
+        Err(error) => Err(PairFault::not_rebuilt(serial.number, twin, error)),
     }
 }
 
-/// Syncs the folder of the file that the reel's name leads to as a link, if it is one.
-fn sync_linked(rt: &HostRuntime, folder: &str, serial: Serial) -> io::Result<()> {
-    let number = serial.number;
-    let path = format!(in rt.alloc(); "{folder}/{number}.tape")?;
-    if is_link(rt, path.as_str())? {
-        sync_folder_of(rt, target_of(rt, path.as_str())?.as_str())?;
-    }
-    Ok(())
-}
-
-/// Opens an empty file that gets the name of the first folder's reel when it is whole. If that is a link, the new file lies beside
-/// the one that it leads to.
-fn open_again(rt: &HostRuntime, first: &str, serial: Serial) -> io::Result<FileReel>
+/// Opens an empty file that gets the name of the reel when it is whole. If that name is a link, the new file lies beside the one that
+/// it leads to.
+fn open_waiting(rt: &HostRuntime, folder: &str, serial: Serial) -> io::Result<FileReel>
     ensures { IfOk result IsReel }
 {
     let number = serial.number;
-    let path = format!(in rt.alloc(); "{first}/{number}.tape")?;
+    let path = format!(in rt.alloc(); "{folder}/{number}.tape")?;
     let target = target_of(rt, path.as_str())?;
     let unready = format!(in rt.alloc(); "{target}.new")?;
     let file = open_unready(rt, unready.as_str())?;
@@ -253,8 +263,7 @@ fn hold_same(rt: &HostRuntime, reel: &FileReel, other: &FileReel) -> Result<bool
 /// Rebuilds the lost reel of a serial from the other one, makes it durable, and gives it its name.
 fn rebuild(
     rt: &HostRuntime,
-    first: &str,
-    second: &str,
+    folders: Folders,
     pair: &mut Duplex<FileTapes>,
     serial: u32,
 ) -> Result<(), PairFault> {
@@ -262,43 +271,39 @@ fn rebuild(
     let Some(Standing::Lost(twin)) = pair.standing(serial) else {
         return Ok(());
     };
+    let folder = folders.of(twin);
     if let Err(fault) = pair.rebuild_twin(serial, twin) {
-        return Err(fault_of(serial, twin, fault));
+        let is_there = holds_blocks(rt, folder, serial)?;
+        return Err(fault_of(serial, twin, is_there, fault));
     }
-    let finished = match twin {
-        Twin::First => finish_first(rt, first, serial),
-        Twin::Second => finish_second(rt, second, serial),
-    };
-    if let Err(error) = finished {
+    if let Err(error) = name_rebuilt(rt, folder, serial) {
         return Err(PairFault::not_rebuilt(serial, twin, error));
     }
     let _unmounted = pair.unmount(serial);
     Ok(())
 }
 
-/// Why this reel of a serial can't be rebuilt from the other one: that can't be read, or this one can't be written.
-fn fault_of(serial: u32, twin: Twin, fault: DuplexFault) -> PairFault {
+/// Why this reel of a serial can't be rebuilt from the other one: that can't be read, or this one can't be written. What this one
+/// held, if anything, is still under its name.
+fn fault_of(serial: u32, twin: Twin, is_there: bool, fault: DuplexFault) -> PairFault {
     let error = Error::from(ErrorKind::Other);
     match (fault, twin) {
-        (DuplexFault::ReadFailed, Twin::First) => PairFault::OnlyReel(serial, Twin::Second, error),
-        (DuplexFault::ReadFailed, Twin::Second) => PairFault::OnlyReel(serial, Twin::First, error),
+        (DuplexFault::ReadFailed, Twin::First) => {
+            PairFault::in_reel(serial, Twin::Second, is_there, error)
+        }
+        (DuplexFault::ReadFailed, Twin::Second) => {
+            PairFault::in_reel(serial, Twin::First, is_there, error)
+        }
         _ => PairFault::NotRebuilt(serial, twin, error),
     }
 }
 
-/// Makes the first folder's reel durable that was rebuilt, and gives it its name, or that of the file that this leads to.
-fn finish_first(rt: &HostRuntime, first: &str, serial: u32) -> io::Result<()> {
-    let path = format!(in rt.alloc(); "{first}/{serial}.tape")?;
+/// Makes a rebuilt reel durable, and gives it its name, or that of the file that this leads to.
+fn name_rebuilt(rt: &HostRuntime, folder: &str, serial: u32) -> io::Result<()> {
+    let path = format!(in rt.alloc(); "{folder}/{serial}.tape")?;
     let target = target_of(rt, path.as_str())?;
     let unready = format!(in rt.alloc(); "{target}.new")?;
     File::open(rt, unready.as_str())?.sync_all()?;
     fs::rename(rt, unready.as_str(), target.as_str())?;
     sync_folder_of(rt, target.as_str())
-}
-
-/// Makes the second folder's reel durable that was rebuilt, with its name.
-fn finish_second(rt: &HostRuntime, second: &str, serial: u32) -> io::Result<()> {
-    let path = format!(in rt.alloc(); "{second}/{serial}.tape")?;
-    File::open(rt, path.as_str())?.sync_all()?;
-    sync_folder(rt, second)
 }

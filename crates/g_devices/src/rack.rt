@@ -24,23 +24,22 @@ pub(crate) struct Serial {
     ghost limits: { (1 ≤ number) × (number ≤ 999999) },
 }
 
-/// Opens the rack of a folder for this run alone. Each of its files `SERIAL.tape`, with a serial from 1 to
-/// 999,999 without a leading zero, is a reel that can hold 8,192 blocks; none is mounted. Other names are
-/// passed by. Where there is no such folder it is made, with the empty reels 1 and 2.
+/// Opens the rack of a folder for this run only. Each file `SERIAL.tape` in it, with a serial from 1 to 999,999 without a leading zero,
+/// is a reel with room for 8,192 blocks; none is mounted. Other names are ignored, and so is a piece of a block at a reel's end. If
+/// there is no such folder it is made, with the empty reels 1 and 2.
 ///
-/// The error is `WouldBlock` where another run has the rack, or a file that is one of its reels, or where two reels are
-/// one file, or one is the image of this run; `NotADirectory` where there is no folder, and `InvalidInput` where a reel
-/// is no plain file; `InvalidData` where there are more than 16 reels, or where one isn't whole blocks, at most 8,192;
-/// else it is the system's, or `AlreadyExists` where the name is a link to nowhere, or where under the name that a rack
-/// has in its making lies what no making left. What was there stays.
+/// The error is `WouldBlock` if another run has the rack or a file that is one of its reels, or if two reels are one file, or one is
+/// the image of this run; `NotADirectory` if the name isn't a folder's, and `InvalidInput` if a reel is no plain file; `InvalidData`
+/// if there are more than 16 reels, or one has more than 8,192 blocks; `AlreadyExists` if the name is a link to nowhere, or if the
+/// name under which a rack is made is taken by something else; otherwise it is the system's. What was there is unchanged.
 pub fn open_rack(rt: &HostRuntime, folder: &str) -> io::Result<FileTapes> {
     let opened = open_or_make(rt, folder)?;
     reels_in(rt, folder, opened, Access::Run)
 }
 
-/// Opens the rack that is there to be looked at: its reels can't be written, and are locked so that no run takes them.
+/// Opens an existing rack for a look: its reels can't be written, and are locked so that no run takes them.
 ///
-/// The error is `NotFound` where there is none, `WouldBlock` where a run has it; else it is as `open_rack`'s.
+/// The error is `NotFound` if there is none, `WouldBlock` if a run has it; otherwise it is one of `open_rack`.
 pub(crate) fn look_at_rack(rt: &HostRuntime, folder: &str) -> io::Result<FileTapes> {
     let opened = open_folder(rt, folder)?;
     reels_in(rt, folder, opened, Access::Look)

@@ -1,5 +1,5 @@
 -- What a disc holds after a power loss.
--- serves: lib, crates above
+-- serves: contents_survive (commit, contents), crates above
 use Rattle.std.proofs.Common.{◌≡◌, ◌⊎◌, ℕ, List, [], ◌∷◌, ◌++◌, length, take, true, Some, None, refl, sym, ◌∙◌, ap, arith, inl, inr, slice_get}
 use Rattle.std.specs.Prelude.{Contains, map, slice_index_or}
 use Rattle.std.specs.List.{flat_map}

@@ -1,5 +1,5 @@
 -- What reads and writes of bytes do to blocks of 512 bytes.
--- serves: read, size (blocks), write_block (block, torn)
+-- serves: read, secure, size (blocks), write_block (block, torn), DurableBlocksLemmas
 use Rattle.std.proofs.Common.{◌≡◌, ℕ, ◌+◌, ◌*◌, ◌<◌, ◌≤◌, List, length, replicate, Result, Ok, Err, OnErr, OnOk, Some, None, refl, sym, ap, subst, ◌∙◌, arith}
 use Rattle.std.specs.Prelude.{All, Option, option_map, slice_get, slice_set}
 use Rattle.std.specs.Option.{ForSome}

@@ -1,5 +1,5 @@
 -- What flushes, writes and syncs do to durable and syncable bytes and blocks.
--- serves: `Image`
+-- serves: flush (durability, gate), size (syncable), write (durability), write_at (gate), write_block (durability), write_through (durability)
 use Rattle.std.proofs.Common.{◌≡◌, ◌⊎◌, ℕ, ◌+◌, ◌-◌, ◌*◌, ◌<◌, ◌≤◌, Bool, true, false, List, [], length, Result, Ok, Err, is_err, OnErr, OnOk, ltb, leb, refl, sym, ap, subst, ◌∙◌, inl, inr, arith}
 use Rattle.std.specs.Prelude.{◌≢◌, ◌/◌, Option, not, ◌&&◌, ◌||◌}
 use Rattle.std.proofs.lemmas.Bool.{and_from, and_left, and_parts, and_right, cases_lt, le-leb, leb-true, lt-leb, lt-ltb, le-ltb, ltb-true, ltb-false, leb-false, not-true, not_from_false, or_cases, or_left, or_right, and_cases}

@@ -1,5 +1,5 @@
 -- Which blocks of a disc on a file are durable, from the durable bytes of the file.
--- serves: `FileDisc`, `blocks_are_their_bytes`
+-- serves: blocks_are_their_bytes, finish (durable, syncable, synced), open (opened), read, secure, size (syncable), write
 use Rattle.std.proofs.Common.{◌≡◌, ℕ, zero, suc, ◌+◌, ◌*◌, ◌<◌, ◌≤◌, Bool, true, false, List, None, length, eqb, leb, ltb, Result, Ok, Err, OnErr, OnOk, refl, sym, ap, subst, ◌∙◌, inl, inr, arith}
 use Rattle.std.specs.Prelude.{◌≢◌, ◌⊎◌, Option, not, ◌&&◌, ◌||◌, option_map}
 use Rattle.std.specs.List.{list_any}

@@ -1,5 +1,5 @@
 -- What reads see of a file with buffered bytes written over it.
--- serves: buffer (written), flush (same), over (seen), read (block), read_file (block), read_gate (gate), size (blocks), write_again (same), and 2 more
+-- serves: buffer (written), flush (bytes, same), over (seen), read (block), read_file (block), read_gate (gate), size (blocks), and 3 more
 use Rattle.std.proofs.Common.{◌≡◌, ◌⊎◌, ℕ, ◌+◌, ◌-◌, ◌≤◌, List, [], ◌++◌, length, take, drop, Result, Ok, Some, None, refl, sym, ap, subst, ◌∙◌, inl, inr, arith, length-take, length-drop}
 use Rattle.std.specs.Prelude.{Option, option_map}
 use Rattle.std.specs.Option.{ForSome}

@@ -1,5 +1,5 @@
 -- Durable and syncable bytes over the calls of one whole write.
--- serves: `write_whole`, `write_at` of `Image`
+-- serves: write_at (durability), write_whole (durability)
 use Rattle.std.proofs.Common.{◌≡◌, ℕ, ◌+◌, ◌-◌, ◌<◌, ◌≤◌, true, List, length, take, drop, false, Result, Ok, Err, is_err, Some, refl, sym, ap, subst, ◌∙◌, inl, inr, arith, length-drop, length-take}
 use Rattle.std.specs.Prelude.{◌/◌, Option}
 use Rattle.std.specs.Option.{ForSome}

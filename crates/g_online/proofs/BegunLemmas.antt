@@ -1,5 +1,5 @@
 -- What a filestore is at its beginning.
--- serves: begin (tied), find (none), fresh (ok, stopped, survives), load (none, ok), numbers_of
+-- serves: begin (tied), find (none), numbers_of, read_filestore (none, ok), write_filestore (ok, stopped, survives)
 use Rattle.std.proofs.Common.{◌≡◌, ◌≢◌, ℕ, zero, suc, ◌+◌, ◌<◌, ◌≤◌, ◌==◌, Bool, true, false, ◌||◌, List, [], ◌∷◌, ◌++◌, length, get_or, map, filter, replicate, take, Option, Some, None, Ok, All, AllPairs, refl, sym, ◌∙◌, ap, subst, inl, inr, arith, slice_get, if◌then◌else◌, is_some}
 use Rattle.std.specs.Prelude.{Contains, IfSome, nat_eq, nat_lt, not, ◌⊎◌}
 use Rattle.std.specs.List.{list_any}

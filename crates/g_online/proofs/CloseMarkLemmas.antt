@@ -1,8 +1,8 @@
 -- The records that a closing changes are marked, one by one, and so all that it changes of the directory.
 -- serves: note_copies (marks), note_copy (marks), CloseLemmas
-use Rattle.std.proofs.Common.{◌≡◌, ◌≢◌, ◌⊎◌, ℕ, ◌+◌, ◌-◌, ◌≤◌, ◌==◌, List, [], ◌∷◌, get_or, map, Option, Some, All, refl, sym, ◌∙◌, ap, subst, arith, inl, inr, slice_get, if◌then◌else◌}
+use Rattle.std.proofs.Common.{◌≡◌, ◌≢◌, ◌⊎◌, ℕ, ◌+◌, ◌-◌, ◌≤◌, ◌==◌, List, [], ◌∷◌, get_or, length, map, take, Option, Some, All, refl, sym, ◌∙◌, ap, subst, arith, inl, inr, slice_get, if◌then◌else◌}
 use Rattle.std.proofs.lemmas.Bool.{cases_eq, cond-false, cond-true, eq-eqb, ne_eqb}
-use Rattle.std.proofs.lemmas.List.{get_or-map, get_or_default, length-map}
+use Rattle.std.proofs.lemmas.List.{get_or-map, get_or_default, length-map, take_all}
 use Rattle.std.proofs.lemmas.List.Elements.{All-head, All-tail}
 use Rattle.g_copy.specs.declared.copy.DiscCopy.{DiscCopy}
 use Rattle.g_entry.specs.declared.file_rec.FileRec.{FileRec}
@@ -15,8 +15,9 @@ use Rattle.g_dirs.specs.Pages.{Covers, Remembered, marked}
 use Rattle.g_dirs.proofs.PageLemmas.{same_pages_of}
 use Rattle.g_tree.specs.Records.{IsRecords}
 use Rattle.g_disc_contents.specs.Contents.{copied_rec}
-use Rattle.g_online.specs.DumpedVersions.{MarksMade, noted_at}
-use Rattle.g_online.proofs.CloseNoteLemmas.{Tapes, all_noted, more_noted, noted_below, none_noted, other_noted}
+use Rattle.g_online.specs.declared.pinned.Pinned.{Pinned}
+use Rattle.g_online.specs.DumpedVersions.{MarksMade, noted_at, noted_in}
+use Rattle.g_online.proofs.CloseNoteLemmas.{Tapes, other_noted}
 use Rattle.g_online.proofs.MarkLemmas.{but_head, same_block}
 use Rattle.g_online.proofs.OffLemmas.{marks_more, marks_none}
 use Rattle.g_online.proofs.ReadyLemmas.{CoversBut}
@@ -43,40 +44,32 @@ one_made copies number files old new is =
           (before.0, λ i d within. λ at. other_noted copies number (get_or files i d) (λ same. away (at ∙ ap (λ (n : ℕ). 64 + n) same)));
     }
 
--- FROM NUMBER TO NUMBER
-pub made_none_yet : (copies : Tapes) (files : List FileRec) (pages : Remembered) → MarksMade (noted_below copies 0) files pages pages
-made_none_yet copies files pages = all_free (noted_below copies 0) files pages (λ i d within. sym (none_noted copies (get_or files i d)))
+-- One version after the other.
+pub made_none_yet : (pins : List Pinned) (files : List FileRec) (pages : Remembered) → MarksMade (copied_rec (noted_in (take 0 pins))) files pages pages
+made_none_yet pins files pages = all_free (copied_rec []) files pages (λ i d within. refl)
 
-pub made_more : (copies : Tapes) (number : ℕ) (files then_files : List FileRec) (old mid new : Remembered) → then_files ≡ map (noted_below copies number) files
-    → MarksMade (noted_below copies number) files old mid → MarksMade (noted_at copies number) then_files mid new → MarksMade (noted_below copies (number + 1)) files old new
-made_more copies number files then_files old mid new are was more = record {
+pub made_more : (first : Tapes) (second both : FileRec → FileRec) (files then_files : List FileRec) (old mid new : Remembered) → then_files ≡ map (copied_rec first) files
+    → All (λ (r : FileRec). second (copied_rec first r) ≡ both r) files → MarksMade (copied_rec first) files old mid → MarksMade second then_files mid new → MarksMade both files old new
+made_more first second both files then_files old mid new are same was more = record {
   pages = keeps_then old mid new was.pages more.pages;
   free = λ side k free.
       let here = more.free side k free in
       let before = was.free side k here.0 in
-      let made : FileRec → FileRec = noted_below copies number in
-      let all : All (λ (s : FileRec). k ≡ 64 + s.number → noted_at copies number s ≡ s) (map made files) =
-      subst (λ (fs : List FileRec). All (λ (s : FileRec). k ≡ 64 + s.number → noted_at copies number s ≡ s) fs) are here.1 in
+      let made : FileRec → FileRec = copied_rec first in
+      let all : All (λ (s : FileRec). k ≡ 64 + s.number → second s ≡ s) (map made files) =
+      subst (λ (fs : List FileRec). All (λ (s : FileRec). k ≡ 64 + s.number → second s ≡ s) fs) are here.1 in
       let long = length-map files made in (
         before.0,
         λ i d within. λ at.
-            sym (more_noted copies number (get_or files i d))
-            ∙ subst (λ (s : FileRec). k ≡ 64 + s.number → noted_at copies number s ≡ s) (get_or-map made files i d (made d) within) (all i (made d) (omega (arith, within, long))) at
+            sym (same i d within)
+            ∙ subst (λ (s : FileRec). k ≡ 64 + s.number → second s ≡ s) (get_or-map made files i d (made d) within) (all i (made d) (omega (arith, within, long))) at
             ∙ before.1 i d within at,
       );
 }
 
-pub made_all : (copies : Tapes) (number : ℕ) (users : List UserRec) (files : List FileRec) (old new : Remembered) → 1024 ≤ number → IsRecords users files
-    → MarksMade (noted_below copies number) files old new → MarksMade (copied_rec copies) files old new
-made_all copies number users files old new all rules was = record {
-  pages = was.pages;
-  free = λ side k free.
-      let before = was.free side k free in (
-        before.0,
-        λ i d within. λ at.
-            sym (all_noted copies number (get_or files i d) (let below = rules.numbers.below i d within in omega (arith, below, all))) ∙ before.1 i d within at,
-      );
-}
+pub made_all : (pins : List Pinned) (place : ℕ) (files : List FileRec) (old new : Remembered) → length pins ≤ place → MarksMade (copied_rec (noted_in (take place pins))) files old new
+    → MarksMade (copied_rec (noted_in pins)) files old new
+made_all pins place files old new all was = subst (λ (ps : List Pinned). MarksMade (copied_rec (noted_in ps)) files old new) (take_all place pins all) was
 
 -- WHAT IS NOT MARKED stays
 module _ (copies : Tapes) (online : List (ℕ × DiscCopy)) (number : ℕ) where

@@ -1,14 +1,14 @@
 -- The noted places on tape are written into the records one by one.
 -- serves: note_copies (files), note_copy (files, marks), with_copy (none, some), CloseMarkLemmas, CopiedLemmas, FewerLemmas, PinLemmas, crates above
-use Rattle.std.proofs.Common.{◌≡◌, ◌≢◌, ◌⊎◌, ℕ, suc, ◌+◌, ◌<◌, ◌≤◌, ◌==◌, Bool, true, false, List, [], ◌∷◌, length, get_or, map, nat_lt, Option, Some, None, All, AllPairs, refl, sym, ◌∙◌, ap, subst, arith, inl, inr, if◌then◌else◌}
+use Rattle.std.proofs.Common.{◌≡◌, ◌≢◌, ◌⊎◌, ℕ, suc, ◌+◌, ◌<◌, ◌≤◌, ◌==◌, Bool, true, false, List, [], ◌∷◌, ◌++◌, length, get_or, map, take, drop, Option, Some, None, All, AllPairs, refl, sym, ◌∙◌, ap, subst, arith, inl, inr, if◌then◌else◌}
 use Rattle.std.specs.Prelude.{Contains}
 use Rattle.std.specs.FinMap as finmap
 use Rattle.std.specs.FinMap.{get-from_entries, nat_cmp-IsAntisymmetric}
 use Rattle.std.specs.Option.{option_map}
-use Rattle.std.proofs.lemmas.Bool.{cases_Bool, cases_eq, cases_order, cond-false, cond-true, eq-eqb, le-ltb, lt-ltb, ne_eqb}
+use Rattle.std.proofs.lemmas.Bool.{cases_Bool, cases_eq, cond-false, cond-true, eq-eqb, ne_eqb}
 use Rattle.std.proofs.lemmas.Cmp.{nat_cmp_total}
-use Rattle.std.proofs.lemmas.List.{get_or-map, length-map}
-use Rattle.std.proofs.lemmas.List.Elements.{All-head, All-map, All-tail, Contains-get_or}
+use Rattle.std.proofs.lemmas.List.{get_or-map, get_or-take, get_or_default, length-map, length-take-le, map-append, take-append-drop, take_all, take_more}
+use Rattle.std.proofs.lemmas.List.Elements.{All-contains, All-head, All-map, All-tail, Contains-get_or}
 use Rattle.std.proofs.lemmas.List.Kept.{AllPairs-cons}
 use Rattle.g_name.proofs.Order.{full_total}
 use Rattle.g_plain.proofs.TextMaps.{full_exact}
@@ -25,50 +25,47 @@ use Rattle.g_tree.proofs.PutLemmas.{number_found}
 use Rattle.g_tree.proofs.RecordLemmas.{names_apart}
 use Rattle.g_tree.proofs.RuleLemmas.{one_of_key}
 use Rattle.g_disc_contents.specs.Contents.{copied_rec, copy_of}
-use Rattle.g_online.specs.DumpedVersions.{noted_at}
+use Rattle.g_online.specs.declared.pinned.Pinned.{Pinned}
+use Rattle.g_online.specs.DumpedVersions.{HasItsNumber, noted_at, noted_in}
 use Rattle.g_online.proofs.EntryLemmas.{put-set}
 use Rattle.g_online.proofs.VersionLemmas.{put_one}
 
 abbrev pub Tapes : Type 0
 Tapes = List (ℕ × TapeCopy)
 
--- a noted place is found, for any place that was there
-pub noted_some : (copies : Tapes) (stamp : ℕ) (old : Option TapeCopy) (copy : TapeCopy) → Some copy ≡ copy_of copies stamp None → Some copy ≡ copy_of copies stamp old
-noted_some [] stamp old copy is = (let no : ⊥ = cc in absurd no)
-noted_some (c ∷ cs) stamp old copy is = by_first (cases_Bool (c.0 == stamp)) (noted_some cs stamp old copy)
+-- The first place noted for a stamp in one list after the other.
+copy_of-append : (xs ys : Tapes) (stamp : ℕ) (old : Option TapeCopy) → copy_of (xs ++ ys) stamp old ≡ copy_of xs stamp (copy_of ys stamp old)
+copy_of-append [] ys stamp old = refl
+copy_of-append (c ∷ cs) ys stamp old = ap (λ (t : Option TapeCopy). if c.0 == stamp then Some c.1 else t) (copy_of-append cs ys stamp old)
+
+-- No place is noted for the stamp.
+copy_of-none : (xs : Tapes) (stamp : ℕ) (old : Option TapeCopy) → All (λ c. c.0 ≢ stamp) xs → copy_of xs stamp old ≡ old
+copy_of-none [] stamp old apart = refl
+copy_of-none (c ∷ cs) stamp old apart =
+    cond-false (c.0 == stamp) (Some c.1) (copy_of cs stamp old) (ne_eqb c.0 stamp (All-head (λ (d : ℕ × TapeCopy). d.0 ≢ stamp) c cs apart))
+    ∙ copy_of-none cs stamp old (All-tail (λ (d : ℕ × TapeCopy). d.0 ≢ stamp) c cs apart)
+
+-- The place that the first notes have for a stamp is that of all notes, or they have none.
+copy_of-front : (xs ys : Tapes) (stamp : ℕ) (old : Option TapeCopy) → (copy_of xs stamp old ≡ old) ⊎ (copy_of xs stamp old ≡ copy_of (xs ++ ys) stamp old)
+copy_of-front [] ys stamp old = inl refl
+copy_of-front (c ∷ cs) ys stamp old = by_first (cases_Bool (c.0 == stamp)) (copy_of-front cs ys stamp old)
   where
-    by_first : ((c.0 == stamp) ≡ true) ⊎ ((c.0 == stamp) ≡ false) → (Some copy ≡ copy_of cs stamp None → Some copy ≡ copy_of cs stamp old) → Some copy ≡ copy_of (c ∷ cs) stamp old
+    by_first : ((c.0 == stamp) ≡ true) ⊎ ((c.0 == stamp) ≡ false) → (copy_of cs stamp old ≡ old) ⊎ (copy_of cs stamp old ≡ copy_of (cs ++ ys) stamp old)
+        → (copy_of (c ∷ cs) stamp old ≡ old) ⊎ (copy_of (c ∷ cs) stamp old ≡ copy_of ((c ∷ cs) ++ ys) stamp old)
     by_first (inl here) rest =
-        is ∙ cond-true (c.0 == stamp) (Some c.1) (copy_of cs stamp None) here ∙ sym (cond-true (c.0 == stamp) (Some c.1) (copy_of cs stamp old) here)
-    by_first (inr away) rest =
-        rest (is ∙ cond-false (c.0 == stamp) (Some c.1) (copy_of cs stamp None) away) ∙ sym (cond-false (c.0 == stamp) (Some c.1) (copy_of cs stamp old) away)
+        inr (cond-true (c.0 == stamp) (Some c.1) (copy_of cs stamp old) here ∙ sym (cond-true (c.0 == stamp) (Some c.1) (copy_of (cs ++ ys) stamp old) here))
+    by_first (inr away) (inl none) = inl (cond-false (c.0 == stamp) (Some c.1) (copy_of cs stamp old) away ∙ none)
+    by_first (inr away) (inr same) =
+        inr (cond-false (c.0 == stamp) (Some c.1) (copy_of cs stamp old) away ∙ same ∙ sym (cond-false (c.0 == stamp) (Some c.1) (copy_of (cs ++ ys) stamp old) away))
 
-pub noted_none : (copies : Tapes) (stamp : ℕ) (old : Option TapeCopy) → (let none : Option TapeCopy = None in none ≡ copy_of copies stamp None) → copy_of copies stamp old ≡ old
-noted_none [] stamp old none = refl
-noted_none (c ∷ cs) stamp old none = by_first (cases_Bool (c.0 == stamp)) (noted_none cs stamp old)
-  where
-    by_first : ((c.0 == stamp) ≡ true) ⊎ ((c.0 == stamp) ≡ false) → ((let nothing : Option TapeCopy = None in nothing ≡ copy_of cs stamp None) → copy_of cs stamp old ≡ old) → copy_of (c ∷ cs) stamp old ≡ old
-    by_first (inl here) rest =
-        let it : (let nothing : Option TapeCopy = None in nothing ≡ Some c.1) = none ∙ cond-true (c.0 == stamp) (Some c.1) (copy_of cs stamp None) here in
-        (let no : ⊥ = cc in absurd no)
-    by_first (inr away) rest =
-        cond-false (c.0 == stamp) (Some c.1) (copy_of cs stamp old) away ∙ rest (none ∙ cond-false (c.0 == stamp) (Some c.1) (copy_of cs stamp None) away)
-
--- the record of a file for which none is noted stays, and another's has it
-pub made_some : (copies : Tapes) (r : FileRec) (copy : TapeCopy) → Some copy ≡ copy_of copies r.stamp None → (let s : FileRec = record r { tape = Some copy } in s) ≡ copied_rec copies r
-made_some copies r copy is = ap (λ (t : Option TapeCopy). let s : FileRec = record r { tape = t } in s) (noted_some copies r.stamp r.tape copy is)
-
-pub made_none : (copies : Tapes) (r : FileRec) → (let none : Option TapeCopy = None in none ≡ copy_of copies r.stamp None) → copied_rec copies r ≡ r
-made_none copies r none = ap (λ (t : Option TapeCopy). let s : FileRec = record r { tape = t } in s) (noted_none copies r.stamp r.tape none)
-
--- LISTS that are made of lists
+-- Lists that are made of lists.
 pub map_same : {A B : Type 0} (f g : A → B) (xs : List A) → All (λ x. f x ≡ g x) xs → map f xs ≡ map g xs
 map_same f g [] same = refl
 map_same f g (x ∷ xs) same = λ i. All-head (λ y. f y ≡ g y) x xs same i ∷ map_same f g xs (All-tail (λ y. f y ≡ g y) x xs same) i
 
-pub map_twice : {A B C : Type 0} (f : B → C) (g : A → B) (h : A → C) → ((x : A) → f (g x) ≡ h x) → (xs : List A) → map f (map g xs) ≡ map h xs
-map_twice f g h same [] = refl
-map_twice f g h same (x ∷ xs) = λ i. same x i ∷ map_twice f g h same xs i
+pub map_then : {A B C : Type 0} (f : B → C) (g : A → B) (h : A → C) (xs : List A) → All (λ x. f (g x) ≡ h x) xs → map f (map g xs) ≡ map h xs
+map_then f g h [] same = refl
+map_then f g h (x ∷ xs) same = λ i. All-head (λ y. f (g y) ≡ h y) x xs same i ∷ map_then f g h xs (All-tail (λ y. f (g y) ≡ h y) x xs same) i
 
 map_itself : {A : Type 0} (xs : List A) → xs ≡ map (λ x. x) xs
 map_itself [] = refl
@@ -80,113 +77,148 @@ pairs_map R f (x ∷ xs) all =
     AllPairs-cons R (f x) (map f xs) (All-map (R (f x)) f xs (λ k d within. all 0 (suc k) d (omega arith) (omega (arith, within))))
     (pairs_map R f xs (λ i j d less within. all (suc i) (suc j) d (omega (arith, less)) (omega (arith, within))))
 
--- the records of lower numbers have their copies
-abbrev pub noted_below : Tapes → ℕ → FileRec → FileRec
-noted_below copies number r = record r { tape = if nat_lt r.number number then copy_of copies r.stamp r.tape else r.tape }
-
 taped : (r : FileRec) (a b : Option TapeCopy) → a ≡ b → (let s : FileRec = record r { tape = a } in s) ≡ record r { tape = b }
 taped r a b same = ap (λ (t : Option TapeCopy). let s : FileRec = record r { tape = t } in s) same
 
-module _ (copies : Tapes) where
-  pub none_noted : (r : FileRec) → r ≡ noted_below copies 0 r
-  none_noted r =
-      sym (taped r (if nat_lt r.number 0 then copy_of copies r.stamp r.tape else r.tape) r.tape (cond-false (nat_lt r.number 0) (copy_of copies r.stamp r.tape) r.tape (le-ltb r.number 0 (omega arith))))
+-- The record of the version that has this stamp gets this place; another record is unchanged.
+pub made_here : (r made : FileRec) (stamp : ℕ) (copy : TapeCopy) → made ≡ record r { tape = Some copy } → stamp ≡ r.stamp → made ≡ copied_rec ((stamp, copy) ∷ []) r
+made_here r made stamp copy is here =
+    is ∙ taped r (Some copy) (if stamp == r.stamp then Some copy else r.tape) (sym (cond-true (stamp == r.stamp) (Some copy) r.tape (eq-eqb stamp r.stamp here)))
 
-  pub all_noted : (number : ℕ) (r : FileRec) → r.number < number → noted_below copies number r ≡ copied_rec copies r
-  all_noted number r below =
-      taped r (if nat_lt r.number number then copy_of copies r.stamp r.tape else r.tape) (copy_of copies r.stamp r.tape)
-      (cond-true (nat_lt r.number number) (copy_of copies r.stamp r.tape) r.tape (lt-ltb r.number number below))
+pub made_none : (r : FileRec) (stamp : ℕ) (copy : TapeCopy) → (stamp ≡ r.stamp → ⊥) → copied_rec ((stamp, copy) ∷ []) r ≡ r
+made_none r stamp copy away =
+    taped r (if stamp == r.stamp then Some copy else r.tape) r.tape (cond-false (stamp == r.stamp) (Some copy) r.tape (ne_eqb stamp r.stamp away))
 
-  -- one more
-  pub more_noted : (number : ℕ) (r : FileRec) → noted_at copies number (noted_below copies number r) ≡ noted_below copies (number + 1) r
-  more_noted number r =
-      let C : Option TapeCopy = copy_of copies r.stamp r.tape in
-      let below : Option TapeCopy = if nat_lt r.number number then C else r.tape in
-      let here : Option TapeCopy = if r.number == number then copy_of copies r.stamp below else below in
-      let there : Option TapeCopy = if nat_lt r.number (number + 1) then C else r.tape in
-      taped r here there
-      (elim (cases_order r.number number) as (λ _. here ≡ there) [
-        | inl same ↦
-            cond-true (r.number == number) (copy_of copies r.stamp below) below (eq-eqb r.number number same)
-            ∙ ap (copy_of copies r.stamp) (cond-false (nat_lt r.number number) C r.tape (le-ltb r.number number (omega (arith, same))))
-            ∙ sym (cond-true (nat_lt r.number (number + 1)) C r.tape (lt-ltb r.number (number + 1) (omega (arith, same))))
-        | inr (inl less) ↦
-            cond-false (r.number == number) (copy_of copies r.stamp below) below (ne_eqb r.number number (λ same. (let no : ⊥ = omega (arith, less, same) in no)))
-            ∙ cond-true (nat_lt r.number number) C r.tape (lt-ltb r.number number less)
-            ∙ sym (cond-true (nat_lt r.number (number + 1)) C r.tape (lt-ltb r.number (number + 1) (omega (arith, less))))
-        | inr (inr more) ↦
-            cond-false (r.number == number) (copy_of copies r.stamp below) below (ne_eqb r.number number (λ same. (let no : ⊥ = omega (arith, more, same) in no)))
-            ∙ cond-false (nat_lt r.number number) C r.tape (le-ltb r.number number (omega (arith, more)))
-            ∙ sym (cond-false (nat_lt r.number (number + 1)) C r.tape (le-ltb r.number (number + 1) (omega (arith, more))))
-      ])
+-- One more place is noted, for a stamp for which there was none yet, and which only the record of this number can have.
+pub more_noted : (copies : Tapes) (stamp number : ℕ) (copy : TapeCopy) (r : FileRec) → All (λ c. c.0 ≢ stamp) copies → (r.stamp ≡ stamp → r.number ≡ number)
+    → noted_at ((stamp, copy) ∷ []) number (copied_rec copies r) ≡ copied_rec (copies ++ (stamp, copy) ∷ []) r
+more_noted copies stamp number copy r apart numbered = taped r here there (by_stamp (cases_eq stamp r.stamp))
+  where
+    was : Option TapeCopy
+    was = copy_of copies r.stamp r.tape
 
-  -- THE RULES hold in between
-  tape_one : (P : FileRec → Type 0) (r : FileRec) (b : Bool) → P r → P (copied_rec copies r) → P (record r { tape = if b then copy_of copies r.stamp r.tape else r.tape })
-  tape_one P r true before after = after
-  tape_one P r false before after = before
+    one : Option TapeCopy
+    one = if stamp == r.stamp then Some copy else was
 
-  tape_all : (P : FileRec → Type 0) (number : ℕ) (files : List FileRec) → All P files → All P (map (copied_rec copies) files) → All P (map (noted_below copies number) files)
-  tape_all P number files before after =
-      All-map P (noted_below copies number) files
-      (λ k d within.
-      tape_one P (get_or files k d) (nat_lt (get_or files k d).number number) (before k d within)
-      (subst P (get_or-map (copied_rec copies) files k d (copied_rec copies d) within) (after k (copied_rec copies d) (let long = length-map files (copied_rec copies) in omega (arith, within, long)))))
+    here : Option TapeCopy
+    here = if r.number == number then one else was
 
-  pub rules_meanwhile : (users : List UserRec) (files : List FileRec) (number : ℕ) → IsRecords users files → IsRecords users (map (copied_rec copies) files) → IsRecords users (map (noted_below copies number) files)
-  rules_meanwhile users files number before after =
-      let f : FileRec → FileRec = noted_below copies number in
-      let long = length-map files f in
-      let few = before.among_files.few in
-      record {
-        each_user = before.each_user;
-        among_users = before.among_users;
-        each_file = tape_all IsFile number files before.each_file after.each_file;
-        numbers = record {
-          rising = pairs_map (λ (r : FileRec) (s : FileRec). r.number < s.number) f files before.numbers.rising;
-          below = All-map (λ (r : FileRec). r.number < 1024) f files before.numbers.below;
-        };
-        among_files = record {
-          few = omega (arith, long, few);
-          owners = All-map (λ (r : FileRec). r.owner < length users) f files before.among_files.owners;
-          trapped = All-map (λ (r : FileRec). All (λ pair. pair.0 < length users) r.traps.others) f files before.among_files.trapped;
-          names = pairs_map (λ (r : FileRec) (s : FileRec). SameName r s → ⊥) f files
-              (λ i j d less within. λ same. before.among_files.names i j d less within (record { owner = same.owner; local = same.local; generation = same.generation; lang = same.lang }));
-          stamps = pairs_map (λ (r : FileRec) (s : FileRec). r.stamp ≢ s.stamp) f files before.among_files.stamps;
-          dated = All-map (λ (r : FileRec). 1 ≤ r.stamp) f files before.among_files.dated;
-          empty = tape_all (λ (r : FileRec). r.len ≡ 0 → r.tape ≡ None) number files before.among_files.empty after.among_files.empty;
-        };
-      }
+    there : Option TapeCopy
+    there = copy_of (copies ++ (stamp, copy) ∷ []) r.stamp r.tape
 
--- HOW FAR the records are
-pub record IsNoting (copies : Tapes) (number : ℕ) (old new : TreeState) : Type 0 where
+    last : Option TapeCopy
+    last = if stamp == r.stamp then Some copy else r.tape
+
+    either : (b : Bool) → one ≡ was → (if b then one else was) ≡ was
+    either true same = same
+    either false same = refl
+
+    by_stamp : (stamp ≡ r.stamp) ⊎ (stamp ≡ r.stamp → ⊥) → here ≡ there
+    by_stamp (inl same) =
+        let none : All (λ (c : ℕ × TapeCopy). c.0 ≢ r.stamp) copies = subst (λ (s : ℕ). All (λ (c : ℕ × TapeCopy). c.0 ≢ s) copies) same apart in
+        cond-true (r.number == number) one was (eq-eqb r.number number (numbered (sym same)))
+        ∙ cond-true (stamp == r.stamp) (Some copy) was (eq-eqb stamp r.stamp same)
+        ∙ sym (copy_of-append copies ((stamp, copy) ∷ []) r.stamp r.tape ∙ ap (copy_of copies r.stamp) (cond-true (stamp == r.stamp) (Some copy) r.tape (eq-eqb stamp r.stamp same))
+        ∙ copy_of-none copies r.stamp (Some copy) none)
+    by_stamp (inr other) =
+        either (r.number == number) (cond-false (stamp == r.stamp) (Some copy) was (ne_eqb stamp r.stamp other))
+        ∙ sym (copy_of-append copies ((stamp, copy) ∷ []) r.stamp r.tape ∙ ap (copy_of copies r.stamp) (cond-false (stamp == r.stamp) (Some copy) r.tape (ne_eqb stamp r.stamp other)))
+
+-- The rules of records hold after the first notes.
+tape_one : (P : FileRec → Type 0) (xs ys : Tapes) (r : FileRec) → P r → P (copied_rec (xs ++ ys) r) → P (copied_rec xs r)
+tape_one P xs ys r before after = by_front (copy_of-front xs ys r.stamp r.tape)
+  where
+    by_front : (copy_of xs r.stamp r.tape ≡ r.tape) ⊎ (copy_of xs r.stamp r.tape ≡ copy_of (xs ++ ys) r.stamp r.tape) → P (copied_rec xs r)
+    by_front (inl same) = subst P (sym (taped r (copy_of xs r.stamp r.tape) r.tape same)) before
+    by_front (inr same) = subst P (sym (taped r (copy_of xs r.stamp r.tape) (copy_of (xs ++ ys) r.stamp r.tape) same)) after
+
+tape_all : (P : FileRec → Type 0) (xs ys : Tapes) (files : List FileRec) → All P files → All P (map (copied_rec (xs ++ ys)) files) → All P (map (copied_rec xs) files)
+tape_all P xs ys files before after =
+    let all : FileRec → FileRec = copied_rec (xs ++ ys) in
+    All-map P (copied_rec xs) files
+    (λ k d within.
+    tape_one P xs ys (get_or files k d) (before k d within)
+    (subst P (get_or-map all files k d (all d) within) (after k (all d) (let long = length-map files all in omega (arith, within, long)))))
+
+rules_meanwhile : (xs ys : Tapes) (users : List UserRec) (files : List FileRec) → IsRecords users files → IsRecords users (map (copied_rec (xs ++ ys)) files) → IsRecords users (map (copied_rec xs) files)
+rules_meanwhile xs ys users files before after =
+    let f : FileRec → FileRec = copied_rec xs in
+    let long = length-map files f in
+    let few = before.among_files.few in
+    record {
+      each_user = before.each_user;
+      among_users = before.among_users;
+      each_file = tape_all IsFile xs ys files before.each_file after.each_file;
+      numbers = record {
+        rising = pairs_map (λ (r : FileRec) (s : FileRec). r.number < s.number) f files before.numbers.rising;
+        below = All-map (λ (r : FileRec). r.number < 1024) f files before.numbers.below;
+      };
+      among_files = record {
+        few = omega (arith, long, few);
+        owners = All-map (λ (r : FileRec). r.owner < length users) f files before.among_files.owners;
+        trapped = All-map (λ (r : FileRec). All (λ pair. pair.0 < length users) r.traps.others) f files before.among_files.trapped;
+        names = pairs_map (λ (r : FileRec) (s : FileRec). SameName r s → ⊥) f files
+            (λ i j d less within. λ same. before.among_files.names i j d less within (record { owner = same.owner; local = same.local; generation = same.generation; lang = same.lang }));
+        stamps = pairs_map (λ (r : FileRec) (s : FileRec). r.stamp ≢ s.stamp) f files before.among_files.stamps;
+        dated = All-map (λ (r : FileRec). 1 ≤ r.stamp) f files before.among_files.dated;
+        empty = tape_all (λ (r : FileRec). r.len ≡ 0 → r.tape ≡ None) xs ys files before.among_files.empty after.among_files.empty;
+      };
+    }
+
+-- The files have the places that are noted for the first versions.
+pub record IsNoting (pins : List Pinned) (place : ℕ) (old new : TreeState) : Type 0 where
   pub users : new.users ≡ old.users
-  pub files : new.files ≡ map (noted_below copies number) old.files
+  pub files : new.files ≡ map (copied_rec (noted_in (take place pins))) old.files
 
-pub noting_none : (copies : Tapes) (old : TreeState) → IsNoting copies 0 old old
-noting_none copies old = record {
-  users = refl;
-  files = map_itself old.files ∙ map_same (λ r. r) (noted_below copies 0) old.files (λ k d within. none_noted copies (get_or old.files k d));
-}
+pub noting_none : (pins : List Pinned) (old : TreeState) → IsNoting pins 0 old old
+noting_none pins old = record { users = refl; files = map_itself old.files }
 
-noting_next : (copies : Tapes) (number : ℕ) (old mid : TreeState) → IsNoting copies number old mid → map (noted_at copies number) mid.files ≡ map (noted_below copies (number + 1)) old.files
-noting_next copies number old mid was =
-    ap (map (noted_at copies number)) was.files ∙ map_twice (noted_at copies number) (noted_below copies number) (noted_below copies (number + 1)) (more_noted copies number) old.files
+pub noting_all : (pins : List Pinned) (place : ℕ) (old new : TreeState) → length pins ≤ place → IsNoting pins place old new → new.files ≡ map (copied_rec (noted_in pins)) old.files
+noting_all pins place old new all was = was.files ∙ ap (λ (ps : List Pinned). map (copied_rec (noted_in ps)) old.files) (take_all place pins all)
 
-pub noting_more : (copies : Tapes) (number : ℕ) (old mid new : TreeState) → IsNoting copies number old mid → new.users ≡ mid.users → new.files ≡ map (noted_at copies number) mid.files → IsNoting copies (number + 1) old new
-noting_more copies number old mid new was users files = record { users = users ∙ was.users; files = files ∙ noting_next copies number old mid was }
+module _ (pins : List Pinned) (place : ℕ) (p : Pinned) (within : place < length pins) (is : get_or pins place p ≡ p) where
+  pub further : noted_in (take (place + 1) pins) ≡ noted_in (take place pins) ++ (p.stamp, p.copy) ∷ []
+  further =
+      ap noted_in (take_more pins place p within ∙ ap (λ (q : Pinned). take place pins ++ q ∷ []) is)
+      ∙ map-append (λ (q : Pinned). let c : ℕ × TapeCopy = (q.stamp, q.copy) in c) (take place pins) (p ∷ [])
 
-pub noting_rules : (copies : Tapes) (number : ℕ) (old mid : TreeState) → IsNoting copies number old mid → IsRecords old.users old.files → IsRecords old.users (map (copied_rec copies) old.files)
-    → IsRecords mid.users (map (noted_at copies number) mid.files)
-noting_rules copies number old mid was before after =
-    subst (λ (us : List UserRec). IsRecords us (map (noted_at copies number) mid.files)) (sym was.users)
-    (subst (IsRecords old.users) (sym (noting_next copies number old mid was)) (rules_meanwhile copies old.users old.files (number + 1) before after))
+  -- The version's stamp isn't among the earlier ones.
+  apart_before : AllPairs (λ (q : Pinned) (r : Pinned). q.stamp ≢ r.stamp) pins → All (λ (c : ℕ × TapeCopy). c.0 ≢ p.stamp) (noted_in (take place pins))
+  apart_before apart =
+      All-map (λ (c : ℕ × TapeCopy). c.0 ≢ p.stamp) (λ (q : Pinned). let c : ℕ × TapeCopy = (q.stamp, q.copy) in c) (take place pins)
+      (λ k d inside same.
+      let long = length-take-le place pins (omega (arith, within)) in
+      let before : k < place = omega (arith, inside, long) in
+      apart k place d before within
+      (ap (λ (q : Pinned). q.stamp) (sym (get_or-take place pins k d before)) ∙ same ∙ ap (λ (q : Pinned). q.stamp) (sym (get_or_default pins place d p within ∙ is))))
 
-pub noting_all : (copies : Tapes) (number : ℕ) (old new : TreeState) → 1024 ≤ number → IsNoting copies number old new → IsRecords old.users old.files → new.files ≡ map (copied_rec copies) old.files
-noting_all copies number old new all was rules =
-    was.files ∙ map_same (noted_below copies number) (copied_rec copies) old.files
-    (λ k d within. all_noted copies number (get_or old.files k d) (let below = rules.numbers.below k d within in omega (arith, below, all)))
+  pub noted_more : (files : List FileRec) → AllPairs (λ (q : Pinned) (r : Pinned). q.stamp ≢ r.stamp) pins → All (λ (q : Pinned). All (HasItsNumber q) files) pins
+      → All (λ (r : FileRec). noted_at (noted_in (p ∷ [])) p.number (copied_rec (noted_in (take place pins)) r) ≡ copied_rec (noted_in (take (place + 1) pins)) r) files
+  noted_more files apart numbered = λ k d inside.
+      let r : FileRec = get_or files k d in
+      let numbers : All (HasItsNumber p) files = subst (λ (q : Pinned). All (HasItsNumber q) files) is (numbered place p within) in
+      more_noted (noted_in (take place pins)) p.stamp p.number p.copy r (apart_before apart) (numbers k d inside) ∙ ap (λ (cs : Tapes). copied_rec cs r) (sym further)
 
--- ONE FILE
+  module _ (old mid : TreeState) (apart : AllPairs (λ (q : Pinned) (r : Pinned). q.stamp ≢ r.stamp) pins) (numbered : All (λ (q : Pinned). All (HasItsNumber q) old.files) pins)
+      (was : IsNoting pins place old mid) where
+    pub noting_next : map (noted_at (noted_in (p ∷ [])) p.number) mid.files ≡ map (copied_rec (noted_in (take (place + 1) pins))) old.files
+    noting_next =
+        ap (map (noted_at (noted_in (p ∷ [])) p.number)) was.files
+        ∙ map_then (noted_at (noted_in (p ∷ [])) p.number) (copied_rec (noted_in (take place pins))) (copied_rec (noted_in (take (place + 1) pins))) old.files (noted_more old.files apart numbered)
+
+    pub noting_more : (new : TreeState) → new.users ≡ mid.users → new.files ≡ map (noted_at (noted_in (p ∷ [])) p.number) mid.files → IsNoting pins (place + 1) old new
+    noting_more new users files = record { users = users ∙ was.users; files = files ∙ noting_next }
+
+    pub noting_rules : IsRecords old.users old.files → IsRecords old.users (map (copied_rec (noted_in pins)) old.files) → IsRecords mid.users (map (noted_at (noted_in (p ∷ [])) p.number) mid.files)
+    noting_rules before after =
+        let split : noted_in pins ≡ noted_in (take (place + 1) pins) ++ noted_in (drop (place + 1) pins) =
+        ap noted_in (sym (take-append-drop (place + 1) pins)) ∙ map-append (λ (q : Pinned). let c : ℕ × TapeCopy = (q.stamp, q.copy) in c) (take (place + 1) pins) (drop (place + 1) pins) in
+        subst (λ (us : List UserRec). IsRecords us (map (noted_at (noted_in (p ∷ [])) p.number) mid.files)) (sym was.users)
+        (subst (IsRecords old.users) (sym noting_next)
+        (rules_meanwhile (noted_in (take (place + 1) pins)) (noted_in (drop (place + 1) pins)) old.users old.files before
+        (subst (λ (cs : Tapes). IsRecords old.users (map (copied_rec cs) old.files)) split after)))
+
+-- One file.
 module _ (copies : Tapes) (number : ℕ) where
   here_noted : (s : FileRec) → s.number ≡ number → noted_at copies number s ≡ copied_rec copies s
   here_noted s same =
@@ -212,6 +244,12 @@ module _ (copies : Tapes) (users : List UserRec) (files : List FileRec) (rules :
   file_there r found =
       found_one nat_cmp_total nat_cmp-IsAntisymmetric (λ (s : FileRec). s.number) number files r
       (sym (get-from_entries nat_cmp_total (keyed (λ (s : FileRec). s.number) files) number) ∙ sym found)
+
+  pub found_below : (r : FileRec) → (let one : Option FileRec = Some r in one ≡ finmap.get (by_number files) number) → number < 1024
+  found_below r found =
+      let there = file_there r found in
+      let below : r.number < 1024 = All-contains (λ (s : FileRec). s.number < 1024) files r rules.numbers.below there.0 in
+      let is = there.1 in omega (arith, below, is)
 
   put_noted : (r : FileRec) → Contains files r → r.number ≡ number → with_file (copied_rec copies r) files ≡ map (noted_at copies number) files
   put_noted r there at =

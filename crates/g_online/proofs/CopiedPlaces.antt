@@ -14,17 +14,14 @@ use Rattle.g_online.proofs.CopyLemmas.{Copies}
 -- the blocks of some of the copies are among those of all
 pub places_filter : (p : ℕ × DiscCopy → Bool) (online : Copies) (k : ℕ) → Contains (numbers_of (filter p online)) k → Contains (numbers_of online) k
 places_filter p [] k there = there
-places_filter p (c ∷ cs) k there = by (cases_Bool (p c))
+places_filter p (c ∷ cs) k there = by (cases_Bool (p c)) (λ some. Contains-append_right c.1.blocks (numbers_of cs) k (places_filter p cs k some))
   where
-    rest : Contains (numbers_of (filter p cs)) k → Contains (numbers_of (c ∷ cs)) k
-    rest some = Contains-append_right c.1.blocks (numbers_of cs) k (places_filter p cs k some)
-
-    by : (p c ≡ true) ⊎ (p c ≡ false) → Contains (numbers_of (c ∷ cs)) k
-    by (inl kept) = elim (Contains-append_cases c.1.blocks (numbers_of (filter p cs)) k (subst (λ (l : Copies). Contains (numbers_of l) k) (cond-true (p c) (c ∷ filter p cs) (filter p cs) kept) there)) [
+    by : (p c ≡ true) ⊎ (p c ≡ false) → (Contains (numbers_of (filter p cs)) k → Contains (numbers_of (c ∷ cs)) k) → Contains (numbers_of (c ∷ cs)) k
+    by (inl kept) rest = elim (Contains-append_cases c.1.blocks (numbers_of (filter p cs)) k (subst (λ (l : Copies). Contains (numbers_of l) k) (cond-true (p c) (c ∷ filter p cs) (filter p cs) kept) there)) [
       | inl here ↦ Contains-append_left c.1.blocks (numbers_of cs) k here
       | inr some ↦ rest some
     ]
-    by (inr gone) = rest (subst (λ (l : Copies). Contains (numbers_of l) k) (cond-false (p c) (c ∷ filter p cs) (filter p cs) gone) there)
+    by (inr gone) rest = rest (subst (λ (l : Copies). Contains (numbers_of l) k) (cond-false (p c) (c ∷ filter p cs) (filter p cs) gone) there)
 
 -- a copy that is added brings its own blocks
 pub places_with : (c : ℕ × DiscCopy) (online : Copies) (k : ℕ) → Contains (numbers_of (with_copy_at c online)) k → Contains (numbers_of online) k ⊎ Contains c.1.blocks k

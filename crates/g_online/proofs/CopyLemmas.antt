@@ -1,5 +1,5 @@
 -- Look-ups among copies by file number, and what they find when a copy is inserted or copies are taken out.
--- serves: load (ok), make_ready (same), BegunLemmas, BringStepLemmas, ChangeLemmas, ContentLemmas, CopiedPlaces, EntryLemmas, NeedLemmas, and 6 more
+-- serves: make_ready (same), read_filestore (ok), BegunLemmas, BringStepLemmas, ChangeLemmas, ContentLemmas, CopiedPlaces, EntryLemmas, NeedLemmas, and 6 more
 use Rattle.std.proofs.Common.{◌≡◌, ◌≢◌, ℕ, ◌==◌, Bool, true, false, List, [], ◌∷◌, ◌++◌, find, filter, Option, Some, None, refl, sym, ◌∙◌, ap, inl, inr, arith, if◌then◌else◌, option_map}
 use Rattle.std.specs.Prelude.{nat_lt}
 use Rattle.std.proofs.lemmas.Bool.{cases_Bool, cases_eq, cases_order, cond-false, cond-true, eq-eqb, ne_eqb, lt-ltb, le-ltb, true≢false}

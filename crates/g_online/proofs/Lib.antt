@@ -52,3 +52,4 @@ pub mod BringStepLemmas
 pub mod NewBytesLemmas
 pub mod PinListLemmas
 pub mod CopiedPlaces
+mod NumberedLemmas

@@ -102,7 +102,7 @@ unfolding blocks_at
 bytes_here b places len = ap (λ (l : List ℕ). take len l) (sym (joined (λ k. slice_index_or b k []) places))
 
 told_bytes : (held : Told) (r : FileRec) (copy : DiscCopy) (blocks : List (List ℕ)) → copy.len ≡ r.len
-    → (let q : Pinned = record { stamp = r.stamp; len = r.len; copy = record { serial = 0; first = 0 }; blocks = copy.blocks } in (pin_of held q).blocks) ≡ Some blocks
+    → (let q : Pinned = record { stamp = r.stamp; number = r.number; len = r.len; copy = record { serial = 0; first = 0 }; blocks = copy.blocks } in (pin_of held q).blocks) ≡ Some blocks
     → (file_of held (r, Some copy)).bytes ≡ Some (take r.len (flat_map (λ (block : List ℕ). block) blocks))
 told_bytes None r copy blocks len told = absurd (none_told told)
   where
@@ -117,7 +117,7 @@ told_bytes (Some b) r copy blocks len told =
     same_told x y e = cc
 
 one_pinned : (held : Told) (serial at : ℕ) (r : FileRec) (found : Option DiscCopy) → is_some found ≡ true → IfSome found (IsCopyOf r)
-    → IsPinnedAt serial at (file_of held (r, found)) (pin_of held (record { stamp = r.stamp; len = r.len; copy = record { serial = serial; first = at }; blocks = copy_places found }))
+    → IsPinnedAt serial at (file_of held (r, found)) (pin_of held (record { stamp = r.stamp; number = r.number; len = r.len; copy = record { serial = serial; first = at }; blocks = copy_places found }))
 one_pinned held serial at r None some fits = (let no : ⊥ = cc in absurd no)
 one_pinned held serial at r (Some copy) some fits = record {
   online = refl;
@@ -221,6 +221,7 @@ module _ (size next serial first : ℕ) (online : Copies) (files : List FileRec)
         ap (λ (x : FileRec). x.len) it,
         ap (λ (x : FileRec). x.tape) it ∙ waits.none,
         place_copy s (copy_at online s.number) ∙ ap (λ (x : FileRec). copy_places (copy_at online x.number)) it,
+        ap (λ (x : FileRec). x.number) it,
       )
 
   pin_is : (r : FileRec) (k : ℕ) → Contains files r → Waits r → IsPinned size next entries (pinned_of serial k online r)

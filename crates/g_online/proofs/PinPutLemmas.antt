@@ -1,9 +1,13 @@
 -- The versions that wait are pinned one after another, owner by owner.
--- serves: pin_owner, waiting_versions
-use Rattle.std.proofs.Common.{◌≡◌, ℕ, zero, suc, ◌+◌, ◌*◌, ◌<◌, ◌≤◌, ◌==◌, ◌&&◌, ◌^◌, Bool, true, false, List, [], ◌∷◌, ◌++◌, length, get_or, take, drop, All, sym, ◌∙◌, ap, subst, arith, add-one, append_assoc, if◌then◌else◌}
+-- serves: pin_owner, waiting_owners, waiting_versions
+use Rattle.std.proofs.Common.{◌≡◌, ℕ, zero, suc, ◌+◌, ◌*◌, ◌<◌, ◌≤◌, ◌==◌, ◌&&◌, ◌^◌, Bool, true, false, List, [], ◌∷◌, ◌++◌, length, get_or, take, drop, Option, Some, All, refl, sym, ◌∙◌, ap, subst, arith, inl, inr, ◌⊎◌, add-one, append_assoc, length-set, slice_get, if◌then◌else◌}
+use Rattle.std.proofs.Math.ListN.{set}
+use Rattle.std.proofs.lemmas.Bool.{cases_Bool, cases_eq, cond-false, cond-true, ne_eqb}
 use Rattle.std.proofs.lemmas.List.{append-nil, length-take-le, take_all, take_more}
 use Rattle.std.proofs.lemmas.List.Elements.{All-head, All-tail, All-take, All-weaker, filter-append}
+use Rattle.std.proofs.lemmas.Option.{slice_get-get_or, slice_get_within}
 use Rattle.g_base.specs.Block.{blocks_for}
+use Rattle.g_blocks.proofs.Marks.{slice_get-set_other, slice_get-set_same}
 use Rattle.g_copy.specs.declared.copy.DiscCopy.{DiscCopy}
 use Rattle.g_entry.specs.declared.file_rec.FileRec.{FileRec}
 use Rattle.g_entry.specs.declared.user_rec.UserRec.{UserRec}
@@ -118,6 +122,81 @@ pub owner_more : (serial owner : ℕ) (online : List (ℕ × DiscCopy)) (files :
     → HasPut serial online (waiting_below (owner + 1) files) [] a s c
 owner_more serial owner online files q s a b c was more =
     subst (λ (n : ℕ). HasPut serial online (waiting_below n files) [] a s c) (sym (add-one owner)) (put_then serial online (waiting_below owner files) (waiting_of owner files) [] q s a b c was more)
+
+-- None of the owner's files waits.
+pub owner_skipped : (serial owner : ℕ) (online : List (ℕ × DiscCopy)) (files : List FileRec) (q : List Pinned) (a b : ℕ) → waiting_of owner files ≡ [] → HasPut serial online (waiting_below owner files) [] a q b
+    → HasPut serial online (waiting_below (owner + 1) files) [] a q b
+owner_skipped serial owner online files q a b none was =
+    owner_more serial owner online files q q a b b was (subst (λ (rs : List FileRec). HasPut serial online rs q b q b) (sym none) (put_none serial online q b))
+
+-- The owners among the first files who have a waiting one are noted.
+pub record AreWaitingNoted (files left : List FileRec) (flags : List Bool) : Type 0 where
+  pub place : ℕ
+  pub left_is : left ≡ drop place files
+  pub size : length flags ≡ 256
+  pub noted : (owner : ℕ) → slice_get flags owner ≡ Some false → waiting_of owner (take place files) ≡ []
+
+pub waiting_none : (files left : List FileRec) (flags : List Bool) → left ≡ files → length flags ≡ 256 → AreWaitingNoted files left flags
+waiting_none files left flags is size = record { place = 0; left_is = is; size = size; noted = λ owner flag. refl }
+
+module _ (files left rest : List FileRec) (r : FileRec) (is : left ≡ r ∷ rest) (flags : List Bool) (was : AreWaitingNoted files left flags) where
+  place_is : IsNext files was.place r rest
+  place_is = next_of files was.place r rest (sym is ∙ was.left_is)
+
+  longer : (owner : ℕ) → ((r.owner == owner) && is_waiting r) ≡ false → waiting_of owner (take was.place files) ≡ [] → waiting_of owner (take (was.place + 1) files) ≡ []
+  longer owner none before =
+      one_further 0 owner [] files was.place r place_is.inside place_is.at
+      ∙ ap (λ (rs : List FileRec). rs ++ waiting_of owner (r ∷ [])) before
+      ∙ ap (λ (b : Bool). if b then r ∷ [] else []) none
+
+  -- The file doesn't wait.
+  waiting_same : is_waiting r ≡ false → AreWaitingNoted files rest flags
+  waiting_same none = record {
+    place = was.place + 1;
+    left_is = place_is.behind;
+    size = was.size;
+    noted = λ owner flag. longer owner (ap (λ (b : Bool). (r.owner == owner) && b) none ∙ and_false (r.owner == owner)) (was.noted owner flag);
+  }
+    where
+      and_false : (b : Bool) → (b && false) ≡ false
+      and_false true = refl
+      and_false false = refl
+
+  -- It waits, and the flag of its owner is set.
+  waiting_more : AreWaitingNoted files rest (set flags r.owner true)
+  waiting_more = record {
+    place = was.place + 1;
+    left_is = place_is.behind;
+    size = length-set flags r.owner true ∙ was.size;
+    noted = λ owner flag. by_owner owner flag (cases_eq owner r.owner);
+  }
+    where
+      by_owner : (owner : ℕ) → slice_get (set flags r.owner true) owner ≡ Some false → (owner ≡ r.owner) ⊎ (owner ≡ r.owner → ⊥) → waiting_of owner (take (was.place + 1) files) ≡ []
+      by_owner owner flag (inl same) =
+          let size = was.size in
+          let long = length-set flags r.owner true in
+          let inside = slice_get_within (set flags r.owner true) owner false flag in
+          let on : slice_get (set flags r.owner true) owner ≡ Some true =
+          subst (λ (n : ℕ). slice_get (set flags r.owner true) n ≡ Some true) (sym same) (slice_get-set_same flags r.owner true (omega (arith, inside, same, long))) in
+          (let no : ⊥ = cc in absurd no)
+      by_owner owner flag (inr other) =
+          longer owner (ap (λ (b : Bool). b && is_waiting r) (ne_eqb r.owner owner (λ same. other (sym same))))
+          (was.noted owner (sym (slice_get-set_other flags r.owner owner true other) ∙ flag))
+
+  -- Either way.
+  pub waiting_next : (after : List Bool) → after ≡ (if is_waiting r then set flags r.owner true else flags) → AreWaitingNoted files rest after
+  waiting_next after is = by_waiting (cases_Bool (is_waiting r))
+    where
+      by_waiting : (is_waiting r ≡ true) ⊎ (is_waiting r ≡ false) → AreWaitingNoted files rest after
+      by_waiting (inl waits) = subst (AreWaitingNoted files rest) (sym (is ∙ cond-true (is_waiting r) (set flags r.owner true) flags waits)) waiting_more
+      by_waiting (inr none) = subst (AreWaitingNoted files rest) (sym (is ∙ cond-false (is_waiting r) (set flags r.owner true) flags none)) (waiting_same none)
+
+pub waiting_all : (files left : List FileRec) (flags : List Bool) → left ≡ [] → AreWaitingNoted files left flags
+    → (owner : ℕ) → owner < 256 → get_or flags owner false ≡ false → waiting_of owner files ≡ []
+waiting_all files left flags is was owner small flag =
+    let size = was.size in
+    ap (waiting_of owner) (sym (take_all was.place files (none_behind files was.place (sym is ∙ was.left_is))))
+    ∙ was.noted owner (slice_get-get_or flags owner false (omega (arith, small, size)) ∙ ap Some flag)
 
 pub owner_fits : (serial owner : ℕ) (online : List (ℕ × DiscCopy)) (users : List UserRec) (files : List FileRec) (q : List Pinned) (a b : ℕ) → IsRecords users files → owner < 63 → a ≤ 131072
     → HasPut serial online (waiting_below owner files) [] a q b → b + 131072 < 2 ^ 32

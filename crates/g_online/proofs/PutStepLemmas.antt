@@ -1,6 +1,6 @@
 -- A new version whose bytes are written is ready to be committed.
 -- serves: NewBytesLemmas
-use Rattle.std.proofs.Common.{◌≡◌, ◌≢◌, ℕ, zero, suc, ◌+◌, ◌<◌, Bool, true, false, List, [], ◌∷◌, ◌++◌, length, map, Some, None, Ok, All, AllPairs, refl, sym, ◌∙◌, ap, subst, arith, if◌then◌else◌, ⊎_elim}
+use Rattle.std.proofs.Common.{◌≡◌, ◌≢◌, ℕ, zero, suc, ◌+◌, ◌<◌, Bool, true, false, List, [], ◌∷◌, ◌++◌, length, map, Some, None, Ok, All, AllPairs, inl, inr, refl, sym, ◌∙◌, ap, subst, arith, if◌then◌else◌, ⊎_elim}
 use Rattle.std.specs.Prelude.{Contains, is_some}
 use Rattle.std.specs.Option.{ForSome}
 use Rattle.std.specs.FinMap as finmap

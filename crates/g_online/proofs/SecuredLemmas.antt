@@ -1,5 +1,5 @@
 -- A disc whose gate was made durable, and what was then loaded from it or created on it.
--- serves: fresh, load, StartedLemmas
+-- serves: fresh (causes, ok, safe, same, stopped, survives), load (ok, refused)
 use Rattle.std.proofs.Common.{◌≡◌, ◌≢◌, ℕ, Bool, true, List, Option, Result, Ok, Err, ap, inl, inr, is_some, refl, subst, sym, ◌∙◌}
 use Rattle.std.specs.Prelude.{◌⊎◌, IfErr, nat_eq, not}
 use Rattle.std.specs.List.{list_any}
@@ -52,7 +52,7 @@ module _ {T E : Type 0} {t : T} (x y : DiscState) (secured : Secures {T = T} {E 
   stays_safe is_safe = safe_stays x y secured.held secured.durable is_safe
 
   pub secured_reads : {P : Type 0} {z : DiscState} → ReadsByCause P y z → SecuresAndReads P x z
-  secured_reads reads = record {
+  secured_reads {z = z} reads = record {
     held = reads.held ∙ secured.held;
     size = reads.size ∙ secured.size;
     write_faults = reads.write_faults ∙ secured.write_faults;

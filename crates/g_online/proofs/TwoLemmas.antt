@@ -1,5 +1,5 @@
 -- A change that first takes files off the disc is two changes, one after the other.
--- serves: fresh (causes), BringStepLemmas, NeedLemmas, NewBytesLemmas, PutStepLemmas, UnjamLemmas, WrittenLemmas, crates above
+-- serves: write_filestore (causes), BringStepLemmas, NeedLemmas, NewBytesLemmas, PutStepLemmas, UnjamLemmas, WrittenLemmas, crates above
 use Rattle.std.proofs.Common.{◌≡◌, ◌⊎◌, ℕ, ◌+◌, ◌<◌, ◌≤◌, Bool, true, false, List, [], ◌∷◌, length, map, filter, Option, None, Result, Ok, Err, All, refl, sym, ◌∙◌, ap, subst, arith, inl, inr, if◌then◌else◌}
 use Rattle.std.specs.Prelude.{IfErr, OnErr, is_some, nat_lt}
 use Rattle.std.proofs.lemmas.Bool.{cond-true, lt-ltb}

@@ -127,10 +127,10 @@ IsCopied numbers e = has numbers e.0.number ≡ true → is_some e.0.tape ≡ tr
 file_of_off : (numbers : List ℕ) (p : Pinned) (e : FileEntry) → IsCopied numbers e → IsFileOf p e → IsFileOf p (off_entry numbers e)
 file_of_off numbers p e copied is = λ at. by_case (cases_Bool (has numbers e.0.number)) (is at)
   where
-    by_case : (has numbers e.0.number ≡ true) ⊎ (has numbers e.0.number ≡ false) → (e.0.len ≡ p.len) × (e.0.tape ≡ None) × (places_of e ≡ p.blocks)
-        → (e.0.len ≡ p.len) × (e.0.tape ≡ None) × (places_of (off_entry numbers e) ≡ p.blocks)
+    by_case : (has numbers e.0.number ≡ true) ⊎ (has numbers e.0.number ≡ false) → (e.0.len ≡ p.len) × (e.0.tape ≡ None) × (places_of e ≡ p.blocks) × (e.0.number ≡ p.number)
+        → (e.0.len ≡ p.len) × (e.0.tape ≡ None) × (places_of (off_entry numbers e) ≡ p.blocks) × (e.0.number ≡ p.number)
     by_case (inl off) was = (let wrong = sym (copied off) ∙ ap is_some was.1 in let no : ⊥ = cc in absurd no)
-    by_case (inr kept) was = (was.0, was.1, ap (λ (c : Option DiscCopy). places_of (let f : FileEntry = (e.0, c) in f)) (cond-false (has numbers e.0.number) None e.1 kept) ∙ was.2)
+    by_case (inr kept) was = (was.0, was.1, ap (λ (c : Option DiscCopy). places_of (let f : FileEntry = (e.0, c) in f)) (cond-false (has numbers e.0.number) None e.1 kept) ∙ was.2, was.3)
 
 all_both : (P Q R : FileEntry → Type 0) → ((e : FileEntry) → P e → Q e → R e) → (es : List FileEntry) → All P es → All Q es → All R es
 all_both P Q R both es ps qs = λ k d within. both (get_or es k d) (ps k d within) (qs k d within)

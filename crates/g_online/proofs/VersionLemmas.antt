@@ -89,7 +89,7 @@ noted_same users old new changed touched same was = record {
 file_of_same : (p : Pinned) (e f : FileEntry) → IsSameEntry e f → IsFileOf p e → IsFileOf p f
 file_of_same p e f same is = λ at.
     let was = is (sym same.stamp ∙ at) in
-    (same.len ∙ was.0, same.tape ∙ was.1, place_one e f same ∙ was.2)
+    (same.len ∙ was.0, same.tape ∙ was.1, place_one e f same ∙ was.2, same.number ∙ was.3)
 
 pinned_same : (size next : ℕ) (old new : List FileEntry) → AllSame old new → (p : Pinned) → IsPinned size next old p → IsPinned size next new p
 pinned_same size next old new same p is = record {

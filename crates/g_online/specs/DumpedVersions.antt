@@ -34,6 +34,10 @@ lost_of files p = if is_stamp_current files p.stamp then [] else p.blocks
 abbrev pub lost_places : List FileRec → List Pinned → List ℕ
 lost_places files pins = flat_map (lost_of files) pins
 
+-- A record with the stamp of the version has its number.
+abbrev pub HasItsNumber : Pinned → FileRec → Type 0
+HasItsNumber p r = r.stamp ≡ p.stamp → r.number ≡ p.number
+
 -- The places on tape that are noted for pinned versions, by stamp.
 abbrev pub noted_in : List Pinned → List (ℕ × TapeCopy)
 noted_in pins = map (λ p. (p.stamp, p.copy)) pins
@@ -68,7 +72,7 @@ blocks_of (r ∷ rs) = blocks_for r.len + blocks_of rs
 
 -- What is noted for each version that waits.
 abbrev pub pinned_of : ℕ → ℕ → List (ℕ × DiscCopy) → FileRec → Pinned
-pinned_of serial at online r = record { stamp = r.stamp; len = r.len; copy = record { serial = serial; first = at }; blocks = copy_places (copy_at online r.number) }
+pinned_of serial at online r = record { stamp = r.stamp; number = r.number; len = r.len; copy = record { serial = serial; first = at }; blocks = copy_places (copy_at online r.number) }
 
 -- The files as pinned versions, with their places on tape end to end.
 abbrev pub pins_from : ℕ → ℕ → List (ℕ × DiscCopy) → List FileRec → List Pinned

@@ -91,9 +91,9 @@ pub record IsPooled (size : ℕ) (pins : Option (List Pinned)) (files : List Fil
   pub area : All (IsInArea size) (used_places pins files)
   pub apart : AllPairs (λ j k. j ≢ k) (used_places pins files)
 
--- A file with the stamp of a pinned version has that version's length and blocks, and no copy on tape.
+-- A file with the stamp of a pinned version has that version's number, length and blocks, and no copy on tape.
 abbrev pub IsFileOf : Pinned → FileEntry → Type 0
-IsFileOf p f = f.0.stamp ≡ p.stamp → (f.0.len ≡ p.len) × (f.0.tape ≡ None) × (places_of f ≡ p.blocks)
+IsFileOf p f = f.0.stamp ≡ p.stamp → (f.0.len ≡ p.len) × (f.0.tape ≡ None) × (places_of f ≡ p.blocks) × (f.0.number ≡ p.number)
 
 -- A pinned version is older than the next stamp, isn't empty, and has its blocks in the copy area.
 pub record IsPinned (size next : ℕ) (files : List FileEntry) (p : Pinned) : Type 0 where

@@ -1,20 +1,21 @@
 //! The commit that closes a dump.
-ghost use Rattle.std.specs.Prelude.{◌≡◌, ◌<◌, IfNone, IfSome, None, is_some, map, true};
+ghost use Rattle.std.specs.Prelude.{◌≡◌, ◌≢◌, [], ◌∷◌, All, AllPairs, IfNone, IfSome, is_some, map, true};
 ghost use Rattle.g_tree.specs.Records.{IsRecords};
-ghost use Rattle.g_disc_contents.specs.Contents.{copied_rec, copy_of};
+ghost use Rattle.g_disc_contents.specs.Contents.{copied_rec};
 ghost use Rattle.g_online.specs.AllowedChanges.{KeepsRules};
 ghost use Rattle.g_online.specs.Change.{closed};
-ghost use Rattle.g_online.specs.DumpedVersions.{MarksMade, noted_at};
+ghost use Rattle.g_online.specs.DumpedVersions.{HasItsNumber, MarksMade, noted_at, noted_in};
 ghost use Rattle.g_online.specs.Pins.{IsClosing};
 
 use crate::commit::commit;
 use crate::numbers::UserNumbers;
-use crate::pins::{free_orphaned_pins, pinned_notes, pinned_versions};
+use crate::pinned::Pinned;
+use crate::pins::{free_orphaned_pins, pinned_versions};
 use crate::{Online, OnlineFault};
 use g_base::FIRST_FILE_BLOCK;
 use g_dirs::Pages;
 use g_disc::Disc;
-use g_entry::{FileRec, Head, TapeCopy};
+use g_entry::{FileRec, Head};
 use g_tree::Tree;
 use std::mem;
 
@@ -32,7 +33,7 @@ impl<D: Disc> Online<D> {
         let pins = pinned_versions(&self.pins);
         free_orphaned_pins(&mut self.pool, pins, self.tree.files());
         self.pages.changed(0);
-        note_copies(&mut self.tree, &mut self.pages, pinned_notes(&self.pins));
+        note_copies(&mut self.tree, &mut self.pages, pins);
         self.head = Head {
             last_dump: last,
             intent: None,
@@ -53,59 +54,53 @@ impl<D: Disc> Online<D> {
     }
 }
 
-/// Writes the noted tape places into the records of versions that still exist, and marks exactly these records.
-fn note_copies(tree: &mut Tree, pages: &mut Pages, notes: &[(u64, TapeCopy)])
-    requires { IsRecords tree.old.users (map (copied_rec notes.now) tree.old.files) }
+/// Writes the noted tape places into the records of the files that still have these versions, and marks exactly these
+/// records. Each version is looked up by its number.
+fn note_copies(tree: &mut Tree, pages: &mut Pages, pins: &[Pinned])
+    requires apart { AllPairs (λ p q. p.stamp ≢ q.stamp) pins.now }
+    requires numbered { All (λ p. All (HasItsNumber p) tree.old.files) pins.now }
+    requires records { IsRecords tree.old.users tree.old.files }
+    requires rules { IsRecords tree.old.users (map (copied_rec (noted_in pins.now)) tree.old.files) }
     ensures users { tree.new.users ≡ tree.old.users }
-    ensures files { tree.new.files ≡ map (copied_rec notes.now) tree.old.files }
-    ensures marks { MarksMade (copied_rec notes.now) tree.old.files pages.old pages.new }
+    ensures files { tree.new.files ≡ map (copied_rec (noted_in pins.now)) tree.old.files }
+    ensures marks { MarksMade (copied_rec (noted_in pins.now)) tree.old.files pages.old pages.new }
 {
-    let _files = tree.files();
-    for number in 0..1024 {
-        note_copy(tree, pages, notes, number);
+    for pin in pins {
+        note_copy(tree, pages, pin);
     }
 }
 
-/// Does so for the file of this number, if there is one.
-fn note_copy(tree: &mut Tree, pages: &mut Pages, notes: &[(u64, TapeCopy)], number: u16)
-    requires below { number < 1024 }
-    requires rules { IsRecords tree.old.users (map (noted_at notes.now number) tree.old.files) }
+/// Does so for one version.
+fn note_copy(tree: &mut Tree, pages: &mut Pages, pin: &Pinned)
+    requires rules { let p = pin.now in
+        IsRecords tree.old.users (map (noted_at (noted_in (p ∷ [])) p.number) tree.old.files) }
     ensures users { tree.new.users ≡ tree.old.users }
-    ensures files { tree.new.files ≡ map (noted_at notes.now number) tree.old.files }
-    ensures marks { MarksMade (noted_at notes.now number) tree.old.files pages.old pages.new }
+    ensures files { let p = pin.now in
+        tree.new.files ≡ map (noted_at (noted_in (p ∷ [])) p.number) tree.old.files }
+    ensures marks { let p = pin.now in
+        MarksMade (noted_at (noted_in (p ∷ [])) p.number) tree.old.files pages.old pages.new }
 {
-    let Some(file) = tree.file_at(number) else {
+    let Some(file) = tree.file_at(pin.number) else {
         return;
     };
-    let Some(noted) = with_copy(file, notes) else {
+    let Some(noted) = with_copy(file, pin) else {
         return;
     };
     tree.put(noted);
-    pages.changed(FIRST_FILE_BLOCK + u32::from(number));
+    pages.changed(FIRST_FILE_BLOCK + u32::from(pin.number));
 }
 
-/// The record with the tape place that is noted for its version, or none if it doesn't change.
-fn with_copy(file: &FileRec, notes: &[(u64, TapeCopy)]) -> Option<FileRec>
-    ensures some { IfSome result (λ noted. noted ≡ copied_rec notes.now file.now) }
-    ensures none { IfNone result (copied_rec notes.now file.now ≡ file.now) }
+/// The record with the tape place that is noted for this version, or none if the file has another version.
+fn with_copy(file: &FileRec, pin: &Pinned) -> Option<FileRec>
+    ensures some { IfSome result (λ noted. noted ≡ copied_rec (noted_in (pin.now ∷ [])) file.now) }
+    ensures none { IfNone result (copied_rec (noted_in (pin.now ∷ [])) file.now ≡ file.now) }
 {
-    match noted_copy(notes, file.stamp) {
-        Some(copy) => Some(FileRec {
-            tape: Some(copy),
+    if pin.stamp == file.stamp {
+        Some(FileRec {
+            tape: Some(pin.copy),
             ..file.copy()
-        }),
-        None => None,
+        })
+    } else {
+        None
     }
-}
-
-/// The place that is noted for this stamp.
-fn noted_copy(notes: &[(u64, TapeCopy)], stamp: u64) -> Option<TapeCopy>
-    ensures { result ≡ copy_of notes.now stamp None }
-{
-    for note in notes {
-        if note.0 == stamp {
-            return Some(note.1);
-        }
-    }
-    None
 }

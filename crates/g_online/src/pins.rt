@@ -1,11 +1,11 @@
 //! The versions of a dump: they are pinned when it is opened, read while it is written, and unpinned when it ends.
-ghost use Rattle.std.specs.Prelude.{◌≡◌, ◌≢◌, ◌+◌, ◌<◌, ◌≤◌, ◌^◌, All, AllPairs, IfOk, List, None, OnErr, OnOk, Some, length, slice_get, true, [], ◌∷◌};
+ghost use Rattle.std.specs.Prelude.{◌≡◌, ◌≢◌, ℕ, ◌+◌, ◌<◌, ◌≤◌, ◌^◌, All, AllPairs, IfOk, List, None, OnErr, OnOk, Some, length, slice_get, slice_index_or, slice_set, false, true, [], ◌∷◌, if◌then◌else◌};
 ghost use Rattle.std.specs.Option.{ForSome, option_copied};
 ghost use Rattle.g_base.specs.Block.{blocks_for};
 ghost use Rattle.g_blocks.specs.Pool.{HasGiven, IsTaken};
 ghost use Rattle.g_disc.specs.Disc.{ReadsByCause};
 ghost use Rattle.g_disc_contents.specs.Facts.{IsTied, Pin};
-ghost use Rattle.g_online.specs.DumpedVersions.{HasPut, is_stamp_current, is_waiting, lost_of, lost_places, noted_in, pinned_in, pins_from, place_in, waiting_below, waiting_of};
+ghost use Rattle.g_online.specs.DumpedVersions.{HasItsNumber, HasPut, is_stamp_current, is_waiting, lost_of, lost_places, pinned_in, pins_from, place_in, waiting_below, waiting_of};
 ghost use Rattle.g_online.specs.Invariant.{copy_places};
 ghost use Rattle.g_online.specs.Pins.{HasPinned};
 
@@ -97,16 +97,6 @@ pub(crate) fn pinned_versions(pins: &Option<PinList>) -> &[Pinned]
     }
 }
 
-/// What is noted for the pinned versions, if there are any.
-pub(crate) fn pinned_notes(pins: &Option<PinList>) -> &[(u64, TapeCopy)]
-    ensures { result.now ≡ noted_in (pinned_in pins.now) }
-{
-    match pins {
-        Some(pins) => pins.notes(),
-        None => &[],
-    }
-}
-
 /// Where block `part` of the `i`-th version lies.
 fn place_of(pins: &[Pinned], i: usize, part: u32) -> Option<u32>
     ensures { result ≡ place_in (slice_get pins.now i) part }
@@ -119,6 +109,8 @@ fn place_of(pins: &[Pinned], i: usize, part: u32) -> Option<u32>
 
 /// Returns the blocks of those versions that no file has any more to the pool.
 pub(crate) fn free_orphaned_pins(pool: &mut Pool, pins: &[Pinned], files: &FileTable)
+    requires rising { AllPairs (λ r s. r.number < s.number) files.now }
+    requires numbered { All (λ p. All (HasItsNumber p) files.now) pins.now }
     requires apart { AllPairs (λ j k. j ≢ k) (lost_places files.now pins.now) }
     requires taken { All (IsTaken pool.old) (lost_places files.now pins.now) }
     ensures { HasGiven (lost_places files.now pins.now) pool.old pool.new }
@@ -130,25 +122,33 @@ pub(crate) fn free_orphaned_pins(pool: &mut Pool, pins: &[Pinned], files: &FileT
 
 /// Does so for one version.
 fn give_one_lost(pool: &mut Pool, pin: &Pinned, files: &FileTable)
+    requires rising { AllPairs (λ r s. r.number < s.number) files.now }
+    requires numbered { All (HasItsNumber pin.now) files.now }
     requires apart { AllPairs (λ j k. j ≢ k) (lost_of files.now pin.now) }
     requires taken { All (IsTaken pool.old) (lost_of files.now pin.now) }
     ensures { HasGiven (lost_of files.now pin.now) pool.old pool.new }
 {
-    if is_stamp_current(files, pin.stamp) {
+    if is_current(files, pin) {
         pool.give(&[]);
     } else {
         pool.give(pin.blocks.as_slice());
     }
 }
 
-/// Whether some file has the version of this stamp.
-fn is_stamp_current(files: &FileTable, stamp: u64) -> bool
-    ensures { result ≡ is_stamp_current files.now stamp }
+/// Whether some file has this version. Only the file of its number can have it.
+fn is_current(files: &FileTable, pin: &Pinned) -> bool
+    requires rising { AllPairs (λ r s. r.number < s.number) files.now }
+    requires numbered { All (HasItsNumber pin.now) files.now }
+    ensures { result ≡ is_stamp_current files.now pin.now.stamp }
 {
-    files.iter().any(|file| file.stamp == stamp)
+    match files.get(pin.number) {
+        Some(file) => file.stamp == pin.stamp,
+        None => false,
+    }
 }
 
-/// The versions that wait, by owner and then by number, with their tape places end to end from block `first` on.
+/// The versions that wait, by owner and then by number, with their tape places end to end from block `first` on. The files
+/// are searched only for owners who have such a version.
 fn waiting_versions(
     alloc: Global,
     tree: &Tree,
@@ -161,15 +161,40 @@ fn waiting_versions(
         ≡ pins_from serial first online.now (waiting_below 63 tree.now.files)) }
 {
     let files = tree.files();
+    let waiting = waiting_owners(files);
     let mut pins = Vec::new(alloc);
     let mut at = first;
     for owner in 0..63 {
-        match pin_owner(&mut pins, &mut at, serial, owner, files, online) {
-            Ok(()) => {}
-            Err(_) => return Err(NoMemory),
+        if waiting[usize::from(owner)] {
+            match pin_owner(&mut pins, &mut at, serial, owner, files, online) {
+                Ok(()) => {}
+                Err(_) => return Err(NoMemory),
+            }
         }
     }
     Ok(pins)
+}
+
+/// A flag for each number of a user: none of a user's files waits unless it is set.
+fn waiting_owners(files: &FileTable) -> [bool; 256]
+    ensures { (owner : ℕ) → owner < 256 → slice_index_or result owner false ≡ false
+        → waiting_of owner files.now ≡ [] }
+{
+    let mut waiting = [false; 256];
+    for file in files {
+        note_waiting(&mut waiting, file);
+    }
+    waiting
+}
+
+/// Sets the flag of the file's owner if the file waits.
+fn note_waiting(waiting: &mut [bool; 256], file: &FileRec)
+    ensures { waiting.new ≡ (if is_waiting file.now then slice_set waiting.old file.now.owner true
+        else waiting.old) }
+{
+    if waits(file) {
+        waiting[usize::from(file.owner)] = true;
+    }
 }
 
 /// Appends the versions of this owner that wait. `at` is the block after the last place on tape.
@@ -214,6 +239,7 @@ fn pin_file(
     }
     let pinned = Pinned {
         stamp: file.stamp,
+        number: file.number,
         len: file.len,
         copy: TapeCopy { serial, first: *at },
         blocks: blocks_of(online.get(file.number)),

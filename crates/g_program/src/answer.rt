@@ -83,7 +83,7 @@ fn closed(finish: Finish<FileDisc<HostFile>, FileTapes>) -> u8
 {
     let mut disc = finish.disc;
     let _saved = disc.finish();
-    finish.tapes.sync();
+    let _finished = finish.tapes.finish();
     finish.status.code()
 }
 
@@ -96,8 +96,8 @@ fn closed_pair(rt: &HostRuntime, finish: Finish<FileDisc<HostFile>, Duplex<FileT
     tell_lost(rt, finish.tapes.lost());
     let code = finish.status.code();
     let (first, second) = finish.tapes.into_racks();
-    first.sync();
-    second.sync();
+    let _finished = first.finish();
+    let _finished_too = second.finish();
     code
 }
 

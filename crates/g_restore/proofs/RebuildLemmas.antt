@@ -1,5 +1,5 @@
 -- Writing the directory to a disc, and the answers.
--- serves: make, rebuild (causes, lost, none, rose), AnswerLemmas
+-- serves: make (survives), rebuild (causes, lost, none, rose), AnswerLemmas
 use Rattle.std.proofs.Common.{◌≡◌, ◌≢◌, ◌⊎◌, ℕ, Bool, true, false, List, [], ◌∷◌, Option, Some, None, Result, Ok, Err, refl, sym, ◌∙◌, ap, subst, inl, inr, map}
 use Rattle.std.specs.Prelude.{◌==◌, IfErr, is_some, if◌then◌else◌}
 use Rattle.std.specs.Option.{option_map}
@@ -21,9 +21,11 @@ use Rattle.g_shelf.specs.CompletedDumps.{all_dumps}
 use Rattle.g_store_meaning.specs.Laws.{restored, restored_file}
 use Rattle.g_store_meaning.specs.Meaning.{files_in}
 use Rattle.g_online.specs.AllowedChanges.{KeepsRules, Lies}
+use Rattle.g_online.specs.declared.fault.OnlineFault.{OnlineFault}
 use Rattle.g_online.specs.declared.fault.OnlineFault.TheVariants as online
 use Rattle.g_online.specs.Beginning.{first_contents, first_file}
 use Rattle.g_online.specs.Change.{told_bytes}
+use Rattle.g_online.specs.Faults.{store_fault_of}
 use Rattle.g_restore.specs.declared.directory.Dumped.{Dumped}
 use Rattle.g_restore.specs.Losses.{LostIsNamed, NamesLost}
 use Rattle.g_restore.specs.Reels.{AreOnReels}
@@ -136,3 +138,11 @@ same_first told d us fs users files =
 
 pub can_begin : (told : Bool) (d : Dumped) (us : List UserRec) (fs : List FileRec) → us ≡ d.users.items → fs ≡ d.files.items → CanBeMade d → KeepsRules (first_contents told (head_of d) us fs)
 can_begin told d us fs users files can = subst KeepsRules (sym (same_first told d us fs users files)) (keeps_rules told d can)
+
+-- the filestore's fault is that of a stopped write
+pub was_stopped : (fault : OnlineFault) → store_fault_of fault ≡ Stopped → fault ≡ online.Stopped
+was_stopped (online.DiscFull need room) is = let no : ⊥ = cc in absurd no
+was_stopped online.ReadFault is = let no : ⊥ = cc in absurd no
+was_stopped online.Stopped is = refl
+was_stopped online.NoFilestore is = let no : ⊥ = cc in absurd no
+was_stopped online.NoMemory is = let no : ⊥ = cc in absurd no

@@ -148,9 +148,9 @@ static NO_REELS: [&str; 7] = ["0", "01", "+3", "x", "1000000", "", "4.tape.bak"]
 
 /// The length of a file in bytes, and whether it is a reel.
 static SIZES: [(u64, bool); 4] = [
-    (511, false),
+    (511, true),
     (8_192 * 512, true),
-    (8_192 * 512 + 1, false),
+    (8_193 * 512 - 1, true),
     (8_193 * 512, false),
 ];
 

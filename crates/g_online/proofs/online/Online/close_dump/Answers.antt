@@ -1,12 +1,22 @@
-use Rattle.std.proofs.Common.{◌≡◌, ◌∙◌, ℕ, List, ap, sym, refl}
-use Rattle.g_entry.specs.declared.file_rec.TapeCopy.{TapeCopy}
+use Rattle.std.proofs.Common.{◌∙◌, ◌<◌, AllPairs, List, ap, sym, refl, subst}
+use Rattle.g_disc_contents.specs.Facts.{OnlineFacts}
+use Rattle.g_entry.specs.declared.file_rec.FileRec.{FileRec}
 use Rattle.g_online.proofs.CloseLemmas.{close_ready, close_rules, closing_is, lost_to_close, may_close, to_close}
 use Rattle.g_online.proofs.NotedLemmas.{noted_by, noted_kept}
+use Rattle.g_online.proofs.NumberedLemmas.{numbered_pins}
 use Rattle.g_online.proofs.StepLemmas.{copies_for, marked_for}
 use Rattle.g_online.specs.declared.change.Change.TheVariants.{Adopt}
-use Rattle.g_online.specs.declared.pinned.Pinned.{Pinned}
 use Rattle.g_online.specs.DumpedVersions.{noted_in}
 use Rattle.g_online.proofs.online.Online.close_dump.Goals as goal
+
+pub free_orphaned_pins-requires-clause-rising : goal.free_orphaned_pins-requires-clause-rising
+free_orphaned_pins-requires-clause-rising g c =
+    subst (λ (files : List FileRec). AllPairs (λ (r : FileRec) (s : FileRec). r.number < s.number) files) (sym c.files.ensures.value) c.files.ensures.records.numbers.rising
+
+pub free_orphaned_pins-requires-clause-numbered : goal.free_orphaned_pins-requires-clause-numbered
+free_orphaned_pins-requires-clause-numbered g c =
+    (numbered_pins (g.D.Disc.state c.self.inside.disc) _ c.self.invariant (ap (λ (o : OnlineFacts). o.live) c.self.view_is ∙ c.requires.live) c.files.result.now
+    c.pinned_versions-pins.result.now c.files.ensures.value c.pinned_versions-pins.ensures).0
 
 pub free_orphaned_pins-requires-clause-apart : goal.free_orphaned_pins-requires-clause-apart
 free_orphaned_pins-requires-clause-apart g c =
@@ -20,15 +30,22 @@ free_orphaned_pins-requires-clause-taken g c =
     c.self.view_is c.self.invariant c.requires.live c.requires.pinned c.requires.rules)
     c.files.result.now c.pinned_versions-pins.result.now c.files.ensures.value c.pinned_versions-pins.ensures).1
 
--- what is noted is noted of the versions
-same : (notes : List (ℕ × TapeCopy)) (pins versions : List Pinned) → notes ≡ noted_in pins → versions ≡ pins → notes ≡ noted_in versions
-same notes pins versions is these = is ∙ ap noted_in (sym these)
-
-pub note_copies-requires : goal.note_copies-requires
-note_copies-requires g c =
-    rw (same _ _ _ c.pinned_notes.ensures c.pinned_versions-pins.ensures) (close_rules c.args.last (g.D.Disc.state c.self.inside.disc) _ (to_close c.args.last (g.D.Disc.state c.self.inside.disc) _ c.args.self.now c.self.view_is
+pub note_copies-requires-clause-rules : goal.note_copies-requires-clause-rules
+note_copies-requires-clause-rules g c =
+    close_rules c.args.last (g.D.Disc.state c.self.inside.disc) _ (to_close c.args.last (g.D.Disc.state c.self.inside.disc) _ c.args.self.now c.self.view_is
     c.self.invariant c.requires.live c.requires.pinned c.requires.rules)
-    c.files.result.now c.pinned_versions-pins.result.now c.files.ensures.value c.pinned_versions-pins.ensures c.free_orphaned_pins.new.pool c.free_orphaned_pins.ensures)
+    c.files.result.now c.pinned_versions-pins.result.now c.files.ensures.value c.pinned_versions-pins.ensures c.free_orphaned_pins.new.pool c.free_orphaned_pins.ensures
+
+pub note_copies-requires-clause-records : goal.note_copies-requires-clause-records
+note_copies-requires-clause-records g c = c.files.ensures.records
+
+pub note_copies-requires-clause-apart : goal.note_copies-requires-clause-apart
+note_copies-requires-clause-apart g c =
+    (numbered_pins (g.D.Disc.state c.self.inside.disc) _ c.self.invariant (ap (λ (o : OnlineFacts). o.live) c.self.view_is ∙ c.requires.live) c.self.inside.tree.files c.pinned_versions-pins.result.now refl c.pinned_versions-pins.ensures).1
+
+pub note_copies-requires-clause-numbered : goal.note_copies-requires-clause-numbered
+note_copies-requires-clause-numbered g c =
+    (numbered_pins (g.D.Disc.state c.self.inside.disc) _ c.self.invariant (ap (λ (o : OnlineFacts). o.live) c.self.view_is ∙ c.requires.live) c.self.inside.tree.files c.pinned_versions-pins.result.now refl c.pinned_versions-pins.ensures).0
 
 pub commit-requires-clause-marked : goal.commit-requires-clause-marked
 commit-requires-clause-marked g c =
@@ -37,7 +54,7 @@ commit-requires-clause-marked g c =
     c.self.invariant c.requires.live c.requires.pinned c.requires.rules)
     c.files.result.now c.pinned_versions-pins.result.now c.files.ensures.value c.pinned_versions-pins.ensures c.free_orphaned_pins.new.pool c.free_orphaned_pins.ensures
     c.note_copies.new.tree.users c.note_copies.new.tree.files c.changed.new.self c.note_copies.new.pages c.note_copies.ensures.users
-    (rw (same _ _ _ c.pinned_notes.ensures c.pinned_versions-pins.ensures) at c.note_copies.ensures.files) c.changed.ensures.marks c.changed.ensures.remembers c.changed.ensures.covers (rw (same _ _ _ c.pinned_notes.ensures c.pinned_versions-pins.ensures) at c.note_copies.ensures.marks))
+    c.note_copies.ensures.files c.changed.ensures.marks c.changed.ensures.remembers c.changed.ensures.covers c.note_copies.ensures.marks)
     c.self.inside.online refl
 
 pub commit-requires-clause-copies : goal.commit-requires-clause-copies
@@ -47,7 +64,7 @@ commit-requires-clause-copies g c =
     c.self.invariant c.requires.live c.requires.pinned c.requires.rules)
     c.files.result.now c.pinned_versions-pins.result.now c.files.ensures.value c.pinned_versions-pins.ensures c.free_orphaned_pins.new.pool c.free_orphaned_pins.ensures
     c.note_copies.new.tree.users c.note_copies.new.tree.files c.changed.new.self c.note_copies.new.pages c.note_copies.ensures.users
-    (rw (same _ _ _ c.pinned_notes.ensures c.pinned_versions-pins.ensures) at c.note_copies.ensures.files) c.changed.ensures.marks c.changed.ensures.remembers c.changed.ensures.covers (rw (same _ _ _ c.pinned_notes.ensures c.pinned_versions-pins.ensures) at c.note_copies.ensures.marks))
+    c.note_copies.ensures.files c.changed.ensures.marks c.changed.ensures.remembers c.changed.ensures.covers c.note_copies.ensures.marks)
     c.self.inside.online refl
 
 pub invariant_of-self : goal.invariant_of-self
@@ -59,8 +76,8 @@ invariant_of-self g c =
     c.files.result.now c.pinned_versions-pins.result.now c.files.ensures.value c.pinned_versions-pins.ensures c.free_orphaned_pins.new.pool c.free_orphaned_pins.ensures
     c.note_copies.new.tree.users c.note_copies.new.tree.files c.changed.new.self c.note_copies.new.pages c.replace-self-inside.result
     c.replace-self-inside.new.dest
-    c.note_copies.ensures.users (rw (same _ _ _ c.pinned_notes.ensures c.pinned_versions-pins.ensures) at c.note_copies.ensures.files) c.changed.ensures.marks c.changed.ensures.remembers c.changed.ensures.covers
-    (rw (same _ _ _ c.pinned_notes.ensures c.pinned_versions-pins.ensures) at c.note_copies.ensures.marks)
+    c.note_copies.ensures.users c.note_copies.ensures.files c.changed.ensures.marks c.changed.ensures.remembers c.changed.ensures.covers
+    c.note_copies.ensures.marks
     c.replace-self-inside.ensures.value (c.replace-self-inside.ensures.after ∙ c.new.ensures) in
     noted_kept _ _ _ _ _ _ _ may (g.D.Disc.state c.commit.new.disc) c.commit.new.slots c.commit.new.pages c.commit.new.live c.commit.result c.self.inside.online
     refl
@@ -75,8 +92,8 @@ returns g c =
     c.files.result.now c.pinned_versions-pins.result.now c.files.ensures.value c.pinned_versions-pins.ensures c.free_orphaned_pins.new.pool c.free_orphaned_pins.ensures
     c.note_copies.new.tree.users c.note_copies.new.tree.files c.changed.new.self c.note_copies.new.pages c.replace-self-inside.result
     c.replace-self-inside.new.dest
-    c.note_copies.ensures.users (rw (same _ _ _ c.pinned_notes.ensures c.pinned_versions-pins.ensures) at c.note_copies.ensures.files) c.changed.ensures.marks c.changed.ensures.remembers c.changed.ensures.covers
-    (rw (same _ _ _ c.pinned_notes.ensures c.pinned_versions-pins.ensures) at c.note_copies.ensures.marks)
+    c.note_copies.ensures.users c.note_copies.ensures.files c.changed.ensures.marks c.changed.ensures.remembers c.changed.ensures.covers
+    c.note_copies.ensures.marks
     c.replace-self-inside.ensures.value (c.replace-self-inside.ensures.after ∙ c.new.ensures) in
     closing_is c.args.last (g.D.Disc.state c.self.inside.disc) _
     (to_close c.args.last (g.D.Disc.state c.self.inside.disc) _ c.args.self.now c.self.view_is c.self.invariant c.requires.live c.requires.pinned
