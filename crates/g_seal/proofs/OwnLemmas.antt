@@ -1,10 +1,11 @@
 -- A store whose seal it is has nothing to report.
 -- serves: rotten (unchanged)
-use Rattle.std.proofs.Common.{◌≡◌, ◌≢◌, ◌⊎◌, inl, inr, ℕ, ◌+◌, ◌*◌, Bool, true, false, ◌&&◌, ◌||◌, List, [], ◌∷◌, ◌++◌, zero, suc, ◌<◌, length, length-map, get_or, map, Option, Some, None, refl, sym, ◌∙◌, ap, subst, arith, All}
+use Rattle.std.proofs.Common.{◌≡◌, ◌≢◌, ◌⊎◌, inl, inr, ℕ, ◌+◌, ◌*◌, Bool, true, false, ◌&&◌, ◌||◌, List, [], ◌∷◌, ◌++◌, zero, suc, ◌<◌, get_or, map, Option, Some, None, refl, sym, ◌∙◌, ap, subst, arith, All}
 use Rattle.std.specs.Prelude.{◌==◌, AllPairs, cond, not, option_map}
 use Rattle.std.specs.List.{flat_map, list_any}
 use Rattle.std.specs.Cmp.Lexicographic.{bytes_decides}
-use Rattle.std.proofs.lemmas.Bool.{cases_Bool, cond-false, cond-true, eq-eqb, ne_eqb}
+use Rattle.std.proofs.lemmas.Bool.{and_from, cases_Bool, cond-false, cond-true, eq-eqb, ne_eqb}
+use Rattle.std.proofs.lemmas.List.{length-map}
 use Rattle.std.proofs.lemmas.List.Elements.{All-cons, All-head, All-nil, All-tail}
 use Rattle.std.proofs.lemmas.Option.{same_Some}
 use Rattle.sha2.specs.Sha256.{sha256}
@@ -27,7 +28,8 @@ use Rattle.g_seal.specs.declared.entries.SealedDump.{SealedDump}
 use Rattle.g_seal.specs.declared.entries.SealedFile.{SealedFile}
 use Rattle.g_seal.specs.declared.versions.CopyState.{CopyState}
 use Rattle.g_seal.specs.declared.versions.CopyState.TheVariants as state
-use Rattle.g_seal.specs.Rotten.{IsReport, IsSealing, disc_state, file_lines, found_version, has_copy, is_inside, is_left_out, is_other, is_overwritten, is_rotten, is_same_place, is_sealed, reel_state, rotten_dump_line, rotten_dumps, rotten_files, rotten_if, sum_state, tape_state, version_lines, version_of}
+use Rattle.g_seal.specs.declared.versions.FoundVersion.{FoundVersion}
+use Rattle.g_seal.specs.Rotten.{IsReport, IsSealing, disc_state, file_lines, found_version, has_copy, is_inside, is_left_out, is_other, is_rotten, is_same_place, is_sealed, reel_state, rotten_dump_line, rotten_dumps, rotten_file_line, rotten_files, rotten_if, sum_state, tape_state, version_lines, version_of}
 use Rattle.g_seal.specs.Sealing.{bytes_on, dump_place, sealed_dump, sealed_file, sealed_files, taped_bytes}
 
 same : (xs : List ℕ) → same_text xs xs ≡ true
@@ -58,7 +60,7 @@ own_dumps reels (d ∷ dumps) = cond-false (is_rotten reels (sealed_dump reels d
 
 -- FILES
 own_place : (c : TapeCopy) → is_same_place c (Some c) ≡ true
-own_place c = rw (eq-eqb c.serial c.serial refl, eq-eqb c.first c.first refl) refl
+own_place c = and_from (c.serial == c.serial) (c.first == c.first) (eq-eqb c.serial c.serial refl) (eq-eqb c.first c.first refl)
 
 left_true : (a b c : Bool) → a ≡ true → b ≡ true → c ≡ true → (a && b && c && true) ≡ true
 left_true a b c x y z = rw (x, y, z) refl
@@ -79,20 +81,25 @@ own_tape reels s disc len (Some c) at on off = by_online (cases_Bool s.online)
         let left : is_left_out [] s disc c ≡ false = left_false s.online (is_sealed disc) (is_same_place c s.tape) (not (list_any (is_inside c) [])) is in
         ap is_other (cond-false (is_left_out [] s disc c) state.Absent (reel_state reels c len s.sum) left ∙ ap (reel_state reels c len) (off is c refl)) ∙ own_state reels c len
 
+or_false : (a b : Bool) → a ≡ false → b ≡ false → (a || b) ≡ false
+or_false a b x y = rw (x, y) refl
+
 no_rotten : (blocks : List (List ℕ)) (reels : List Reel) (users : List UserRec) (s : SealedFile) (f : FileEntry) → is_other (disc_state blocks s.sum f.1) ≡ false
     → is_other (tape_state reels [] s (disc_state blocks s.sum f.1) f.0.len f.0.tape) ≡ false → rotten_if (found_version blocks reels [] users s f) ≡ []
-no_rotten blocks reels users s f disc tape = rw (disc, tape) refl
+no_rotten blocks reels users s f disc tape =
+    let v : FoundVersion = found_version blocks reels [] users s f in
+    cond-false (is_other v.disc || is_other v.tape) (rotten_file_line v ∷ []) [] (or_false (is_other v.disc) (is_other v.tape) disc tape)
 
 own_version : (blocks : List (List ℕ)) (reels : List Reel) (users : List UserRec) (r : FileRec) (copy : Option DiscCopy)
     → rotten_if (found_version blocks reels [] users (sealed_file blocks reels users (r, copy)) (r, copy)) ≡ []
 own_version blocks reels users r None =
     no_rotten blocks reels users (sealed_file blocks reels users (r, None)) (r, None) refl
-    (own_tape reels (sealed_file blocks reels users (r, None)) state.Absent r.len r.tape refl (λ wrong. absurd (let no : ⊥ = cc in no))
+    (own_tape reels (sealed_file blocks reels users (r, None)) state.Absent r.len r.tape refl (λ wrong. absurd (let not : false ≡ true = wrong in let no : ⊥ = cc in no))
     (λ off c is. ap (λ (t : Option TapeCopy). sha256 (taped_bytes reels t r.len)) is))
 own_version blocks reels users r (Some copy) =
     let sealed : disc_state blocks (sha256 (bytes_at copy.blocks copy.len blocks)) (Some copy) ≡ state.Sealed = own_sum (sha256 (bytes_at copy.blocks copy.len blocks)) in
     no_rotten blocks reels users (sealed_file blocks reels users (r, Some copy)) (r, Some copy) (ap is_other sealed)
-    (own_tape reels (sealed_file blocks reels users (r, Some copy)) (disc_state blocks (sha256 (bytes_at copy.blocks copy.len blocks)) (Some copy)) r.len r.tape refl (λ on. sealed) (λ wrong. absurd (let no : ⊥ = cc in no)))
+    (own_tape reels (sealed_file blocks reels users (r, Some copy)) (disc_state blocks (sha256 (bytes_at copy.blocks copy.len blocks)) (Some copy)) r.len r.tape refl (λ on. sealed) (λ wrong. absurd (let not : true ≡ false = wrong in let no : ⊥ = cc in no)))
 
 -- each of the files is found by its stamp
 find_first : (f : FileEntry) (files : List FileEntry) → version_of (f ∷ files) f.0.stamp ≡ Some f
@@ -111,14 +118,14 @@ IsFirst files f = version_of files f.0.stamp ≡ Some f
 
 find_each : (files : List FileEntry) → AllPairs (λ (r : FileRec) (s : FileRec). r.stamp ≢ s.stamp) (recs files) → All (IsFirst files) files
 find_each [] apart = All-nil (IsFirst [])
-find_each (e ∷ files) apart = All-cons (IsFirst (e ∷ files)) e files (find_first e files) rest
+find_each (e ∷ files) apart = All-cons (IsFirst (e ∷ files)) e files (find_first e files) (rest (find_each files (pairs_rest (λ (r : FileRec) (s : FileRec). r.stamp ≢ s.stamp) e.0 (recs files) apart)))
   where
-    rest : All (IsFirst (e ∷ files)) files
-    rest k d within =
+    rest : All (IsFirst files) files → All (IsFirst (e ∷ files)) files
+    rest own k d within =
         let others = pairs_first (λ (r : FileRec) (s : FileRec). r.stamp ≢ s.stamp) e.0 (recs files) apart in
         let long = length-map (λ (g : FileEntry). g.0) files in
         let other : e.0.stamp ≢ (get_or files k d).0.stamp = subst (λ (r : FileRec). e.0.stamp ≢ r.stamp) (at_rec files k d) (others k d.0 (omega (arith, within, long))) in
-        find_rest e (get_or files k d) files other ∙ find_each files (pairs_rest (λ (r : FileRec) (s : FileRec). r.stamp ≢ s.stamp) e.0 (recs files) apart) k d within
+        find_rest e (get_or files k d) files other ∙ own k d within
 
 own_files : (blocks : List (List ℕ)) (reels : List Reel) (d : Directory) (files : List FileEntry) → All (IsFirst d.files) files
     → flat_map (file_lines blocks reels [] d) (map (sealed_file blocks reels d.users) files) ≡ []

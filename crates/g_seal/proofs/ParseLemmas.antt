@@ -1,6 +1,6 @@
 -- The text of a seal from its lines.
 -- serves: is_whole, parse_seal (read)
-use Rattle.std.proofs.Common.{◌≡◌, ℕ, List, [], ◌∷◌, ◌++◌, length, map, true, Result, Ok, Err, IfOk, refl, sym, ◌∙◌, ap, subst}
+use Rattle.std.proofs.Common.{◌≡◌, ℕ, List, [], ◌∷◌, ◌++◌, length, map, true, Result, Ok, Err, IfOk, refl, sym, ◌∙◌, ap, subst, arith}
 use Rattle.std.specs.Prelude.{nat_eq}
 use Rattle.std.specs.Cmp.Lexicographic.{bytes_decides, pointwise}
 use Rattle.std.proofs.lemmas.Grind.{flat_map-append}
@@ -28,7 +28,7 @@ whole_is text front last is ends = subst (λ (t : List ℕ). text_of (lines_of t
 
 pub empty_is : (text : List ℕ) → length text ≡ 0 → text_of (lines_of text) ≡ text
 empty_is [] none = refl
-empty_is (b ∷ text) none = absurd (omega none)
+empty_is (b ∷ text) none = absurd (omega (arith, none))
 
 -- the last line is the one that is due
 pub front_is : (text front last due : List ℕ) → text ≡ front ++ last → due ≡ ended (seal_line front) → pointwise nat_eq due last ≡ true → text ≡ front ++ ended (seal_line front)

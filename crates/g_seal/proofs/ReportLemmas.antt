@@ -1,6 +1,6 @@
 -- The report of a check against a seal, from the lines that were appended.
 -- serves: rotten (disc, text, unchanged)
-use Rattle.std.proofs.Common.{◌≡◌, ℕ, List, [], ◌++◌, map, Option, Result, Ok, Err, IfOk, sym, ◌∙◌, ap, subst}
+use Rattle.std.proofs.Common.{◌≡◌, ℕ, List, [], ◌++◌, map, Option, sym, ◌∙◌, ap, subst}
 use Rattle.std.specs.Option.{ForSome}
 use Rattle.std.proofs.lemmas.Grind.{flat_map-append}
 use Rattle.g_disc.specs.Disc.{DiscState}
@@ -34,12 +34,16 @@ report_is held size reels standing dumps rotten files begun first second told st
     }
 
 -- the same of what the calls ensure, one after another
-pub report_at : (size : ℕ) (disc mid : DiscState) (rack one : Rack) (standing : Standing) (dumps rotten : List SealedDump) (files : List SealedFile) (begun first second : List ℕ) → AllTold disc.held (told_reels rack)
-    → told_reels one ≡ told_reels rack → mid.held ≡ disc.held → IsStanding size disc.held standing → begun ≡ [] → (ReelsTold (told_reels rack) → rotten ≡ rotten_dumps (told_reels rack) dumps)
-    → first ≡ begun ++ text_of (map rotten_dump_line rotten)
-    → (ReelsTold (told_reels one) → ForSome mid.held (λ blocks. second ≡ first ++ text_of (rotten_files blocks (told_reels one) rotten (found_in standing.dirs) files)))
+pub report_at : (size : ℕ) (disc mid : DiscState) (rack one : Rack) (standing : Standing) (dumps rotten due there again : List SealedDump) (files wanted : List SealedFile) (begun first second : List ℕ)
+    → due ≡ dumps → there ≡ rotten → again ≡ rotten → wanted ≡ files → AllTold disc.held (told_reels rack)
+    → told_reels one ≡ told_reels rack → mid.held ≡ disc.held → IsStanding size disc.held standing → begun ≡ [] → (ReelsTold (told_reels rack) → rotten ≡ rotten_dumps (told_reels rack) due)
+    → first ≡ begun ++ text_of (map rotten_dump_line there)
+    → (ReelsTold (told_reels one) → ForSome mid.held (λ blocks. second ≡ first ++ text_of (rotten_files blocks (told_reels one) again (found_in standing.dirs) wanted)))
     → IsReport disc.held (told_reels rack) dumps files second
-report_at size disc mid rack one standing dumps rotten files begun first second told is_one is_mid stands none rotten_is first_is held =
-    let held_is : ForSome mid.held (λ blocks. second ≡ first ++ text_of (rotten_files blocks (told_reels rack) rotten (found_in standing.dirs) files)) =
-    subst (λ (rs : List Reel). ReelsTold rs → ForSome mid.held (λ blocks. second ≡ first ++ text_of (rotten_files blocks rs rotten (found_in standing.dirs) files))) is_one held told.each in
-    report_is disc.held size (told_reels rack) standing dumps rotten files begun first second told stands none (rotten_is told.each) first_is (λ blocks is. held_is blocks (is_mid ∙ is))
+report_at size disc mid rack one standing dumps rotten due there again files wanted begun first second due_is there_is again_is wanted_is told is_one is_mid stands none rotten_is first_is held =
+    let held_is : ForSome mid.held (λ blocks. second ≡ first ++ text_of (rotten_files blocks (told_reels rack) again (found_in standing.dirs) wanted)) =
+    subst (λ (rs : List Reel). ReelsTold rs → ForSome mid.held (λ blocks. second ≡ first ++ text_of (rotten_files blocks rs again (found_in standing.dirs) wanted))) is_one held told.each in
+    report_is disc.held size (told_reels rack) standing dumps rotten files begun first second told stands none (rotten_is told.each ∙ ap (rotten_dumps (told_reels rack)) due_is)
+    (first_is ∙ ap (λ (ds : List SealedDump). begun ++ text_of (map rotten_dump_line ds)) there_is)
+    (λ blocks is. held_is blocks (is_mid ∙ is) ∙ ap (λ (ds : List SealedDump). first ++ text_of (rotten_files blocks (told_reels rack) ds (found_in standing.dirs) wanted)) again_is
+    ∙ ap (λ (fs : List SealedFile). first ++ text_of (rotten_files blocks (told_reels rack) rotten (found_in standing.dirs) fs)) wanted_is)

@@ -1,7 +1,7 @@
 -- What was read of sealed dumps, and the rotten ones among them.
 -- serves: block_at (block), push_rotten_dumps, reel_state (state), rotten_dumps (rotten)
-use Rattle.std.proofs.Common.{◌≡◌, ◌⊎◌, inl, inr, ℕ, ◌+◌, ◌-◌, ◌*◌, ◌<◌, ◌≤◌, Bool, true, false, ◌&&◌, List, [], ◌∷◌, ◌++◌, length, map, take, get_or, slice_get, Option, Some, None, Result, Ok, Err, refl, sym, ◌∙◌, ap, subst, arith}
-use Rattle.std.specs.Prelude.{filter, is_some, not, option_map, nat_le}
+use Rattle.std.proofs.Common.{◌≡◌, ◌⊎◌, inl, inr, ℕ, ◌+◌, ◌-◌, ◌*◌, ◌<◌, ◌≤◌, Bool, true, false, ◌&&◌, ◌||◌, List, [], ◌∷◌, ◌++◌, length, take, get_or, slice_get, Option, Some, None, Result, Ok, refl, sym, ◌∙◌, ap, subst}
+use Rattle.std.specs.Prelude.{is_some, not, option_map, nat_le}
 use Rattle.std.specs.Option.{ForSome}
 use Rattle.std.proofs.lemmas.Bool.{cases_Bool, cond-false, cond-true, le-leb, leb-true}
 use Rattle.std.proofs.lemmas.List.{take_all, take_more}
@@ -69,17 +69,18 @@ pub record RottenDumps (dumps : List SealedDump) (i : ℕ) (found : List SealedD
 pub none_rotten : (dumps found : List SealedDump) (rack : Rack) → found ≡ [] → RottenDumps dumps 0 found rack rack
 none_rotten dumps found rack none = record { reads = rack_none rack; found_is = λ told. none }
 
-pub rotten_more : {Q : Type 0} (dumps : List SealedDump) (i : ℕ) (d : SealedDump) (found next : List SealedDump) (old mid new : Rack) → i < length dumps → d ≡ get_or dumps i d → RottenDumps dumps i found old mid → (Q → ⊥)
-    → ReadsRackByCause Q mid new → (ReelsTold (told_reels mid) → next ≡ found ++ rotten_dumps (told_reels mid) (d ∷ [])) → RottenDumps dumps (i + 1) next old new
-rotten_more {Q} dumps i d found next old mid new within at so never reads adds =
+pub rotten_more : {Q : Type 0} (dumps : List SealedDump) (i : ℕ) (d : SealedDump) (found next : List SealedDump) (old mid new : Rack) → i < length dumps → RottenDumps dumps i found old mid → (Q → ⊥)
+    → ReadsRackByCause Q mid new → (ReelsTold (told_reels mid) → next ≡ found ++ rotten_dumps (told_reels mid) (get_or dumps i d ∷ [])) → RottenDumps dumps (i + 1) next old new
+rotten_more {Q} dumps i d found next old mid new within so never reads adds =
+    let one : List SealedDump = get_or dumps i d ∷ [] in
     let still : told_reels mid ≡ told_reels old = so.reads.only.reels in
     record {
       reads = rack_then (λ wrong. wrong) so.reads (rack_never never reads);
       found_is = λ told.
-          adds (subst ReelsTold (sym still) told) ∙ ap (λ (rs : List Reel). found ++ rotten_dumps rs (d ∷ [])) still
-          ∙ ap (λ (ds : List SealedDump). ds ++ rotten_dumps (told_reels old) (d ∷ [])) (so.found_is told)
-          ∙ sym (filter-append (is_rotten (told_reels old)) (take i dumps) (d ∷ []))
-          ∙ ap (rotten_dumps (told_reels old)) (sym (take_more dumps i d within ∙ ap (λ y. take i dumps ++ y ∷ []) (sym at)));
+          adds (subst ReelsTold (sym still) told) ∙ ap (λ (rs : List Reel). found ++ rotten_dumps rs one) still
+          ∙ ap (λ (ds : List SealedDump). ds ++ rotten_dumps (told_reels old) one) (so.found_is told)
+          ∙ sym (filter-append (is_rotten (told_reels old)) (take i dumps) one)
+          ∙ ap (rotten_dumps (told_reels old)) (sym (take_more dumps i d within));
     }
 
 pub all_rotten : (dumps : List SealedDump) (i : ℕ) (found : List SealedDump) (old now : Rack) → length dumps ≤ i → RottenDumps dumps i found old now → ReelsTold (told_reels old)
@@ -87,33 +88,46 @@ pub all_rotten : (dumps : List SealedDump) (i : ℕ) (found : List SealedDump) (
 all_rotten dumps i found old now all so told = so.found_is told ∙ ap (rotten_dumps (told_reels old)) (take_all i dumps all)
 
 -- A DUMP that is rotten or not
+first_false : (a b c : Bool) → a ≡ false → (a && b && c) ≡ false
+first_false a b c x = rw x refl
+
+second_false : (a b c : Bool) → b ≡ false → (a && b && c) ≡ false
+second_false true b c x = rw x refl
+second_false false b c x = refl
+
+both_true : (a b c : Bool) → a ≡ true → b ≡ true → (a && b && c) ≡ c
+both_true a b c x y = rw (x, y) refl
+
 pub too_big : (reels : List Reel) (d : SealedDump) → nat_le d.blocks 65_536 ≡ false → false ≡ is_rotten reels d
-too_big reels d big = rw big refl
+too_big reels d big = sym (first_false (nat_le d.blocks 65_536) (is_other (reel_state reels (place_of d) (512 * d.blocks) d.sum)) (not (is_overwritten reels d)) big)
 
 pub not_other : (reels : List Reel) (d : SealedDump) (s : CopyState) → s ≡ reel_state reels (place_of d) (512 * d.blocks) d.sum → is_other s ≡ false → false ≡ is_rotten reels d
-not_other reels d s is none = sym (first_false (nat_le d.blocks 65_536) (is_other (reel_state reels (place_of d) (512 * d.blocks) d.sum)) (not (is_overwritten reels d)) (ap is_other (sym is) ∙ none))
-  where
-    first_false : (a b c : Bool) → b ≡ false → (a && b && c) ≡ false
-    first_false true true c wrong = absurd (let no : ⊥ = cc in no)
-    first_false true false c wrong = refl
-    first_false false b c wrong = refl
+not_other reels d s is none =
+    sym (second_false (nat_le d.blocks 65_536) (is_other (reel_state reels (place_of d) (512 * d.blocks) d.sum)) (not (is_overwritten reels d)) (ap is_other (sym is) ∙ none))
 
 pub other_is : (reels : List Reel) (d : SealedDump) (s : CopyState) (over : Bool) → nat_le d.blocks 65_536 ≡ true → s ≡ reel_state reels (place_of d) (512 * d.blocks) d.sum → is_other s ≡ true → over ≡ is_overwritten reels d
     → not over ≡ is_rotten reels d
 other_is reels d s over small is other over_is =
-    ap not over_is ∙ sym (all_true (nat_le d.blocks 65_536) (is_other (reel_state reels (place_of d) (512 * d.blocks) d.sum)) (not (is_overwritten reels d)) small (ap is_other (sym is) ∙ other))
-  where
-    all_true : (a b c : Bool) → a ≡ true → b ≡ true → (a && b && c) ≡ c
-    all_true a b c x y = rw (x, y) refl
+    ap not over_is ∙ sym (both_true (nat_le d.blocks 65_536) (is_other (reel_state reels (place_of d) (512 * d.blocks) d.sum)) (not (is_overwritten reels d)) small (ap is_other (sym is) ∙ other))
 
 -- A DUMP that was overwritten or not
-pub over_marked : (reels : List Reel) (d : SealedDump) (m : Bool) → m ≡ is_mark d (block_on reels d.serial (d.place + d.blocks - 1)) → m ≡ true → false ≡ is_overwritten reels d
-over_marked reels d m is marked = rw (sym is ∙ marked) refl
+module _ (reels : List Reel) (d : SealedDump) where
+  pub over_marked : (m : Bool) → m ≡ is_mark d (block_on reels d.serial (d.place + d.blocks - 1)) → m ≡ true → false ≡ is_overwritten reels d
+  over_marked m is marked = by (is_mark d (block_on reels d.serial (d.place + d.blocks - 1))) (sym is ∙ marked)
+    where
+      by : (k : Bool) → k ≡ true → false ≡ (not k && (is_later_header d 0 (block_on reels d.serial 0) || is_later_header d d.place (block_on reels d.serial d.place)))
+      by k x = rw x refl
 
-pub over_first : (reels : List Reel) (d : SealedDump) (m a : Bool) → m ≡ is_mark d (block_on reels d.serial (d.place + d.blocks - 1)) → m ≡ false → a ≡ is_later_header d 0 (block_on reels d.serial 0) → a ≡ true
-    → true ≡ is_overwritten reels d
-over_first reels d m a is none a_is there = rw (sym is ∙ none, sym a_is ∙ there) refl
+  pub over_first : (m a : Bool) → m ≡ is_mark d (block_on reels d.serial (d.place + d.blocks - 1)) → m ≡ false → a ≡ is_later_header d 0 (block_on reels d.serial 0) → a ≡ true → true ≡ is_overwritten reels d
+  over_first m a is none a_is there = by (is_mark d (block_on reels d.serial (d.place + d.blocks - 1))) (is_later_header d 0 (block_on reels d.serial 0)) (sym is ∙ none) (sym a_is ∙ there)
+    where
+      by : (k h : Bool) → k ≡ false → h ≡ true → true ≡ (not k && (h || is_later_header d d.place (block_on reels d.serial d.place)))
+      by k h x y = rw (x, y) refl
 
-pub over_second : (reels : List Reel) (d : SealedDump) (m a b : Bool) → m ≡ is_mark d (block_on reels d.serial (d.place + d.blocks - 1)) → m ≡ false → a ≡ is_later_header d 0 (block_on reels d.serial 0) → a ≡ false
-    → b ≡ is_later_header d d.place (block_on reels d.serial d.place) → b ≡ is_overwritten reels d
-over_second reels d m a b is none a_is gone b_is = b_is ∙ rw (sym is ∙ none, sym a_is ∙ gone) refl
+  pub over_second : (m a b : Bool) → m ≡ is_mark d (block_on reels d.serial (d.place + d.blocks - 1)) → m ≡ false → a ≡ is_later_header d 0 (block_on reels d.serial 0) → a ≡ false
+      → b ≡ is_later_header d d.place (block_on reels d.serial d.place) → b ≡ is_overwritten reels d
+  over_second m a b is none a_is gone b_is =
+      b_is ∙ by (is_mark d (block_on reels d.serial (d.place + d.blocks - 1))) (is_later_header d 0 (block_on reels d.serial 0)) (sym is ∙ none) (sym a_is ∙ gone)
+    where
+      by : (k h : Bool) → k ≡ false → h ≡ false → is_later_header d d.place (block_on reels d.serial d.place) ≡ (not k && (h || is_later_header d d.place (block_on reels d.serial d.place)))
+      by k h x y = rw (x, y) refl

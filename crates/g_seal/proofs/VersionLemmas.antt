@@ -1,7 +1,7 @@
 -- The lines of rotten files, one after another, while the devices are only read.
 -- serves: push_rotten_files (text), push_rotten_held (text)
-use Rattle.std.proofs.Common.{◌≡◌, ℕ, ◌+◌, ◌<◌, ◌≤◌, Bool, true, false, ◌||◌, List, [], ◌∷◌, ◌++◌, length, map, take, get_or, Option, Some, None, Result, Ok, Err, refl, sym, ◌∙◌, ap, subst, arith}
-use Rattle.std.specs.Prelude.{◌==◌, OnOk, cond, find, option_map}
+use Rattle.std.proofs.Common.{◌≡◌, ℕ, ◌+◌, ◌<◌, ◌≤◌, Bool, true, false, ◌||◌, List, [], ◌∷◌, ◌++◌, length, take, get_or, Option, Some, None, Result, Ok, Err, refl, sym, ◌∙◌, ap, subst}
+use Rattle.std.specs.Prelude.{◌==◌, OnOk, cond, option_map}
 use Rattle.std.specs.List.{flat_map}
 use Rattle.std.specs.Option.{ForSome}
 use Rattle.std.proofs.lemmas.Grind.{flat_map-append}
@@ -124,10 +124,12 @@ pushed_none found v old is whole =
 -- THE FILES of what the disc holds
 same_version : (files : List FileRec) (online : List (ℕ × DiscCopy)) (stamp : ℕ) → version_of (entries_of files online) stamp ≡ option_map (λ (r : FileRec). (r, copy_at online r.number)) (rec_of files stamp)
 same_version [] online stamp = refl
-same_version (r ∷ files) online stamp = by_stamp (r.stamp == stamp) (same_version files online stamp)
+same_version (r ∷ files) online stamp = by_stamp (r.stamp == stamp) (version_of (entries_of files online) stamp) (rec_of files stamp) (same_version files online stamp)
   where
-    by_stamp : (b : Bool) {x y : Option FileEntry} → x ≡ y → cond b (Some (r, copy_at online r.number)) x ≡ cond b (Some (r, copy_at online r.number)) y
-    by_stamp b same = ap (cond b (Some (r, copy_at online r.number))) same
+    by_stamp : (b : Bool) (x : Option FileEntry) (y : Option FileRec) → x ≡ option_map (λ (q : FileRec). (q, copy_at online q.number)) y
+        → cond b (Some (r, copy_at online r.number)) x ≡ option_map (λ (q : FileRec). (q, copy_at online q.number)) (cond b (Some r) y)
+    by_stamp true x y same = refl
+    by_stamp false x y same = same
 
 same_map : {X Y Z : Type 0} (g : Y → Z) (f : X → Y) (o : Option X) → option_map g (option_map f o) ≡ option_map (λ x. g (f x)) o
 same_map g f None = refl

@@ -1,5 +1,5 @@
 //! Whether a sealed dump was overwritten by a later one.
-ghost use Rattle.std.specs.Prelude.{◌≡◌, ◌⊎◌, All, Err, IfErr, IfOk, IfSome, length, true};
+ghost use Rattle.std.specs.Prelude.{◌≡◌, ◌⊎◌, ◌+◌, ◌-◌, All, Err, IfErr, IfOk, true};
 ghost use Rattle.g_store_meaning.specs.Meaning.{told_reels};
 ghost use Rattle.g_store_meaning.specs.Reading.{ReelsTold};
 ghost use Rattle.g_look.specs.Looks.{ReadsRackByCause};

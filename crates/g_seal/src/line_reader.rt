@@ -44,7 +44,7 @@ pub(crate) fn file_in(alloc: Global, line: &[u8]) -> Result<Option<SealedFile>, 
 
 /// A dump by the fields of a line. The line may differ from the dump's own.
 fn dump_of(line: &[u8]) -> Option<SealedDump> {
-    let (number, rest) = field(line, b"DUMP ", u64::MAX)?;
+    let (number, rest) = field(line, b"DUMP ")?;
     let (serial, rest) = short_field(rest, b"TAPE ")?;
     let (place, rest) = short_field(rest, b"AT ")?;
     let (blocks, rest) = short_field(rest, b"BLOCKS ")?;
@@ -63,7 +63,7 @@ fn file_of(line: &[u8]) -> Option<SealedFile> {
     let (name, rest) = word(line.strip_prefix(b"FILE ")?);
     let full = full_in(name)?;
     let (len, rest) = short_field(rest, b"LENGTH ")?;
-    let (stamp, rest) = field(rest, b"STAMP ", u64::MAX)?;
+    let (stamp, rest) = field(rest, b"STAMP ")?;
     let (sum, rest) = sum_field(rest)?;
     let online = rest.starts_with(b"DISC");
     let (_disc, after) = if online { word(rest) } else { (rest, rest) };
@@ -86,15 +86,15 @@ fn word(text: &[u8]) -> (&[u8], &[u8]) {
 }
 
 /// The number after these words, and what follows the space after it.
-fn field<'a>(text: &'a [u8], words: &[u8], most: u64) -> Option<(u64, &'a [u8])> {
+fn field<'a>(text: &'a [u8], words: &[u8]) -> Option<(u64, &'a [u8])> {
     let (digits, rest) = word(text.strip_prefix(words)?);
-    Some((number(digits, most)?, rest))
+    Some((number(digits, u64::MAX)?, rest))
 }
 
 /// The same for a number below 2^32.
 fn short_field<'a>(text: &'a [u8], words: &[u8]) -> Option<(u32, &'a [u8])> {
-    let (value, rest) = field(text, words, 4_294_967_295)?;
-    Some((value as u32, rest))
+    let (value, rest) = field(text, words)?;
+    Some((u32::try_from(value).ok()?, rest))
 }
 
 /// A sum, and what follows the space after it.

@@ -1,5 +1,5 @@
 //! The sealed dumps whose blocks have other bytes.
-ghost use Rattle.std.specs.Prelude.{◌≡◌, ◌⊎◌, ◌++◌, All, Err, IfErr, IfOk, OnOk, map, true};
+ghost use Rattle.std.specs.Prelude.{◌≡◌, ◌⊎◌, ◌++◌, ◌∷◌, [], All, Err, IfErr, IfOk, OnOk, map, true};
 ghost use Rattle.g_lines.specs.Lines.{ended, text_of};
 ghost use Rattle.g_store_meaning.specs.Meaning.{told_reels};
 ghost use Rattle.g_store_meaning.specs.Reading.{ReelsTold};
@@ -51,7 +51,7 @@ fn push_if_rotten<T: Tapes>(
     ensures faults { IfErr result (λ e. (e ≡ LookFault.TapeUnread) ⊎ (e ≡ LookFault.NoMemory)) }
 {
     match is_rotten(tapes, dump) {
-        Ok(true) => match rotten.push(*dump) {
+        Ok(true) => match rotten.push(dump.copy()) {
             Ok(()) => Ok(()),
             Err(_) => Err(LookFault::NoMemory),
         },
