@@ -4,7 +4,7 @@ use g_name::Full;
 
 /// The line of a completed dump: its number, its reel, its first block there, how many blocks it has from its header to its
 /// mark, and the SHA-256 of these blocks.
-#[derive(Drop)]
+#[derive(Clone, Copy)]
 pub struct SealedDump {
     pub number: u64,
     pub serial: u32,

@@ -1,0 +1,7 @@
+use Rattle.std.proofs.Common.{arith}
+use Rattle.g_look.proofs.ReadLemmas.{ok_not_err}
+use Rattle.g_seal.proofs.VersionLemmas.{all_versions, no_versions, version_more}
+use Rattle.g_seal.proofs.rotten_files.push_rotten_files.Goals as goal
+
+pub loop-sealed-init : goal.loop-sealed-init
+loop-sealed-init g c = no_versions c.args.sought.now.rotten.now c.args.dirs.now c.args.sought.now.files.now c.args.text.now (g.D.Disc.state c.args.disc.now) (g.T.Tapes.rack c.args.tapes.now)
