@@ -1,1 +1,1 @@
-mod TwinLemmas
+pub mod TwinLemmas

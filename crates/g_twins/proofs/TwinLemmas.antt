@@ -72,6 +72,12 @@ serial_after old new i s only is = ap (λ (ss : List ℕ). slice_get ss i) (sym 
 pub length_after : (old new : Rack) → OnlyReads old new → length new.reels ≡ length old.reels
 length_after old new only = sym (length-map new.reels unread) ∙ ap length only.reels ∙ length-map old.reels unread
 
+-- each reel is the same but for its read counts
+same_reel : (old new : Rack) → OnlyReads old new → (k : ℕ) (d : Reel) → k < length new.reels → unread (get_or new.reels k d) ≡ unread (get_or old.reels k d)
+same_reel old new only k d inside =
+    let within : k < length old.reels = omega (arith, inside, length_after old new only) in
+    sym (get_or-map unread new.reels k d (unread d) inside) ∙ ap (λ (rs : List Reel). get_or rs k (unread d)) only.reels ∙ get_or-map unread old.reels k d (unread d) within
+
 pub mounted_after : (old new : Rack) → OnlyReads old new → AreMounted old → AreMounted new
 mounted_after old new only mounted s r there = by (reel s old.reels) refl
   where
@@ -84,6 +90,9 @@ mounted_after old new only mounted s r there = by (reel s old.reels) refl
         let same : Some (unread r) ≡ Some (unread b) = is ∙ ap (option_map unread) at in
         let one : unread r ≡ unread b = cc in
         ap (λ (x : Reel). x.mounted) one ∙ mounted s b at
+
+pub all_mounted_after : (old new : Rack) → OnlyReads old new → All (λ r. r.mounted ≡ true) old.reels → All (λ r. r.mounted ≡ true) new.reels
+all_mounted_after old new only mounted k d inside = ap (λ (r : Reel). r.mounted) (same_reel old new only k d inside) ∙ mounted k d (omega (arith, inside, length_after old new only))
 
 pub each_mounted : (rack : Rack) → All (λ r. r.mounted ≡ true) rack.reels → AreMounted rack
 each_mounted rack all s r there = All-contains (λ (x : Reel). x.mounted ≡ true) rack.reels r all (reel-found s rack.reels r there).0
@@ -135,11 +144,7 @@ pub text_whole : (f : ℕ → List (List ℕ)) (ss : List ℕ) (i : ℕ) (old no
 text_whole f ss i old now all was = was ∙ ap (λ (xs : List ℕ). old ++ text_of (flat_map f xs)) (take_all i ss all)
 
 pub exposed_after : (old new : Rack) → OnlyReads old new → AreExposed old → AreExposed new
-exposed_after old new only exposed k d inside =
-    let within : k < length old.reels = omega (arith, inside, length_after old new only) in
-    let same : unread (get_or new.reels k d) ≡ unread (get_or old.reels k d) =
-    sym (get_or-map unread new.reels k d (unread d) inside) ∙ ap (λ (rs : List Reel). get_or rs k (unread d)) only.reels ∙ get_or-map unread old.reels k d (unread d) within in
-    ap (λ (r : Reel). is_some r.blocks) same ∙ exposed k d within
+exposed_after old new only exposed k d inside = ap (λ (r : Reel). is_some r.blocks) (same_reel old new only k d inside) ∙ exposed k d (omega (arith, inside, length_after old new only))
 
 -- THE LINES OF A SERIAL
 module _ (s : ℕ) (p q : Rack) (t : List ℕ) where
