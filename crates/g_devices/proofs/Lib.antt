@@ -1,3 +1,4 @@
 mod AlikeReels
+mod ConsoleLemmas
 mod FileRack
 mod ReelEnds

@@ -6,6 +6,7 @@ mod ahead;
 mod alike;
 mod blocks;
 mod claim;
+mod console;
 mod file_reel;
 mod file_tapes;
 mod host;
@@ -21,6 +22,7 @@ mod reach;
 mod streams;
 mod words;
 
+pub use console::{StdConsole, are_terminals};
 pub use file_tapes::FileTapes;
 pub use host::{HostFile, HostInput, HostOutput};
 pub use image::open_image;

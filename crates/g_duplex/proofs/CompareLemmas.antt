@@ -1,6 +1,6 @@
 -- Reels of two racks that are compared block by block.
--- serves: same_reel (answer), CopyLemmas
-use Rattle.std.proofs.Common.{◌≡◌, ℕ, zero, suc, ◌<◌, ◌≤◌, List, [], ◌∷◌, Bool, true, false, ◌&&◌, Option, Some, None, option_map, Ok, Err, if◌then◌else◌, length, take, refl, sym, ap, ◌∙◌, arith}
+-- serves: first_difference (answer), same_reel (answer), CopyLemmas
+use Rattle.std.proofs.Common.{◌≡◌, ◌≢◌, ◌⊎◌, ℕ, zero, suc, ◌<◌, ◌≤◌, List, [], ◌∷◌, Bool, true, false, ◌&&◌, Option, Some, None, option_map, Ok, Err, if◌then◌else◌, length, take, inl, inr, refl, sym, subst, ap, ◌∙◌, arith}
 use Rattle.std.specs.Option.{ForSome}
 use Rattle.std.specs.Prelude.{slice_get}
 use Rattle.std.proofs.lemmas.Bool.{lt-ltb}
@@ -12,7 +12,7 @@ use Rattle.g_tape.specs.Reel.{Reel}
 use Rattle.g_tape.specs.Rack.{AreReels, Rack, Reading, reel, refuses_read}
 use Rattle.g_tape.specs.Reads.{OnlyReads, blocks_in, blocks_of, unread}
 use Rattle.g_tape.proofs.ReadLemmas.{blocks_after_reads, is_reel, more_reads, nothing_read, reel_after_reads}
-use Rattle.g_duplex.specs.Copying.{BothTold, SameBlock, SameReel}
+use Rattle.g_duplex.specs.Copying.{BothTold, DiffersAt, FirstDifference, SameBlock, SameReel}
 use Rattle.g_duplex.specs.Rebuild.{refuses_both}
 use Rattle.g_duplex.specs.declared.fault.DuplexFault.TheVariants.{NoTape, NotMounted, ReadFailed, WriteFailed}
 use Rattle.g_duplex.proofs.ReadLemmas.{first_of, reads_free, second_of}
@@ -100,13 +100,10 @@ same_more s i p q p' q' p'' q'' so_far one two same = record {
 }
 
 -- one block differs
-pub one_differs : (s i : ℕ) (p q p' q' p'' q'' : Rack) → SameSoFar s i p q p' q' → SameBlock s i p' q' (Ok false) p'' q'' → SameReel s p q (Ok false) p'' q''
-one_differs s i p q p' q' p'' q'' so_far same = (
-  λ e. absurd (let wrong : false ≡ true = e in cc),
-  λ xs at ys at'. (
-    λ e. absurd (let wrong : false ≡ true = e in cc),
-    λ e. (same xs (blocks_after_reads s p p' so_far.one ∙ at) ys (blocks_after_reads s q q' so_far.two ∙ at')).1 (ap (λ (bs : Blocks). slice_get bs i) e),
-  ),
+pub one_differs : (s i : ℕ) (p q p' q' p'' q'' : Rack) → SameSoFar s i p q p' q' → SameBlock s i p' q' (Ok false) p'' q'' → BothTold s p q (DiffersAt i)
+one_differs s i p q p' q' p'' q'' so_far same = λ xs at ys at'. (
+  so_far.told xs at ys at',
+  λ e. let wrong : false ≡ true = (same xs (blocks_after_reads s p p' so_far.one ∙ at) ys (blocks_after_reads s q q' so_far.two ∙ at')).1 e in cc,
 )
 
 -- There are as many exposed blocks as the length says.
@@ -115,26 +112,54 @@ told_long s p xs r are there told =
     let told' : r.blocks ≡ Some xs = sym (ap blocks_in there) ∙ told in
     (is_reel s p.reels r are.each there).told xs told'
 
+-- a list has nothing past its end, and something before it
+past_end : (xs : Blocks) → slice_get xs (length xs) ≡ None
+past_end [] = refl
+past_end (x ∷ xs) = past_end xs
+
+before_end : (xs : Blocks) (i : ℕ) → i < length xs → (x : List ℕ) × (slice_get xs i ≡ Some x)
+before_end [] i below = let no : ⊥ = omega (arith, below) in absurd no
+before_end (x ∷ xs) zero below = (x, refl)
+before_end (x ∷ xs) (suc i) below = before_end xs i (omega (arith, below))
+
+one_ends : (xs ys : Blocks) (i : ℕ) → length xs ≡ i → i < length ys → slice_get xs i ≢ slice_get ys i
+one_ends xs ys i long below e =
+    let (y, there) = before_end ys i below in
+    let no : None ≡ Some y = sym (subst (λ (n : ℕ). slice_get xs n ≡ None) long (past_end xs)) ∙ e ∙ there in cc
+
 -- lengths that differ
-pub long_differ : (s m n : ℕ) (p q : Rack) → AreReels p.reels → AreReels q.reels → refuses_both (reel s p.reels) (reel s q.reels) ≡ None → ForSome (reel s p.reels) (λ r. m ≡ r.len)
-    → ForSome (reel s q.reels) (λ r. n ≡ r.len) → (m ≡ n → ⊥) → SameReel s p q (Ok false) p q
-long_differ s m n p q are are' free long long' differ =
-    let (a, b, there, there', up, up') = both_there (reel s p.reels) (reel s q.reels) free in (
-      λ e. absurd (let wrong : false ≡ true = e in cc),
-      λ xs at ys at'. (
-        λ e. absurd (let wrong : false ≡ true = e in cc),
-        λ e. absurd (differ (omega (arith, long a there, long' b there', told_long s p xs a are there at, told_long s q ys b are' there' at', ap (λ (bs : Blocks). length bs) e))),
-      ),
+pub long_differ : (s m n i : ℕ) (p q p' q' : Rack) → AreReels p.reels → AreReels q.reels → refuses_both (reel s p.reels) (reel s q.reels) ≡ None → ForSome (reel s p.reels) (λ r. m ≡ r.len)
+    → ForSome (reel s q.reels) (λ r. n ≡ r.len) → ((i ≡ m) × (m < n)) ⊎ ((i ≡ n) × (n < m)) → SameSoFar s i p q p' q' → BothTold s p q (DiffersAt i)
+long_differ s m n i p q p' q' are are' free long long' which so_far = λ xs at ys at'.
+    let (a, b, there, there', up, up') = both_there (reel s p.reels) (reel s q.reels) free in
+    let xs_long : length xs ≡ m = told_long s p xs a are there at ∙ sym (long a there) in
+    let ys_long : length ys ≡ n = told_long s q ys b are' there' at' ∙ sym (long' b there') in (
+      so_far.told xs at ys at',
+      elim which [
+        | inl (is, less) ↦ one_ends xs ys i (xs_long ∙ sym is) (omega (arith, is, less, ys_long))
+        | inr (is, less) ↦ λ e. one_ends ys xs i (ys_long ∙ sym is) (omega (arith, is, less, xs_long)) (sym e)
+      ],
     )
 
 -- all blocks are the same
 pub all_same : (s m : ℕ) (p q p' q' : Rack) → AreReels p.reels → AreReels q.reels → refuses_both (reel s p.reels) (reel s q.reels) ≡ None → ForSome (reel s p.reels) (λ r. m ≡ r.len)
-    → ForSome (reel s q.reels) (λ r. m ≡ r.len) → SameSoFar s m p q p' q' → SameReel s p q (Ok true) p' q'
+    → ForSome (reel s q.reels) (λ r. m ≡ r.len) → SameSoFar s m p q p' q' → FirstDifference s p q (Ok None) p' q'
 all_same s m p q p' q' are are' free long long' so_far =
     let (a, b, there, there', up, up') = both_there (reel s p.reels) (reel s q.reels) free in (
-      λ e x at y at'. sym (long x at) ∙ long' y at',
-      λ xs at ys at'. (
-        λ e. sym (take_all m xs (omega (arith, long a there, told_long s p xs a are there at))) ∙ so_far.told xs at ys at' ∙ take_all m ys (omega (arith, long' b there', told_long s q ys b are' there' at')),
-        λ e. refl,
-      ),
+      λ x at y at'. sym (long x at) ∙ long' y at',
+      λ xs at ys at'.
+          sym (take_all m xs (omega (arith, long a there, told_long s p xs a are there at))) ∙ so_far.told xs at ys at' ∙ take_all m ys (omega (arith, long' b there', told_long s q ys b are' there' at')),
     )
+
+-- reels are the same if no block differs
+pub same_if_none : (s : ℕ) (p q p' q' : Rack) → FirstDifference s p q (Ok None) p' q' → SameReel s p q (Ok true) p' q'
+same_if_none s p q p' q' (long, told) = (λ e. long, λ xs at ys at'. (λ e. told xs at ys at', λ e. refl))
+
+pub other_if_some : (s k : ℕ) (p q p' q' : Rack) → FirstDifference s p q (Ok (Some k)) p' q' → SameReel s p q (Ok false) p' q'
+other_if_some s k p q p' q' differs = (
+  λ e. absurd (let wrong : false ≡ true = e in cc),
+  λ xs at ys at'. (
+    λ e. absurd (let wrong : false ≡ true = e in cc),
+    λ e. absurd ((differs xs at ys at').1 (ap (λ (bs : Blocks). slice_get bs k) e)),
+  ),
+)

@@ -1,5 +1,5 @@
 -- Reels and standings by their places, and the list of lost twins.
--- serves: agree, copy_reel, lost_among, place_of, read, rebuild_twin, same_reel, secure, standing, standing_by, standings_by, write, CopyLemmas, and 4 more
+-- serves: agree, copy_reel, first_difference, lost_among, place_of, read, rebuild_twin, secure, standing, standing_by, standings_by, write, and 6 more
 use Rattle.std.proofs.Common.{◌≡◌, ℕ, zero, suc, ◌+◌, ◌<◌, ◌≤◌, List, [], ◌∷◌, ◌++◌, Bool, true, false, ◌==◌, Option, Some, None, if◌then◌else◌, length, map, get_or, take, refl, sym, ap, ◌∙◌, inl, inr, eq-eqb, subst, arith}
 use Rattle.std.proofs.Math.ListN.{set}
 use Rattle.std.proofs.lemmas.Bool.{cases_eq, ne_eqb}

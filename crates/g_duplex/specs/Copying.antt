@@ -1,5 +1,5 @@
 -- Comparing a reel with the reel of the same serial in another rack, and copying it from there.
-use Rattle.std.specs.Prelude.{◌≡◌, ◌⊎◌, ◌↔◌, ℕ, List, Bool, true, IsTrue, Option, Some, Result, Ok, Err, slice_get}
+use Rattle.std.specs.Prelude.{◌≡◌, ◌≢◌, ◌⊎◌, ◌↔◌, ℕ, List, Bool, true, IsTrue, Option, None, Some, Result, Ok, Err, slice_get, take}
 use Rattle.std.specs.Option.{ForSome}
 use Rattle.g_base.specs.Counts.{Rose}
 use Rattle.g_tape.specs.Reel.{Reel, ending}
@@ -26,6 +26,17 @@ abbrev pub SameBlock : ℕ → ℕ → Rack → Rack → Result Bool DuplexFault
 SameBlock s k p q (Ok same) p' q' = BothTold s p q (λ xs ys. IsTrue same ↔ (slice_get xs k ≡ slice_get ys k))
 SameBlock s k p q (Err ReadFailed) p' q' = Rose p.read_faults p'.read_faults ⊎ Rose q.read_faults q'.read_faults
 SameBlock s k p q (Err fault) p' q' = ⊥
+
+-- Two reels hold the same blocks before k, and not the same block k: it differs, or only one of them has it.
+abbrev pub DiffersAt : ℕ → List (List ℕ) → List (List ℕ) → Type 0
+DiffersAt k xs ys = (take k xs ≡ take k ys) × (slice_get xs k ≢ slice_get ys k)
+
+-- The answer is the first block that differs, or none if the reels are equally long and hold the same blocks; or a read failed.
+abbrev pub FirstDifference : ℕ → Rack → Rack → Result (Option ℕ) DuplexFault → Rack → Rack → Type 0
+FirstDifference s p q (Ok None) p' q' = BothReels s p q (λ a b. a.len ≡ b.len) × BothTold s p q (λ xs ys. xs ≡ ys)
+FirstDifference s p q (Ok (Some k)) p' q' = BothTold s p q (DiffersAt k)
+FirstDifference s p q (Err ReadFailed) p' q' = Rose p.read_faults p'.read_faults ⊎ Rose q.read_faults q'.read_faults
+FirstDifference s p q (Err fault) p' q' = ⊥
 
 -- The answer says whether all blocks are the same in both racks, or a read failed.
 abbrev pub SameReel : ℕ → Rack → Rack → Result Bool DuplexFault → Rack → Rack → Type 0

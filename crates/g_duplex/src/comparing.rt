@@ -3,7 +3,7 @@ ghost use Rattle.std.specs.Prelude.{◌≡◌, None};
 ghost use Rattle.std.specs.Option.{ForSome};
 ghost use Rattle.g_tape.specs.Rack.{reel, refuses_read};
 ghost use Rattle.g_tape.specs.Reads.{OnlyReads};
-ghost use Rattle.g_duplex.specs.Copying.{SameBlock, SameReel};
+ghost use Rattle.g_duplex.specs.Copying.{FirstDifference, SameBlock, SameReel};
 ghost use Rattle.g_duplex.specs.Rebuild.{refuses_both};
 
 use crate::fault::DuplexFault;
@@ -35,8 +35,36 @@ pub(crate) fn length_of<T: Tapes>(rack: &T, serial: u32) -> u32
     }
 }
 
-/// Whether the reels of a serial hold the same blocks. Each block is read at most once, and only one pair of blocks is in memory.
-/// `ReadFailed`.
+/// The first block that differs between the reels of a serial in two racks, or that only one of them has; none if both hold the same
+/// blocks. Both reels must be mounted. Each block is read at most once, and only one pair of blocks is in memory. `ReadFailed`. Only
+/// counts of reads change.
+pub fn first_difference<T: Tapes>(
+    one: &mut T,
+    other: &mut T,
+    serial: u32,
+) -> Result<Option<u32>, DuplexFault>
+    requires { refuses_both (reel serial (T.rack one.old).reels) (reel serial (T.rack other.old).reels) ≡ None }
+    ensures one { OnlyReads (T.rack one.old) (T.rack one.new) }
+    ensures other { OnlyReads (T.rack other.old) (T.rack other.new) }
+    ensures answer { FirstDifference serial (T.rack one.old) (T.rack other.old) result (T.rack one.new) (T.rack other.new) }
+{
+    let len = length_of(one, serial);
+    let beside = length_of(other, serial);
+    for k in 0..len.min(beside) {
+        match same_block(one, other, serial, k) {
+            Ok(true) => {}
+            Ok(false) => return Ok(Some(k)),
+            Err(fault) => return Err(fault),
+        }
+    }
+    if len == beside {
+        Ok(None)
+    } else {
+        Ok(Some(len.min(beside)))
+    }
+}
+
+/// Whether the reels of a serial hold the same blocks, read as by `first_difference`. `ReadFailed`.
 pub(crate) fn same_reel<T: Tapes>(
     one: &mut T,
     other: &mut T,
@@ -47,18 +75,11 @@ pub(crate) fn same_reel<T: Tapes>(
     ensures other { OnlyReads (T.rack other.old) (T.rack other.new) }
     ensures answer { SameReel serial (T.rack one.old) (T.rack other.old) result (T.rack one.new) (T.rack other.new) }
 {
-    let len = length_of(one, serial);
-    if len != length_of(other, serial) {
-        return Ok(false);
+    match first_difference(one, other, serial) {
+        Ok(None) => Ok(true),
+        Ok(Some(_)) => Ok(false),
+        Err(fault) => Err(fault),
     }
-    for k in 0..len {
-        match same_block(one, other, serial, k) {
-            Ok(true) => {}
-            Ok(false) => return Ok(false),
-            Err(fault) => return Err(fault),
-        }
-    }
-    Ok(true)
 }
 
 /// Whether block k of both is the same. `ReadFailed`.

@@ -14,6 +14,7 @@ mod rebuild;
 mod standings;
 mod twin;
 
+pub use comparing::first_difference;
 pub use duplex::Duplex;
 pub use fault::DuplexFault;
 pub use laws::{a_lost_twin_is_not_seen, racks_answer_alike, who_fails_was_asked};

@@ -1,5 +1,5 @@
 //! The actions of the program, by its words.
-ghost use Rattle.std.specs.Prelude.{◌≡◌, ◌⊎◌, ◌<◌, ℕ, List, Option, All, true};
+ghost use Rattle.std.specs.Prelude.{◌≡◌, ◌⊎◌, ◌<◌, ℕ, IfErr, List, Option, All, true};
 ghost use Rattle.std.specs.Option.{ForSome};
 ghost use Rattle.g_name.specs.declared.path.Path.{Path};
 ghost use Rattle.g_incr.specs.Layout.{Dump};
@@ -14,8 +14,9 @@ ghost use Rattle.g_look_program.specs.Words.{AskNothing, texts_of};
 use crate::against::against_file;
 use crate::mount::mount_all;
 use crate::tell::{put, tell, tell_bytes, tell_check, tell_restorable, tell_seal};
+use crate::twins::tell_twins;
 use crate::{Asked, Status, asked_by};
-use g_devices::{HostOutput, look_at};
+use g_devices::{FileTapes, HostOutput, is_there, look_at};
 use g_disc::Disc;
 use g_files::StdSink;
 use g_io::Sink;
@@ -35,6 +36,9 @@ pub(crate) const IMAGE: &str = "george.disc";
 /// The folder of the reels' images, also there.
 pub(crate) const RACK: &str = "george.tapes";
 
+/// The folder of the twins of these reels, if there are any.
+const SECOND: &str = "george.tapes2";
+
 /// Prints what the words request, and returns the exit status. The words are checked before any file is opened.
 pub fn answer(rt: &HostRuntime, words: &[&str]) -> u8
     ensures { (AskNothing (texts_of words.now) × IsExit IsOfWords result) ⊎ (result ≡ 7) ⊎ IsExit IsOfLook result }
@@ -49,7 +53,7 @@ pub fn answer(rt: &HostRuntime, words: &[&str]) -> u8
     }
 }
 
-/// Looks at image and rack. Returns 7 if they can't be used.
+/// Looks at image and rack. A check also compares the rack with a second one, if there is one. Returns 7 if they can't be used.
 fn on_files<K: Sink>(rt: &HostRuntime, asked: &Asked, out: &mut K) -> u8
     ensures { (result ≡ 7) ⊎ IsExit IsOfLook result }
 {
@@ -62,7 +66,36 @@ fn on_files<K: Sink>(rt: &HostRuntime, asked: &Asked, out: &mut K) -> u8
     if !mount_all(&mut tapes) {
         return NO_IMAGE;
     }
-    look(rt.alloc(), asked, out, &mut disc, &mut tapes).code()
+    let status = look(rt.alloc(), asked, out, &mut disc, &mut tapes);
+    match (asked, status) {
+        (Asked::Check, Status::Done | Status::No | Status::Nothing) => {}
+        _ => return status.code(),
+    }
+    let mut second = match second_rack(rt) {
+        Ok(Some(second)) => second,
+        Ok(None) => return status.code(),
+        Err(code) => return code,
+    };
+    if !mount_all(&mut second) {
+        return NO_IMAGE;
+    }
+    tell_twins(rt.alloc(), out, &mut tapes, &mut second, status).code()
+}
+
+/// The second rack, if there is one. The error is the exit status: 7 if the rack can't be used, or that of memory that ran out.
+fn second_rack(rt: &HostRuntime) -> Result<Option<KnownReels<FileTapes>>, u8>
+    ensures { IfErr result (λ code. (code ≡ 7) ⊎ IsExit IsOfLook code) }
+{
+    match is_there(rt, SECOND) {
+        Ok(true) => {}
+        Ok(false) => return Ok(None),
+        Err(_) => return Err(NO_IMAGE),
+    }
+    match look_at(rt, IMAGE, SECOND) {
+        Ok((_disc, second)) => Ok(Some(KnownReels::new(rt.alloc(), second))),
+        Err(fault) if fault.kind() == ErrorKind::OutOfMemory => Err(Status::NoMemory.code()),
+        Err(_) => Err(NO_IMAGE),
+    }
 }
 
 /// Prints what is requested of any disc and rack; all reels have to be mounted. Both are only read.

@@ -6,6 +6,7 @@ mod answer;
 mod mount;
 mod status;
 mod tell;
+mod twins;
 mod words;
 
 use crate::answer::answer;
@@ -13,6 +14,7 @@ pub use against::look_against;
 pub use answer::look;
 use g_devices::{placeholders, texts_of, words_of};
 pub use status::Status;
+pub use twins::tell_twins;
 use std::process::ExitCode;
 pub use words::{Asked, asked_by};
 

@@ -1,1 +1,3 @@
 mod RuleLemmas
+mod SessionRuleLemmas
+mod WordLemmas

@@ -1,5 +1,5 @@
 -- A run by rules whose answers are also answers of other rules is a run by those: a run depends only on the answers.
--- serves: run_by_rules (anew, demo, ends)
+-- serves: run_by_rules (anew, demo, ends), SessionRuleLemmas
 use Rattle.std.proofs.Common.{◌≡◌, ℕ, List, [], ◌∷◌, Option, Some, None, inl, inr}
 use Rattle.std.specs.Fn.{Shared, FnReturnsAt}
 use denote.Ref.{Bor}
@@ -56,11 +56,11 @@ module _ {F G U V : Type 0}
   step_by w Ticked new it = it
   step_by w Over new it = it
 
-  run_by : (w : World) (moves : List Move) (last : World) → Run tariffs tariff rules rule w moves last → Run others other ways way w moves last
+  pub run_by : (w : World) (moves : List Move) (last : World) → Run tariffs tariff rules rule w moves last → Run others other ways way w moves last
   run_by w [] last it = it
   run_by w (move ∷ moves) last it = let (mid, goes, more) = it in (mid, step_by w move mid goes, run_by mid moves last more)
 
-  run_of : (lines : List Timed) (bad : Option ℕ) (s : State) (old new : Devices) (moves : List Move) (last : World)
+  pub run_of : (lines : List Timed) (bad : Option ℕ) (s : State) (old new : Devices) (moves : List Move) (last : World)
       → RunOf tariffs tariff rules rule lines bad s old new moves last → RunOf others other ways way lines bad s old new moves last
   run_of lines bad s old new moves last is = record { run = run_by _ moves last is.run; counted = is.counted; stands = is.stands }
 

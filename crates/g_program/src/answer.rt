@@ -3,8 +3,10 @@ ghost use Rattle.std.specs.Prelude.{◌≡◌, ◌<◌, ◌≤◌, ◌⊎◌, If
 ghost use Rattle.g_demo.specs.Words.{AskNothing, texts_of};
 ghost use Rattle.g_run.specs.Input.{IsRun};
 ghost use Rattle.g_run.specs.Top.{IsOfRun, IsOfWords, code_of};
-ghost use Rattle.g_program.specs.Exit.{IsExit};
+ghost use Rattle.g_session.specs.Session.{IsOfSession};
+ghost use Rattle.g_program.specs.Exit.{IsConsole, IsExit};
 
+use crate::console::{console, console_words};
 use crate::rules::run_by_rules;
 use crate::telling::{tell_lost, tell_rebuilt, tell_unusable};
 use g_base::NoMemory;
@@ -22,10 +24,10 @@ use std::alloc::Global;
 use std::io::{self, ErrorKind};
 
 /// The exit status if the image or the rack can't be used.
-const NO_IMAGE: u8 = 7;
+pub(crate) const NO_IMAGE: u8 = 7;
 
 /// The disc's image, in the present folder.
-const IMAGE: &str = "george.disc";
+pub(crate) const IMAGE: &str = "george.disc";
 
 /// The folder of the reels' images, there too.
 pub(crate) const RACK: &str = "george.tapes";
@@ -38,9 +40,13 @@ const LEAST_BLOCKS: u32 = 2_178;
 
 /// Does what the words request, and returns the exit status. It reads the words before it opens or creates anything.
 pub(crate) fn answer(rt: &HostRuntime, words: &[&str]) -> u8
-    ensures unknown { AskNothing (texts_of words.now) → IsExit IsOfWords result }
+    ensures unknown { (IsConsole words.now → ⊥) → AskNothing (texts_of words.now) → IsExit IsOfWords result }
     ensures known { IsRun words.now → (result ≡ 7) ⊎ IsExit IsOfRun result }
+    ensures console { IsConsole words.now → (result ≡ 7) ⊎ IsExit IsOfSession result }
 {
+    if let Some(log) = console_words(words) {
+        return console(rt, log);
+    }
     match asked_by(words) {
         Some(Asked::Run) => on_files(rt, words),
         Some(Asked::Demo(_demo)) => without_files(rt, words),
@@ -78,7 +84,7 @@ fn run_on_files(rt: &HostRuntime, words: &[&str]) -> Result<u8, PairFault>
 }
 
 /// Syncs image and rack, and returns the exit status of the run.
-fn closed(finish: Finish<FileDisc<HostFile>, FileTapes>) -> u8
+pub(crate) fn closed(finish: Finish<FileDisc<HostFile>, FileTapes>) -> u8
     ensures { result ≡ code_of finish.status }
 {
     let mut disc = finish.disc;
@@ -88,7 +94,10 @@ fn closed(finish: Finish<FileDisc<HostFile>, FileTapes>) -> u8
 }
 
 /// Syncs image and both racks, reports which reels were lost in the run, and returns its exit status.
-fn closed_pair(rt: &HostRuntime, finish: Finish<FileDisc<HostFile>, Duplex<FileTapes>>) -> u8
+pub(crate) fn closed_pair(
+    rt: &HostRuntime,
+    finish: Finish<FileDisc<HostFile>, Duplex<FileTapes>>,
+) -> u8
     ensures { result ≡ code_of finish.status }
 {
     let mut disc = finish.disc;

@@ -3,17 +3,19 @@
 #![tactic(auto)]
 
 mod answer;
+mod console;
 mod rules;
 mod telling;
 
 use crate::answer::answer;
 use g_devices::{placeholders, texts_of, words_of};
 use g_run::Status;
-pub use rules::run_by_rules;
+pub use rules::{run_by_rules, session_by_rules};
 use std::process::ExitCode;
 
 /// Does what the words of the command line ask for. The word `run` runs the script of standard input on the image
-/// `george.disc` and the rack `george.tapes` of the present folder, with the text to standard output; with all other words
+/// `george.disc` and the rack `george.tapes` of the present folder, with the text to standard output; `console` answers
+/// standard input line by line, and `console LOG` also writes the lines that were executed to the new file LOG, as a script. With all other words
 /// no file is opened or made. Where `george.tapes2` is there too, each reel is kept in both folders (docs/MANUAL.md, "A second
 /// rack"), and standard error has one line for each reel that was rebuilt before the run, and for each that was lost in it.
 ///

@@ -1,26 +1,33 @@
-//! The rules of this program: what a turn of a job costs, and which job takes the next turn; and a run by them.
+//! The rules of this program: what a turn of a job costs, and which job takes the next turn; and a run and a session by them.
 ghost use Rattle.std.specs.Prelude.{◌≡◌, ◌<◌, ◌≤◌, ◌^◌, ℕ, List, [], Option, Some, drop, length};
 ghost use Rattle.g_base.specs.Counts.{Rose};
 ghost use Rattle.g_day.specs.System.{BelongTogether, DumpsGrow, SameDevices};
+ghost use Rattle.g_console.specs.Transcript.{Transcript, blank};
 ghost use Rattle.g_demo.specs.Words.{AskNothing, IsDemonstration, demo_words, texts_of};
 ghost use Rattle.g_demo.specs.declared.demonstration.Demonstration.{Demonstration};
 ghost use Rattle.g_lines.specs.Lines.{lines_of};
 ghost use Rattle.g_rules.specs.Rule.{IsInRange};
 ghost use Rattle.g_script.specs.Script.{IsParsed};
 ghost use Rattle.g_script.specs.declared.operator.Timed.{Timed};
+ghost use Rattle.g_store_model.specs.State.{State};
 ghost use Rattle.g_laws_store.specs.Moving.{DumpsMove};
+ghost use Rattle.g_run_model.specs.Devices.{StandFor};
 ghost use Rattle.g_run_model.specs.Top.{AreArmings, AreFused, IsCutWords};
 ghost use Rattle.g_laws_runs.specs.Filestores.{HasFilestore};
+ghost use Rattle.g_laws_sessions.specs.Session.{AlwaysAnswers};
 ghost use Rattle.g_run.specs.Input.{IsRun};
 ghost use Rattle.g_run.specs.ScriptEnd.{both};
 ghost use Rattle.g_ticks.specs.Parts.{HaveNoProcess};
 ghost use Rattle.g_run.specs.Top as top;
+ghost use Rattle.g_session.specs.Session.{EndsSession, IsOfSession, SessionCause};
 ghost use Rattle.g_program.specs.Rules.{answering, price, share_used};
 
+use g_console::Console;
 use g_disc::Disc;
 use g_io::{Sink, Source};
 use g_rules::{Charge, Standing, Tariff, Usage, WeighRule};
 use g_run::{Finish, george};
+use g_session::session;
 use g_tape::Tapes;
 use std::alloc::Global;
 
@@ -117,4 +124,44 @@ pub fn run_by_rules<S: Source, K: Sink, D: Disc, T: Tapes>(
         { weight_of(standing) },
     );
     george(alloc, words, script, out, disc, tapes, &tariff, &weigh)
+}
+
+/// A session by the rules of this program, on any disc and rack; both are returned with every status (docs/MANUAL.md, "The console").
+pub fn session_by_rules<C: Console, L: Sink, D: Disc, T: Tapes>(
+    alloc: Global,
+    console: &mut C,
+    log: &mut L,
+    disc: D,
+    tapes: T,
+) -> Finish<D, T>
+    requires size { (2177 < (D.state disc).size) × ((D.state disc).size ≤ 1048576) }
+    ensures of { IsOfSession result.status }
+
+    // Each time a line was requested, all lines before it were answered, and nothing else was printed.
+    ensures answers { C.transcript console.old ≡ Some blank → (t : Transcript) → C.transcript console.new ≡ Some t → (s : State) → StandFor (both (D.state disc) (T.rack tapes)) s
+        → AlwaysAnswers (answering price) tt (answering share_used) tt s t }
+
+    // All that was printed, what both devices are then, and what the log has.
+    ensures ends { C.transcript console.old ≡ Some blank → (t : Transcript) → C.transcript console.new ≡ Some t → (s : State) → StandFor (both (D.state disc) (T.rack tapes)) s
+        → EndsSession (answering price) tt (answering share_used) tt result.status s (both (D.state disc) (T.rack tapes)) (both (D.state result.disc) (T.rack result.tapes)) t
+        (L.written log.old) (L.written log.new) }
+
+    // Each fault has its cause.
+    ensures causes { SessionCause result.status (C.faults console.old) (C.faults console.new) (L.faults log.old) (L.faults log.new) }
+
+    // With every status, of all devices, as a run's.
+    ensures fuses { AreFused (both (D.state result.disc) (T.rack result.tapes)) }
+    ensures same { SameDevices (both (D.state disc) (T.rack tapes)) (both (D.state result.disc) (T.rack result.tapes)) }
+    ensures belongs { BelongTogether (both (D.state disc) (T.rack tapes)) → BelongTogether (both (D.state result.disc) (T.rack result.tapes)) }
+    ensures dumps { BelongTogether (both (D.state disc) (T.rack tapes)) → DumpsMove (T.rack tapes) (T.rack result.tapes) }
+    ensures stands { BelongTogether (both (D.state disc) (T.rack tapes)) → HasFilestore (both (D.state disc) (T.rack tapes))
+        → HasFilestore (both (D.state result.disc) (T.rack result.tapes)) }
+{
+    let tariff = Tariff::new(|used: &Usage| -> Charge { price_of(used) });
+    let weigh = WeighRule::new(
+        |share: &Standing| -> u64
+            requires { IsInRange share.now }
+        { weight_of(share) },
+    );
+    session(alloc, console, log, disc, tapes, &tariff, &weigh)
 }

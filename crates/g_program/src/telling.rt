@@ -68,6 +68,11 @@ fn places_of(twin: Twin) -> (&'static str, &'static str, &'static str) {
     }
 }
 
+/// Reports that the log of a session can't be created.
+pub(crate) fn tell_no_log(rt: &HostRuntime) {
+    let _told = eprintln!(rt; "george: the log is there, or can't be made");
+}
+
 /// The cause of an error of `open_image`, `open_rack` and `open_duplex`, in words.
 fn cause_of(kind: ErrorKind) -> &'static str {
     match kind {

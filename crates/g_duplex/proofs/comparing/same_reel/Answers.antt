@@ -1,51 +1,13 @@
-use Rattle.std.proofs.Common.{◌≡◌, ◌∙◌, ℕ, Bool, Ok, Result, ap, arith, subst}
+use Rattle.std.proofs.Common.{◌∙◌, ℕ, Ok, Option, Result, ap, subst}
 use Rattle.g_duplex.specs.declared.fault.DuplexFault.{DuplexFault}
-use Rattle.g_duplex.specs.Copying.{SameBlock}
-use Rattle.g_duplex.proofs.CompareLemmas.{SameSoFar, all_same, both_there, long_differ, may_read, one_differs, same_more, same_none}
-use Rattle.g_duplex.proofs.PlaceLemmas.{suc_plus}
+use Rattle.g_duplex.specs.Copying.{FirstDifference}
+use Rattle.g_duplex.proofs.CompareLemmas.{other_if_some}
 use Rattle.g_duplex.proofs.comparing.same_reel.Goals as goal
 
-pub returns-then-len-length_of-clause-answer : goal.returns-then-len-length_of-clause-answer
-returns-then-len-length_of-clause-answer g c =
-    long_differ c.args.serial c.length_of-len.result c.length_of.result (g.T.Tapes.rack c.args.one.now) (g.T.Tapes.rack c.args.other.now) (g.met.T.Tapes.well_formed c.args.one.now)
-    (g.met.T.Tapes.well_formed c.args.other.now) c.requires c.length_of-len.ensures c.length_of.ensures c.if-len-length_of.true
-
-pub loop-k-init : goal.loop-k-init
-loop-k-init g c = same_none c.args.serial (g.T.Tapes.rack c.args.one.now) (g.T.Tapes.rack c.args.other.now)
-
-pub same_block-requires-clause-here : goal.same_block-requires-clause-here
-same_block-requires-clause-here g c =
-    let (a, b, there, there', up, up') = both_there _ _ c.requires in
-    may_read c.args.serial c.loop-k.k c.length_of-len.result (g.T.Tapes.rack c.args.one.now) (g.T.Tapes.rack c.loop-k.one) a c.loop-k.invariant.one there up c.length_of-len.ensures c.loop-k-test.true
-
-pub same_block-requires-clause-there : goal.same_block-requires-clause-there
-same_block-requires-clause-there g c =
-    let (a, b, there, there', up, up') = both_there _ _ c.requires in
-    may_read c.args.serial c.loop-k.k c.length_of-len.result (g.T.Tapes.rack c.args.other.now) (g.T.Tapes.rack c.loop-k.other) b c.loop-k.invariant.two there' up'
-    (λ r at. c.if-len-length_of.false ∙ c.length_of.ensures r at) c.loop-k-test.true
-
-pub loop-k-preserved : goal.loop-k-preserved
-loop-k-preserved g c =
-    let same = subst (λ (x : Result Bool DuplexFault). SameBlock c.args.serial c.loop-k.k (g.T.Tapes.rack c.loop-k.one) (g.T.Tapes.rack c.loop-k.other) x (g.T.Tapes.rack c.same_block.new.one)
-    (g.T.Tapes.rack c.same_block.new.other)) (c.in-Ok-true.is ∙ ap (λ (b : Bool). let x : Result Bool DuplexFault = Ok b in x) c.in-Ok-true.field-0-test) c.same_block.ensures.answer in
-    subst (λ (j : ℕ). SameSoFar c.args.serial j (g.T.Tapes.rack c.args.one.now) (g.T.Tapes.rack c.args.other.now) (g.T.Tapes.rack c.same_block.new.one) (g.T.Tapes.rack c.same_block.new.other)) (suc_plus c.loop-k.k)
-    (same_more c.args.serial c.loop-k.k (g.T.Tapes.rack c.args.one.now) (g.T.Tapes.rack c.args.other.now) (g.T.Tapes.rack c.loop-k.one) (g.T.Tapes.rack c.loop-k.other) (g.T.Tapes.rack c.same_block.new.one)
-    (g.T.Tapes.rack c.same_block.new.other) c.loop-k.invariant c.same_block.ensures.one c.same_block.ensures.other same)
-
-pub returns-in-Ok-false-clause-answer : goal.returns-in-Ok-false-clause-answer
-returns-in-Ok-false-clause-answer g c =
-    let same = subst (λ (x : Result Bool DuplexFault). SameBlock c.args.serial c.loop-k.k (g.T.Tapes.rack c.loop-k.one) (g.T.Tapes.rack c.loop-k.other) x (g.T.Tapes.rack c.same_block.new.one)
-    (g.T.Tapes.rack c.same_block.new.other)) (c.in-Ok-false.is ∙ ap (λ (b : Bool). let x : Result Bool DuplexFault = Ok b in x) c.in-Ok-false.field-0-test) c.same_block.ensures.answer in
-    one_differs c.args.serial c.loop-k.k (g.T.Tapes.rack c.args.one.now) (g.T.Tapes.rack c.args.other.now) (g.T.Tapes.rack c.loop-k.one) (g.T.Tapes.rack c.loop-k.other) (g.T.Tapes.rack c.same_block.new.one)
-    (g.T.Tapes.rack c.same_block.new.other) c.loop-k.invariant same
-
-pub returns : goal.returns
-returns g c =
-    let e : c.loop-k.k ≡ c.length_of-len.result = omega (arith, c.loop-k-test.false, c.loop-k.auto.k-end) in
-    let so_far = subst (λ (j : ℕ). SameSoFar c.args.serial j (g.T.Tapes.rack c.args.one.now) (g.T.Tapes.rack c.args.other.now) (g.T.Tapes.rack c.loop-k.one) (g.T.Tapes.rack c.loop-k.other)) e c.loop-k.invariant in
-    record {
-      one = c.loop-k.invariant.one;
-      other = c.loop-k.invariant.two;
-      answer = all_same c.args.serial c.length_of-len.result (g.T.Tapes.rack c.args.one.now) (g.T.Tapes.rack c.args.other.now) (g.T.Tapes.rack c.loop-k.one) (g.T.Tapes.rack c.loop-k.other)
-          (g.met.T.Tapes.well_formed c.args.one.now) (g.met.T.Tapes.well_formed c.args.other.now) c.requires c.length_of-len.ensures (λ r at. c.if-len-length_of.false ∙ c.length_of.ensures r at) so_far;
-    }
+pub returns-in-Ok-Some-clause-answer : goal.returns-in-Ok-Some-clause-answer
+returns-in-Ok-Some-clause-answer g c =
+    let one = g.T.Tapes.rack c.first_difference.new.one in
+    let other = g.T.Tapes.rack c.first_difference.new.other in
+    other_if_some c.args.serial c.in-Ok-Some.field-0-0 (g.T.Tapes.rack c.args.one.now) (g.T.Tapes.rack c.args.other.now) one other
+    (subst (λ (x : Result (Option ℕ) DuplexFault). FirstDifference c.args.serial (g.T.Tapes.rack c.args.one.now) (g.T.Tapes.rack c.args.other.now) x one other)
+    (c.in-Ok-Some.is ∙ ap (λ (o : Option ℕ). let x : Result (Option ℕ) DuplexFault = Ok o in x) c.in-Ok-Some.field-0-is) c.first_difference.ensures.answer)

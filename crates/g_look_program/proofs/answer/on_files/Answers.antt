@@ -1,6 +1,10 @@
 use Rattle.std.proofs.Common.{inr}
+use Rattle.g_twins.proofs.TwinLemmas.{all_mounted_after}
 use Rattle.g_look_program.specs.declared.status.Status.TheVariants.{NoMemory}
 use Rattle.g_look_program.proofs.answer.on_files.Goals as goal
 
 pub returns-in-Err : goal.returns-in-Err
 returns-in-Err c d = inr (record { status = NoMemory; so = tt; code_is = d.code.ensures })
+
+pub tell_twins-requires-clause-mounted : goal.tell_twins-requires-clause-mounted
+tell_twins-requires-clause-mounted g c = all_mounted_after _ _ c.look-status.ensures.devices.rack_left (c.if-not-mount_all.ensures.mounted (cc))
