@@ -123,7 +123,7 @@ find_each (e ∷ files) apart = All-cons (IsFirst (e ∷ files)) e files (find_f
     rest : All (IsFirst files) files → All (IsFirst (e ∷ files)) files
     rest own k d within =
         let others = pairs_first (λ (r : FileRec) (s : FileRec). r.stamp ≢ s.stamp) e.0 (recs files) apart in
-        let long = length-map (λ (g : FileEntry). g.0) files in
+        let long = length-map files (λ (g : FileEntry). g.0) in
         let other : e.0.stamp ≢ (get_or files k d).0.stamp = subst (λ (r : FileRec). e.0.stamp ≢ r.stamp) (at_rec files k d) (others k d.0 (omega (arith, within, long))) in
         find_rest e (get_or files k d) files other ∙ own k d within
 
