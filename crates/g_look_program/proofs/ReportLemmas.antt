@@ -1,18 +1,14 @@
 -- The end of a check against a seal.
--- serves: look_against (devices, report)
-use Rattle.std.proofs.Common.{◌≡◌, ◌≢◌, ◌⊎◌, ◌↔◌, inl, inr, ℕ, List, [], ◌∷◌, ◌++◌, Option, Result, Ok, Err, IsTrue, refl, sym, subst}
+-- serves: look_against (report)
+use Rattle.std.proofs.Common.{◌≡◌, ◌⊎◌, ◌↔◌, inl, inr, ℕ, List, [], ◌∷◌, ◌++◌, Option, Result, Ok, Err, IsTrue, refl, subst}
 use Rattle.std.specs.Option.{ForSome}
-use Rattle.g_base.specs.Counts.{Rose}
 use Rattle.g_dirs.specs.Directory.{Directory}
 use Rattle.g_dirs.specs.Image.{StandsFor}
-use Rattle.g_disc.specs.Disc.{DiscState, ReadsByCause}
-use Rattle.g_disc.proofs.CallLemmas.{ReadsByCause-then}
-use Rattle.g_tape.specs.Rack.{Rack}
 use Rattle.g_tape.specs.Reel.{Reel}
+use Rattle.g_store_meaning.specs.Reading.{AllTold}
 use Rattle.g_look.specs.declared.checking.Checked.{Checked}
 use Rattle.g_look.specs.declared.fault.LookFault.{LookFault}
 use Rattle.g_look.specs.declared.fault.LookFault.TheVariants as fault
-use Rattle.g_look.specs.Looks.{ReadsRackByCause}
 use Rattle.g_look.specs.Text.{IsChecked}
 use Rattle.g_seal.specs.declared.entries.SealedDump.{SealedDump}
 use Rattle.g_seal.specs.declared.entries.SealedFile.{SealedFile}
@@ -20,7 +16,7 @@ use Rattle.g_seal.specs.Rotten.{IsReport}
 use Rattle.g_seal.specs.Sealing.{IsOfReport}
 use Rattle.g_look_program.specs.declared.status.Status.{Status}
 use Rattle.g_look_program.specs.declared.status.Status.TheVariants as status
-use Rattle.g_look_program.specs.Telling.{EndsCheck, EndsQuietly, EndsReport, IsCompared, IsFailed, LeavesDisc, Looked, Puts, TellsCheck, TellsFault, TellsReport, Written}
+use Rattle.g_look_program.specs.Telling.{EndsCheck, EndsReport, IsFailed, TellsCheck, TellsFault, TellsReport, Written}
 use Rattle.g_look_program.proofs.LookLemmas.{CheckFaults, ends_check, ends_fault, put_ends, quiet_ends}
 
 -- FAULTS
@@ -47,48 +43,25 @@ module _ (size : ℕ) (held : Option (List (List ℕ))) (reels : List Reel) (dum
       → IsReport held reels dumps files report → TellsReport c report ended w → EndsReport ended size held reels dumps files w
   report_found c [] right store reported tells = inl (ends_check size held reels (Ok c) ended w right store tt tells, inr reported)
   report_found c (byte ∷ report) right store reported (inl puts) =
-      inr (c.text ++ byte ∷ report, record {
-        broken = c.verdict.broken;
-        missing = c.verdict.missing;
-        front = c.text;
-        checked = right;
-        report = byte ∷ report;
-        reported = reported;
-        some = λ none. (let no : ⊥ = cc in no);
-        text_is = refl;
-      }, puts)
+      inr (
+        c.text ++ byte ∷ report,
+        record {
+          broken = c.verdict.broken;
+          missing = c.verdict.missing;
+          front = c.text;
+          checked = right;
+          report = byte ∷ report;
+          reported = reported;
+          some = λ none. (let no : ⊥ = cc in no);
+          text_is = refl;
+        },
+        puts,
+      )
   report_found c (byte ∷ report) right store reported (inr quiet) =
       inl (quiet_ends (λ s. EndsCheck s size held reels w) status.NoMemory ended w (λ q. q) quiet, inl (quiet_ends IsFailed status.NoMemory ended w (λ _. tt) quiet))
 
--- THE DEVICES, if one was read
-leaves : {P : Type 0} (old new : DiscState) → ReadsByCause P old new → LeavesDisc old new
-leaves old new reads = record { held = reads.held; size = reads.size; write_faults = reads.write_faults; writes = reads.writes; fuse = reads.fuse; arms = reads.arms }
-
-pub looked_failed : (why : LookFault) (ended : Status) (w : Written) (disc dnew : DiscState) (rack new : Rack) → ReadsByCause (why ≡ fault.DiscUnread) disc dnew → ReadsRackByCause (why ≡ fault.TapeUnread) rack new
-    → CheckFaults why → TellsFault why ended w → Looked ended disc dnew rack new
-looked_failed why ended w disc dnew rack new disc_reads reads (inl is) tells = record {
-  disc_left = leaves disc dnew disc_reads;
-  rack_left = reads.only;
-  cause = λ unread. inl (disc_reads.rose is);
-  quiet = λ none other. absurd (put_ends (λ s. (s ≡ status.Unread → ⊥) → (s ≡ status.OutputFault → ⊥) → ⊥) status.Unread ended _ w (λ _ no _. no refl) (λ _ _ no. no refl) (subst (λ (f : LookFault). TellsFault f ended w) is tells) none other);
-}
-looked_failed why ended w disc dnew rack new disc_reads reads (inr (inl is)) tells = record {
-  disc_left = leaves disc dnew disc_reads;
-  rack_left = reads.only;
-  cause = λ unread. inr (reads.rose is);
-  quiet = λ none other. absurd (put_ends (λ s. (s ≡ status.Unread → ⊥) → (s ≡ status.OutputFault → ⊥) → ⊥) status.Unread ended _ w (λ _ no _. no refl) (λ _ _ no. no refl) (subst (λ (f : LookFault). TellsFault f ended w) is tells) none other);
-}
-looked_failed why ended w disc dnew rack new disc_reads reads (inr (inr is)) tells = record {
-  disc_left = leaves disc dnew disc_reads;
-  rack_left = reads.only;
-  cause = λ unread. absurd (quiet_ends (λ s. s ≡ status.Unread → ⊥) status.NoMemory ended w (λ _ wrong. (let no : ⊥ = cc in no)) (subst (λ (f : LookFault). TellsFault f ended w) is tells) unread);
-  quiet = λ none other. (disc_reads.kept (λ wrong. let no : ⊥ = cc in no), reads.kept (λ wrong. let no : ⊥ = cc in no));
-}
-
-pub looked_fine : (ended : Status) (disc dnew : DiscState) (rack new : Rack) → ReadsByCause ⊥ disc dnew → ReadsRackByCause ⊥ rack new → (ended ≡ status.Unread → ⊥) → Looked ended disc dnew rack new
-looked_fine ended disc dnew rack new disc_reads reads never = record {
-  disc_left = leaves disc dnew disc_reads;
-  rack_left = reads.only;
-  cause = λ unread. absurd (never unread);
-  quiet = λ none other. (disc_reads.kept (λ wrong. wrong), reads.kept (λ wrong. wrong));
-}
+-- the report of devices that were read before
+pub report_mid : (held now : Option (List (List ℕ))) (reels after : List Reel) (dumps : List SealedDump) (files : List SealedFile) (text : List ℕ) → now ≡ held → after ≡ reels → AllTold held reels
+    → (AllTold now after → IsReport now after dumps files text) → IsReport held reels dumps files text
+report_mid held now reels after dumps files text same left told is =
+    subst (λ (h : Option (List (List ℕ))). AllTold h reels → IsReport h reels dumps files text) same (subst (λ (rs : List Reel). AllTold now rs → IsReport now rs dumps files text) left is) told

@@ -259,7 +259,6 @@ EndsReport ended size held reels dumps files w =
     (EndsCheck ended size held reels w × (IsFailed ended ⊎ IsReport held reels dumps files []))
     ⊎ ((text : List ℕ) × IsCompared size held reels dumps files text × Puts status.No text ended w)
 
-
 -- A LOOK LEAVES THE DISC unchanged, except for the count of failed reads.
 pub record LeavesDisc (before after : DiscState) : Type 0 where
   pub held : after.held ≡ before.held

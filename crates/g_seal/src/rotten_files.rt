@@ -188,12 +188,7 @@ fn tape_state<T: Tapes>(
 }
 
 /// Whether a copy on tape isn't compared: it was sealed only as part of its dump, which isn't rotten, and the disc's copy has the sealed bytes.
-fn is_left_out(
-    rotten: &[SealedDump],
-    sealed: &SealedFile,
-    disc: CopyState,
-    copy: &TapeCopy,
-) -> bool
+fn is_left_out(rotten: &[SealedDump], sealed: &SealedFile, disc: CopyState, copy: &TapeCopy) -> bool
     ensures { result ≡ is_left_out rotten.now sealed.now disc copy.now }
 {
     sealed.online

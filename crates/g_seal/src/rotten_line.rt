@@ -44,11 +44,7 @@ fn push_rotten_file(text: &mut Text, version: &FoundVersion) -> Result<(), NoMem
 }
 
 /// Appends the place on tape to the text, if it is listed.
-fn push_tape_if(
-    text: &mut Text,
-    listed: bool,
-    place: &Option<TapeCopy>,
-) -> Result<(), NoMemory>
+fn push_tape_if(text: &mut Text, listed: bool, place: &Option<TapeCopy>) -> Result<(), NoMemory>
     ensures { OnOk result (text.new ≡ text.old ++ tape_if listed place.now) }
 {
     if listed {
