@@ -1,5 +1,5 @@
 -- The promises of a check, from what its result says.
--- serves: look (check, dumps, list, restorable, seal, show)
+-- serves: look (check, dumps, list, restorable, seal, show), ReportLemmas
 use Rattle.std.proofs.Common.{◌≡◌, ◌⊎◌, ◌↔◌, ℕ, List, Bool, true, false, Option, Some, None, Result, Ok, Err, IfOk, IfErr, IsTrue, refl, subst, sym, ◌∙◌, inl, inr}
 use Rattle.std.specs.Prelude.{codes}
 use Rattle.std.specs.Option.{ForSome}

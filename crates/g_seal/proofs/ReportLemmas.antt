@@ -1,5 +1,5 @@
 -- The report of a check against a seal, from the lines that were appended.
--- serves: rotten (disc, text, unchanged)
+-- serves: rotten (text, unchanged)
 use Rattle.std.proofs.Common.{◌≡◌, ℕ, List, [], ◌++◌, map, Option, sym, ◌∙◌, ap, subst}
 use Rattle.std.specs.Option.{ForSome}
 use Rattle.std.proofs.lemmas.Grind.{flat_map-append}

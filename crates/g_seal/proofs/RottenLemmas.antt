@@ -1,5 +1,5 @@
 -- What was read of sealed dumps, and the rotten ones among them.
--- serves: block_at (block), push_rotten_dumps, reel_state (state), rotten_dumps (rotten)
+-- serves: block_at (block), reel_state (state), rotten_dumps (rotten)
 use Rattle.std.proofs.Common.{◌≡◌, ◌⊎◌, inl, inr, ℕ, ◌+◌, ◌-◌, ◌*◌, ◌<◌, ◌≤◌, Bool, true, false, ◌&&◌, ◌||◌, List, [], ◌∷◌, ◌++◌, length, take, get_or, slice_get, Option, Some, None, Result, Ok, refl, sym, ◌∙◌, ap, subst}
 use Rattle.std.specs.Prelude.{is_some, not, option_map, nat_le}
 use Rattle.std.specs.Option.{ForSome}

@@ -1,5 +1,5 @@
 -- The lines of rotten files, one after another, while the devices are only read.
--- serves: push_rotten_files (text), push_rotten_held (text)
+-- serves: push_rotten_files, push_rotten_held (text)
 use Rattle.std.proofs.Common.{◌≡◌, ℕ, ◌+◌, ◌<◌, ◌≤◌, Bool, true, false, ◌||◌, List, [], ◌∷◌, ◌++◌, length, take, get_or, Option, Some, None, Result, Ok, Err, refl, sym, ◌∙◌, ap, subst}
 use Rattle.std.specs.Prelude.{◌==◌, OnOk, cond, option_map}
 use Rattle.std.specs.List.{flat_map}

@@ -1,5 +1,5 @@
 -- The lines of a seal by what was read into memory.
-use Rattle.std.specs.Prelude.{ℕ, ◌*◌, ◌+◌, ◌==◌, List, map, find, Option, option_map}
+use Rattle.std.specs.Prelude.{ℕ, ◌*◌, ◌+◌, ◌==◌, List, find, Option, option_map}
 use Rattle.sha2.specs.Sha256.{sha256}
 use Rattle.g_copy.specs.declared.copy.DiscCopy.{DiscCopy}
 use Rattle.g_entry.specs.declared.file_rec.FileRec.{FileRec}
@@ -7,7 +7,6 @@ use Rattle.g_entry.specs.declared.file_rec.TapeCopy.{TapeCopy}
 use Rattle.g_entry.specs.declared.user_rec.UserRec.{UserRec}
 use Rattle.g_dirs.specs.Directory.{copy_at}
 use Rattle.g_tape.specs.Reel.{Reel}
-use Rattle.g_lines.specs.Lines.{text_of}
 use Rattle.g_restore.specs.declared.dumps.Found.{Found}
 use Rattle.g_restore.specs.KnownDumps.{Known, known}
 use Rattle.g_seal.specs.declared.entries.SealedDump.{SealedDump}

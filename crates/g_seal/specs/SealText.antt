@@ -1,5 +1,5 @@
 -- The text of a seal: a line for each dump and for each file, and a last line with the sum of all lines before it. A sum is a SHA-256.
-use Rattle.std.specs.Prelude.{ℕ, List, [], ◌∷◌, ◌++◌, map, Bool, codes, if◌then◌else◌}
+use Rattle.std.specs.Prelude.{ℕ, List, [], ◌++◌, map, Bool, codes, if◌then◌else◌}
 use Rattle.hex.specs.Hex.{encode_lower}
 use Rattle.sha2.specs.Sha256.{sha256}
 use Rattle.g_lines.specs.Lines.{ended, text_of}

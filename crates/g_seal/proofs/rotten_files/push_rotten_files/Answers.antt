@@ -1,6 +1,4 @@
-use Rattle.std.proofs.Common.{arith}
-use Rattle.g_look.proofs.ReadLemmas.{ok_not_err}
-use Rattle.g_seal.proofs.VersionLemmas.{all_versions, no_versions, version_more}
+use Rattle.g_seal.proofs.VersionLemmas.{no_versions}
 use Rattle.g_seal.proofs.rotten_files.push_rotten_files.Goals as goal
 
 pub loop-sealed-init : goal.loop-sealed-init
