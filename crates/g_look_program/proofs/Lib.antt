@@ -1,3 +1,4 @@
 mod LookLemmas
 mod MountLemmas
+mod ReportLemmas
 mod WordLemmas

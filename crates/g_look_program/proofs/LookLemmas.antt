@@ -1,5 +1,5 @@
 -- The promises of a check, from what its result says.
--- serves: look (check, dumps, list, restorable, seal, show)
+-- serves: look (check, dumps, list, restorable, seal, show), ReportLemmas
 use Rattle.std.proofs.Common.{◌≡◌, ◌⊎◌, ◌↔◌, ℕ, List, Bool, true, false, Option, Some, None, Result, Ok, Err, IfOk, IfErr, IsTrue, refl, subst, sym, ◌∙◌, inl, inr}
 use Rattle.std.specs.Prelude.{codes}
 use Rattle.std.specs.Option.{ForSome}
@@ -44,7 +44,7 @@ ends_as size held reels due ended text w good due_text (inr (is, cut)) = subst (
 abbrev pub CheckFaults : LookFault → Type 0
 CheckFaults why = (why ≡ fault.DiscUnread) ⊎ ((why ≡ fault.TapeUnread) ⊎ (why ≡ fault.NoMemory))
 
-ends_fault : (size : ℕ) (held : Option (List (List ℕ))) (reels : List Reel) (why : LookFault) (ended : Status) (w : Written)
+pub ends_fault : (size : ℕ) (held : Option (List (List ℕ))) (reels : List Reel) (why : LookFault) (ended : Status) (w : Written)
     → CheckFaults why → TellsFault why ended w → EndsCheck ended size held reels w
 ends_fault size held reels why ended w (inl is) tells =
     ends_as size held reels status.Unread ended (codes "DISC READ\n") w (λ whole. inl whole) (inr (inl refl)) (subst (λ (f : LookFault). TellsFault f ended w) is tells)
@@ -101,11 +101,11 @@ ends_dumps shelf reels (Ok text) ended w right faults tells =
 ends_dumps shelf reels (Err why) ended w right faults tells = dumps_fault shelf reels why ended w faults tells
 
 -- A LIST, A FILE AND WHAT CAN BE RESTORED
-put_ends : (P : Status → Type 0) (due ended : Status) (text : List ℕ) (w : Written) → (IsWhole text w → P due) → (IsCut text w → P status.OutputFault) → Puts due text ended w → P ended
+pub put_ends : (P : Status → Type 0) (due ended : Status) (text : List ℕ) (w : Written) → (IsWhole text w → P due) → (IsCut text w → P status.OutputFault) → Puts due text ended w → P ended
 put_ends P due ended text w good bad (inl (is, whole)) = subst P (sym is) (good whole)
 put_ends P due ended text w good bad (inr (is, cut)) = subst P (sym is) (bad cut)
 
-quiet_ends : (P : Status → Type 0) (due ended : Status) (w : Written) → (IsQuiet w → P due) → EndsQuietly due ended w → P ended
+pub quiet_ends : (P : Status → Type 0) (due ended : Status) (w : Written) → (IsQuiet w → P due) → EndsQuietly due ended w → P ended
 quiet_ends P due ended w good (is, quiet) = subst P (sym is) (good quiet)
 
 module _ (blocks : List (List ℕ)) (only : Option (List ℕ)) (ended : Status) (w : Written) where

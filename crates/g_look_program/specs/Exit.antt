@@ -1,7 +1,7 @@
 -- The exit status of a look.
 use Rattle.std.specs.Prelude.{◌≡◌, ℕ}
 use Rattle.g_look_program.specs.declared.status.Status.{Status}
-use Rattle.g_look_program.specs.declared.status.Status.TheVariants.{Done, No, Words, Unread, OutputFault, NoMemory, Nothing}
+use Rattle.g_look_program.specs.declared.status.Status.TheVariants.{Done, No, Words, Unread, OutputFault, NoMemory, Nothing, NoSeal}
 
 -- The exit status of a status.
 abbrev pub code_of : Status → ℕ
@@ -12,6 +12,7 @@ code_of Unread = 3
 code_of OutputFault = 4
 code_of NoMemory = 5
 code_of Nothing = 6
+code_of NoSeal = 8
 
 -- The exit status of one of these ends.
 pub record IsExit (IsSo : Status → Type 0) (code : ℕ) : Type 0 where

@@ -1,5 +1,6 @@
 -- The text that a look prints, the status with which it ends, and the cause of each.
-use Rattle.std.specs.Prelude.{◌≡◌, ◌⊎◌, ℕ, List, Option, Some, None, Bool, true, false, Result, Ok, Err, codes}
+use Rattle.std.specs.Prelude.{◌≡◌, ◌≢◌, ◌⊎◌, ℕ, List, [], ◌∷◌, ◌++◌, Option, Some, None, Bool, true, false, Result, Ok, Err, codes}
+use Rattle.std.specs.Fmt.{decimal}
 use Rattle.std.specs.Option.{ForSome}
 use Rattle.g_base.specs.Counts.{Rose}
 use Rattle.g_dirs.specs.Directory.{Directory}
@@ -20,7 +21,12 @@ use Rattle.g_look.specs.declared.restoring.Given.{Given}
 use Rattle.g_look.specs.Lists.{IsListed, IsNobody, IsRestorable}
 use Rattle.g_look.specs.ShownBytes.{IsLost, IsNoFile, IsShown}
 use Rattle.g_look.specs.Text.{IsChecked, rack_lines}
+use Rattle.g_seal.specs.declared.entries.SealedDump.{SealedDump}
+use Rattle.g_seal.specs.declared.entries.SealedFile.{SealedFile}
+use Rattle.g_seal.specs.declared.parse.SealFault.{SealFault}
+use Rattle.g_seal.specs.declared.parse.SealFault.TheVariants as refusal
 use Rattle.g_seal.specs.declared.sealing.Sealed.{Sealed}
+use Rattle.g_seal.specs.Rotten.{IsReport}
 use Rattle.g_seal.specs.Sealing.{HasLost, IsSealed}
 use Rattle.g_look_program.specs.declared.status.Status.{Status}
 use Rattle.g_look_program.specs.declared.status.Status.TheVariants as status
@@ -145,6 +151,14 @@ EndsCheck status.Unread size held reels w = IsWhole (codes "DISC READ\n") w ⊎ 
 EndsCheck status.OutputFault size held reels w = IsCutOf (λ text. ((broken : Option Broken) × (missing : Option ℕ) × IsChecked size held reels broken missing text) ⊎ IsFaultLine text) w
 EndsCheck status.NoMemory size held reels w = IsQuiet w
 EndsCheck status.Words size held reels w = ⊥
+EndsCheck status.NoSeal size held reels w = ⊥
+
+-- THE END OF A CHECK of two racks that expose their blocks, after a check of the first that ended with the status `so_far`. If no reel differs,
+-- nothing is printed; otherwise the lines of those that do. Or a reel couldn't be read, or memory ran out.
+abbrev pub EndsTwins : Status → List ℕ → Status → Written → Type 0
+EndsTwins so_far text ended w =
+    ((text ≡ []) × EndsQuietly so_far ended w)
+    ⊎ (((text ≢ []) × Puts status.No text ended w) ⊎ (Puts status.Unread (codes "TAPE READ\n") ended w ⊎ EndsQuietly status.NoMemory ended w))
 
 -- THE END OF A CHECK of two racks that expose their blocks, after a check of the first that ended with the status `so_far`. If no reel differs,
 -- nothing is printed; otherwise the lines of those that do. Or a reel couldn't be read, or memory ran out.
@@ -207,6 +221,50 @@ EndsSeal status.Unread held reels w = IsWhole (codes "DISC READ\n") w ⊎ IsWhol
 EndsSeal status.OutputFault held reels w = IsCutOf (λ text. IsSealed held reels text ⊎ IsFaultLine text) w
 EndsSeal status.NoMemory held reels w = IsQuiet w
 EndsSeal status.Words held reels w = ⊥
+EndsSeal status.NoSeal held reels w = ⊥
+
+-- The line of a seal that is unknown is printed, or memory ran out.
+abbrev pub TellsLine : ℕ → Status → Written → Type 0
+TellsLine k ended w = Puts status.NoSeal (codes "SEAL LINE " ++ decimal k ++ 10 ∷ []) ended w ⊎ EndsQuietly status.NoMemory ended w
+
+-- THE TEXT AND THE STATUS OF A TEXT THAT ISN'T A SEAL.
+abbrev pub TellsRefusal : SealFault → Status → Written → Type 0
+TellsRefusal refusal.NotEnded ended w = Puts status.NoSeal (codes "SEAL NOT ENDED\n") ended w
+TellsRefusal refusal.WithoutSum ended w = Puts status.NoSeal (codes "SEAL WITHOUT SUM\n") ended w
+TellsRefusal refusal.OtherSum ended w = Puts status.NoSeal (codes "SEAL WITH OTHER SUM\n") ended w
+TellsRefusal (refusal.Line k) ended w = TellsLine k ended w
+TellsRefusal refusal.NoMemory ended w = EndsQuietly status.NoMemory ended w
+
+-- What is printed of a check against a seal with this report: the text of the check, and the report after it. The status is that of the check if
+-- the report is empty.
+abbrev pub TellsReport : Checked → List ℕ → Status → Written → Type 0
+TellsReport c [] ended w = TellsCheck (Ok c) ended w
+TellsReport c (byte ∷ report) ended w = Puts status.No (c.text ++ byte ∷ report) ended w ⊎ EndsQuietly status.NoMemory ended w
+
+-- A check against a seal with these dumps and files: what a check finds, the text of a check, and the report after it, which isn't empty.
+pub record IsCompared (size : ℕ) (held : Option (List (List ℕ))) (reels : List Reel) (dumps : List SealedDump) (files : List SealedFile) (text : List ℕ) : Type 0 where
+  pub broken : Option Broken
+  pub missing : Option ℕ
+  pub front : List ℕ
+  pub checked : IsChecked size held reels broken missing front
+  pub report : List ℕ
+  pub reported : IsReport held reels dumps files report
+  pub some : report ≢ []
+  pub text_is : text ≡ front ++ report
+
+-- A device, the sink or memory failed.
+abbrev pub IsFailed : Status → Type 0
+IsFailed status.Unread = Unit {0}
+IsFailed status.OutputFault = Unit {0}
+IsFailed status.NoMemory = Unit {0}
+IsFailed ended = ⊥
+
+-- THE END OF A CHECK AGAINST A SEAL of devices that expose their blocks, whose seal has these dumps and files. If the report is empty, it is the end of
+-- a check. Otherwise the text of the check and the report are printed, and the status is No.
+abbrev pub EndsReport : Status → ℕ → Option (List (List ℕ)) → List Reel → List SealedDump → List SealedFile → Written → Type 0
+EndsReport ended size held reels dumps files w =
+    (EndsCheck ended size held reels w × (IsFailed ended ⊎ IsReport held reels dumps files []))
+    ⊎ ((text : List ℕ) × IsCompared size held reels dumps files text × Puts status.No text ended w)
 
 -- A LOOK LEAVES THE DISC unchanged, except for the count of failed reads.
 pub record LeavesDisc (before after : DiscState) : Type 0 where

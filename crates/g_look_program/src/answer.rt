@@ -11,6 +11,7 @@ ghost use Rattle.g_look_program.specs.Exit.{IsExit, IsOfLook, IsOfWords};
 ghost use Rattle.g_look_program.specs.Telling as told;
 ghost use Rattle.g_look_program.specs.Words.{AskNothing, texts_of};
 
+use crate::against::against_file;
 use crate::mount::mount_all;
 use crate::tell::{put, tell, tell_bytes, tell_check, tell_restorable, tell_seal};
 use crate::twins::tell_twins;
@@ -27,13 +28,16 @@ use std::alloc::Global;
 use std::io::{self, ErrorKind};
 
 /// The exit status if the image or the rack can't be used.
-const NO_IMAGE: u8 = 7;
+pub(crate) const NO_IMAGE: u8 = 7;
 
 /// The disc's image, in the working folder.
-const IMAGE: &str = "george.disc";
+pub(crate) const IMAGE: &str = "george.disc";
 
 /// The folder of the reels' images, also there.
-const RACK: &str = "george.tapes";
+pub(crate) const RACK: &str = "george.tapes";
+
+/// The folder of the twins of these reels, if there are any.
+const SECOND: &str = "george.tapes2";
 
 /// The folder of the twins of these reels, if there are any.
 const SECOND: &str = "george.tapes2";
@@ -43,6 +47,9 @@ pub fn answer(rt: &HostRuntime, words: &[&str]) -> u8
     ensures { (AskNothing (texts_of words.now) × IsExit IsOfWords result) ⊎ (result ≡ 7) ⊎ IsExit IsOfLook result }
 {
     let mut out = StdSink::new(HostOutput::new(io::writer(rt)));
+    if let ["check", path] = words {
+        return against_file(rt, path, &mut out);
+    }
     match asked_by(words) {
         Some(asked) => on_files(rt, &asked, &mut out),
         None => put(&mut out, b"WORDS NOT KNOWN\n", Status::Words).code(),

@@ -1,6 +1,7 @@
 //! The program `look` on the devices of a real machine, with its words and exit status.
 #![tactic(auto)]
 
+mod against;
 mod answer;
 mod mount;
 mod status;
@@ -9,6 +10,7 @@ mod twins;
 mod words;
 
 use crate::answer::answer;
+pub use against::look_against;
 pub use answer::look;
 use g_devices::{placeholders, texts_of, words_of};
 pub use status::Status;

@@ -19,6 +19,8 @@ pub enum Status {
     NoMemory,
     /// For a check: disc and rack belong together, no dump is missing, and the disc holds no filestore.
     Nothing,
+    /// The seal of the command line isn't one, or couldn't be read.
+    NoSeal,
 }
 
 impl Status {
@@ -34,6 +36,7 @@ impl Status {
             Status::OutputFault => 4,
             Status::NoMemory => 5,
             Status::Nothing => 6,
+            Status::NoSeal => 8,
         }
     }
 }

@@ -1,12 +1,14 @@
 //! The text that is printed for a result, and the status.
 ghost use Rattle.std.specs.Prelude.{◌≡◌};
+ghost use Rattle.g_look_program.specs.Exit.{IsOfLook};
 ghost use Rattle.g_look_program.specs.Telling as told;
 
 use crate::Status;
 use g_io::Sink;
-use g_look::{Checked, Given, LookFault};
+use g_look::{Checked, Given, LookFault, push_told};
 use g_name::Text;
-use g_seal::Sealed;
+use g_seal::{SealFault, Sealed};
+use std::alloc::Global;
 
 /// Prints the text of a check, whatever the check found.
 pub(crate) fn tell_check<K: Sink>(out: &mut K, found: Result<Checked, LookFault>) -> Status
@@ -16,6 +18,21 @@ pub(crate) fn tell_check<K: Sink>(out: &mut K, found: Result<Checked, LookFault>
     match found {
         Ok(checked) => put(out, checked.text.as_slice(), verdict(&checked)),
         Err(fault) => tell_fault(out, fault),
+    }
+}
+
+/// Prints the text of a check, and the report of a check against a seal after it. The status is the check's if the report is empty.
+pub(crate) fn tell_report<K: Sink>(out: &mut K, checked: Checked, report: &Text) -> Status
+    ensures { told.TellsReport checked report.now result
+        (record { before = K.written out.old; after = K.written out.new; faults_before = K.faults out.old; faults_after = K.faults out.new }) }
+{
+    if report.as_slice().is_empty() {
+        return tell_check(out, Ok(checked));
+    }
+    let mut text = checked.text;
+    match text.extend(report.as_slice()) {
+        Ok(()) => put(out, text.as_slice(), Status::No),
+        Err(_) => Status::NoMemory,
     }
 }
 
@@ -113,6 +130,34 @@ fn tell_fault<K: Sink>(out: &mut K, fault: LookFault) -> Status
         LookFault::NoCopy => put(out, b"NO COPY\n", Status::No),
         LookFault::NoMemory => Status::NoMemory,
     }
+}
+
+/// Prints why a text isn't a seal.
+pub(crate) fn tell_refused<K: Sink>(alloc: Global, out: &mut K, fault: SealFault) -> Status
+    ensures tells { told.TellsRefusal fault result
+        (record { before = K.written out.old; after = K.written out.new; faults_before = K.faults out.old; faults_after = K.faults out.new }) }
+    ensures look { IsOfLook result }
+{
+    match fault {
+        SealFault::NotEnded => put(out, b"SEAL NOT ENDED\n", Status::NoSeal),
+        SealFault::WithoutSum => put(out, b"SEAL WITHOUT SUM\n", Status::NoSeal),
+        SealFault::OtherSum => put(out, b"SEAL WITH OTHER SUM\n", Status::NoSeal),
+        SealFault::Line(k) => tell_line(alloc, out, k),
+        SealFault::NoMemory => Status::NoMemory,
+    }
+}
+
+/// Prints which line of a seal is unknown.
+fn tell_line<K: Sink>(alloc: Global, out: &mut K, k: u64) -> Status
+    ensures tells { told.TellsLine k result
+        (record { before = K.written out.old; after = K.written out.new; faults_before = K.faults out.old; faults_after = K.faults out.new }) }
+    ensures look { IsOfLook result }
+{
+    let mut text = Text::new(alloc);
+    if push_told(&mut text, b"SEAL LINE ", k).is_err() || text.push(b'\n').is_err() {
+        return Status::NoMemory;
+    }
+    put(out, text.as_slice(), Status::NoSeal)
 }
 
 /// The status of a look that prints nothing.

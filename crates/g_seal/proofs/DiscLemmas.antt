@@ -1,6 +1,6 @@
 -- Bytes of the disc that were added to a sum.
 -- serves: disc_sum
-use Rattle.std.proofs.Common.{◌≡◌, ℕ, ◌+◌, ◌-◌, ◌<◌, ◌≤◌, List, [], ◌++◌, length, take, min, get_or, Ok, sym, ◌∙◌, ap, subst, arith, length-append}
+use Rattle.std.proofs.Common.{◌≡◌, ℕ, ◌+◌, ◌-◌, ◌<◌, List, [], ◌++◌, length, take, min, get_or, Ok, sym, subst, arith, length-append}
 use Rattle.std.proofs.lemmas.List.{length-take}
 use Rattle.sha2.specs.Hashers.{Holds256}
 use Rattle.sha2.specs.declared.Sha256.{Sha256}

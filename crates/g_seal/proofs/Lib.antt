@@ -1,4 +1,9 @@
 mod DiscLemmas
 mod LineLemmas
+mod OwnLemmas
+mod ParseLemmas
 mod ReelLemmas
+mod ReportLemmas
+mod RottenLemmas
 mod SealLemmas
+mod VersionLemmas

@@ -1,5 +1,5 @@
 -- Lines of dumps and files, one after another, while the devices are only read.
--- serves: push_dumps (text), push_files (text)
+-- serves: push_dumps (text), push_files (text), push_rotten_dumps, RottenLemmas, VersionLemmas
 use Rattle.std.proofs.Common.{◌≡◌, ℕ, ◌+◌, ◌<◌, ◌≤◌, List, [], ◌∷◌, ◌++◌, length, map, take, get_or, refl, sym, ◌∙◌, ap, subst, arith}
 use Rattle.std.proofs.lemmas.Grind.{flat_map-append}
 use Rattle.std.proofs.lemmas.List.{append-nil, append_assoc, map-append, take_more}
@@ -54,6 +54,16 @@ line_more line xs i x within at =
     ∙ ap text_of (map-append line (take i xs) (x ∷ []))
     ∙ flat_map-append ended (map line (take i xs)) (line x ∷ [])
     ∙ ap (λ ys. text_of (map line (take i xs)) ++ ys) (append-nil (ended (line x)))
+
+-- the next line is appended
+pub line_next : {X : Type 0} (line : X → List ℕ) (xs : List X) (i : ℕ) (d : X) (begun text next : List ℕ) → i < length xs → text ≡ begun ++ text_of (map line (take i xs)) → next ≡ text ++ ended (line (get_or xs i d))
+    → next ≡ begun ++ text_of (map line (take (i + 1) xs))
+line_next line xs i d begun text next within is more =
+    let last : List ℕ = ended (line (get_or xs i d)) in
+    let all : text_of (map line (take (i + 1) xs)) ≡ text_of (map line (take i xs)) ++ last =
+    ap (λ ys. text_of (map line ys)) (take_more xs i d within) ∙ ap text_of (map-append line (take i xs) (get_or xs i d ∷ [])) ∙ flat_map-append ended (map line (take i xs)) (line (get_or xs i d) ∷ [])
+    ∙ ap (λ ys. text_of (map line (take i xs)) ++ ys) (append-nil last) in
+    more ∙ ap (λ (ys : List ℕ). ys ++ last) is ∙ append_assoc begun (text_of (map line (take i xs))) last ∙ ap (λ (ys : List ℕ). begun ++ ys) (sym all)
 
 no_lines : (begun : List ℕ) → begun ≡ begun ++ []
 no_lines begun = sym (append-nil begun)

@@ -1,5 +1,5 @@
 -- The lines of a seal by what was read into memory.
-use Rattle.std.specs.Prelude.{ℕ, ◌*◌, ◌+◌, List, map}
+use Rattle.std.specs.Prelude.{ℕ, ◌*◌, ◌+◌, ◌==◌, List, find, Option, option_map}
 use Rattle.sha2.specs.Sha256.{sha256}
 use Rattle.g_copy.specs.declared.copy.DiscCopy.{DiscCopy}
 use Rattle.g_entry.specs.declared.file_rec.FileRec.{FileRec}
@@ -7,11 +7,12 @@ use Rattle.g_entry.specs.declared.file_rec.TapeCopy.{TapeCopy}
 use Rattle.g_entry.specs.declared.user_rec.UserRec.{UserRec}
 use Rattle.g_dirs.specs.Directory.{copy_at}
 use Rattle.g_tape.specs.Reel.{Reel}
-use Rattle.g_lines.specs.Lines.{text_of}
 use Rattle.g_restore.specs.declared.dumps.Found.{Found}
 use Rattle.g_restore.specs.KnownDumps.{Known, known}
 use Rattle.g_seal.specs.declared.entries.SealedDump.{SealedDump}
 use Rattle.g_seal.specs.declared.entries.SealedFile.{SealedFile}
+use Rattle.g_seal.specs.declared.versions.FoundVersion.{FoundVersion}
+use Rattle.g_seal.specs.Rotten.{found_version, version_lines}
 use Rattle.g_seal.specs.Sealing.{bytes_on, sealed_file}
 use Rattle.g_seal.specs.SealText.{dump_line, file_line}
 
@@ -36,3 +37,15 @@ found_line reels f = dump_line (known_dump reels (known f))
 -- The line of a file, by its record and the copies on disc.
 abbrev pub rec_line : List (List ℕ) → List Reel → List UserRec → List (ℕ × DiscCopy) → FileRec → List ℕ
 rec_line blocks reels users online r = file_line (sealed_file blocks reels users (r, copy_at online r.number))
+
+-- A sealed version as it is found, by the records and the copies on disc.
+abbrev pub rec_version : List (List ℕ) → List Reel → List SealedDump → List UserRec → List (ℕ × DiscCopy) → SealedFile → FileRec → FoundVersion
+rec_version blocks reels rotten users online s r = found_version blocks reels rotten users s (r, copy_at online r.number)
+
+-- The record with this stamp.
+abbrev pub rec_of : List FileRec → ℕ → Option FileRec
+rec_of files stamp = find (λ r. r.stamp == stamp) files
+
+-- The lines of a sealed file, by the records and the copies on disc.
+abbrev pub rec_lines : List (List ℕ) → List Reel → List SealedDump → List UserRec → List (ℕ × DiscCopy) → List FileRec → SealedFile → List (List ℕ)
+rec_lines blocks reels rotten users online files s = version_lines (option_map (rec_version blocks reels rotten users online s) (rec_of files s.stamp))

@@ -1,3 +1,4 @@
 pub mod InMemory
+pub mod Rotten
 pub mod Sealing
 pub mod SealText

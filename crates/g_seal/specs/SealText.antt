@@ -1,5 +1,5 @@
 -- The text of a seal: a line for each dump and for each file, and a last line with the sum of all lines before it. A sum is a SHA-256.
-use Rattle.std.specs.Prelude.{ℕ, List, [], ◌∷◌, ◌++◌, map, Bool, codes, if◌then◌else◌}
+use Rattle.std.specs.Prelude.{ℕ, List, [], ◌++◌, map, Bool, codes, if◌then◌else◌}
 use Rattle.hex.specs.Hex.{encode_lower}
 use Rattle.sha2.specs.Sha256.{sha256}
 use Rattle.g_lines.specs.Lines.{ended, text_of}
@@ -28,11 +28,19 @@ file_line f =
     codes "FILE " ++ full_text f.full ++ told (codes " LENGTH ") f.len ++ told (codes " STAMP ") f.stamp ++ sum_text f.sum ++ online_text f.online
     ++ taped_text f.tape
 
+-- The last line with this sum.
+abbrev pub last_line : List ℕ → List ℕ
+last_line sum = codes "SEAL " ++ encode_lower sum
+
 -- The last line, with the sum of the text before it.
 abbrev pub seal_line : List ℕ → List ℕ
-seal_line front = codes "SEAL " ++ encode_lower (sha256 front)
+seal_line front = last_line (sha256 front)
 
--- The lines of dumps and then those of files, each with its byte 10.
+-- The lines of dumps and then those of files.
+abbrev pub sealed_lines : List SealedDump → List SealedFile → List (List ℕ)
+sealed_lines dumps files = map dump_line dumps ++ map file_line files
+
+-- These lines, each with its byte 10.
 abbrev pub front_text : List SealedDump → List SealedFile → List ℕ
 front_text dumps files = text_of (map dump_line dumps) ++ text_of (map file_line files)
 

@@ -51,6 +51,13 @@ abbrev pub IsOfSeal : LookFault → Type 0
 IsOfSeal DiscUnread = Unit {0}
 IsOfSeal fault = IsOfTape fault
 
+-- The faults with which a check against a seal may fail.
+abbrev pub IsOfReport : LookFault → Type 0
+IsOfReport DiscUnread = Unit {0}
+IsOfReport TapeUnread = Unit {0}
+IsOfReport NoMemory = Unit {0}
+IsOfReport fault = ⊥
+
 -- The place of a dump: its reel, and the block of its header.
 abbrev pub dump_place : Dump → TapeCopy
 dump_place d = record { serial = d.serial; first = d.place }

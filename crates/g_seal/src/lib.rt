@@ -1,4 +1,5 @@
-//! The seal of a disc and a rack: a text with the SHA-256 of each completed dump and of the bytes of each file. Nothing is written.
+//! The seal of a disc and a rack, a text with the SHA-256 of each completed dump and of the bytes of each file; and the check of a disc and a rack
+//! against a seal. Nothing is written.
 #![tactic(auto)]
 
 mod adding;
@@ -6,9 +7,20 @@ mod disc_sum;
 mod dumps;
 mod entries;
 mod files;
+mod header;
+mod line_reader;
 mod lines;
+mod parse;
+mod reel_state;
 mod reel_sum;
+mod reporting;
+mod rotten_dumps;
+mod rotten_files;
+mod rotten_line;
 mod sealing;
+mod versions;
 
 pub use entries::{SealedDump, SealedFile};
+pub use parse::{Seal, SealFault, parse_seal};
+pub use reporting::rotten;
 pub use sealing::{Sealed, seal};

@@ -1,6 +1,6 @@
 use Rattle.std.proofs.Common.{arith}
 use Rattle.g_look.proofs.ReadLemmas.{ok_not_err}
-use Rattle.g_seal.proofs.LineLemmas.{all_dumps_there, dump_more, no_dumps, rack_then}
+use Rattle.g_seal.proofs.LineLemmas.{all_dumps_there, dump_more, no_dumps}
 use Rattle.g_seal.proofs.dumps.push_dumps.Goals as goal
 
 pub loop-one-init : goal.loop-one-init

@@ -1,6 +1,5 @@
-use Rattle.std.proofs.Common.{◌≡◌, ◌+◌, ◌-◌, ◌≤◌, arith, rules}
+use Rattle.std.proofs.Common.{arith}
 use Rattle.std.proofs.lemmas.Bool.{le-leb, leb-true}
-use Rattle.g_base.specs.Block.{blocks_for}
 use Rattle.g_seal.proofs.ReelLemmas.{all_if, has_all_if, none_if}
 use Rattle.g_seal.proofs.reel_sum.has_all.Goals as goal
 

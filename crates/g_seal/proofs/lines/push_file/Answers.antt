@@ -1,17 +1,16 @@
-use Rattle.std.proofs.Common.{◌++◌, ◌∷◌, []}
+use Rattle.std.proofs.Common.{◌++◌}
 use Rattle.std.specs.Prelude.{codes}
 use Rattle.g_monitor.specs.Parts.{full_text}
 use Rattle.g_look.specs.FileLines.{taped_text}
 use Rattle.g_look.specs.Text.{told}
 use Rattle.g_look.proofs.PushLemmas.{last_more, then_more}
-use Rattle.g_seal.specs.SealText.{file_line, online_text, sum_text}
-use Rattle.g_seal.proofs.lines.push_file_line.Goals as goal
+use Rattle.g_seal.specs.SealText.{online_text, sum_text}
+use Rattle.g_seal.proofs.lines.push_file.Goals as goal
 
 pub returns : goal.returns
 returns c =
     let f = c.args.file.now in
-    last_more _ c.args.text.now (file_line f) (10 ∷ []) _ _
-    (then_more c.args.text.now (codes "FILE " ++ full_text f.full ++ told (codes " LENGTH ") f.len ++ told (codes " STAMP ") f.stamp ++ sum_text f.sum ++ online_text f.online) (taped_text f.tape) _ _
+    last_more _ c.args.text.now (codes "FILE " ++ full_text f.full ++ told (codes " LENGTH ") f.len ++ told (codes " STAMP ") f.stamp ++ sum_text f.sum ++ online_text f.online) (taped_text f.tape) _ _
     (then_more c.args.text.now (codes "FILE " ++ full_text f.full ++ told (codes " LENGTH ") f.len ++ told (codes " STAMP ") f.stamp ++ sum_text f.sum) (online_text f.online) _ _
     (then_more c.args.text.now (codes "FILE " ++ full_text f.full ++ told (codes " LENGTH ") f.len ++ told (codes " STAMP ") f.stamp) (sum_text f.sum) _ _
     (then_more c.args.text.now (codes "FILE " ++ full_text f.full ++ told (codes " LENGTH ") f.len) (told (codes " STAMP ") f.stamp) _ _
@@ -21,5 +20,4 @@ returns c =
     c.in_ok-push_told-2.ensures)
     c.in_ok-push_sum.ensures)
     c.in_ok-push_online.ensures)
-    c.in_ok-push_taped.ensures)
-    c.push.ensures.ok
+    c.push_taped.ensures

@@ -1,0 +1,67 @@
+-- The end of a check against a seal.
+-- serves: look_against (report)
+use Rattle.std.proofs.Common.{◌≡◌, ◌⊎◌, ◌↔◌, inl, inr, ℕ, List, [], ◌∷◌, ◌++◌, Option, Result, Ok, Err, IsTrue, refl, subst}
+use Rattle.std.specs.Option.{ForSome}
+use Rattle.g_dirs.specs.Directory.{Directory}
+use Rattle.g_dirs.specs.Image.{StandsFor}
+use Rattle.g_tape.specs.Reel.{Reel}
+use Rattle.g_store_meaning.specs.Reading.{AllTold}
+use Rattle.g_look.specs.declared.checking.Checked.{Checked}
+use Rattle.g_look.specs.declared.fault.LookFault.{LookFault}
+use Rattle.g_look.specs.declared.fault.LookFault.TheVariants as fault
+use Rattle.g_look.specs.Text.{IsChecked}
+use Rattle.g_seal.specs.declared.entries.SealedDump.{SealedDump}
+use Rattle.g_seal.specs.declared.entries.SealedFile.{SealedFile}
+use Rattle.g_seal.specs.Rotten.{IsReport}
+use Rattle.g_seal.specs.Sealing.{IsOfReport}
+use Rattle.g_look_program.specs.declared.status.Status.{Status}
+use Rattle.g_look_program.specs.declared.status.Status.TheVariants as status
+use Rattle.g_look_program.specs.Telling.{EndsCheck, EndsReport, IsFailed, TellsCheck, TellsFault, TellsReport, Written}
+use Rattle.g_look_program.proofs.LookLemmas.{CheckFaults, ends_check, ends_fault, put_ends, quiet_ends}
+
+-- FAULTS
+failed_of : (why : LookFault) (ended : Status) (w : Written) → CheckFaults why → TellsFault why ended w → IsFailed ended
+failed_of why ended w (inl is) tells = put_ends IsFailed status.Unread ended _ w (λ _. tt) (λ _. tt) (subst (λ (f : LookFault). TellsFault f ended w) is tells)
+failed_of why ended w (inr (inl is)) tells = put_ends IsFailed status.Unread ended _ w (λ _. tt) (λ _. tt) (subst (λ (f : LookFault). TellsFault f ended w) is tells)
+failed_of why ended w (inr (inr is)) tells = quiet_ends IsFailed status.NoMemory ended w (λ _. tt) (subst (λ (f : LookFault). TellsFault f ended w) is tells)
+
+pub check_faults : (why : LookFault) → IsOfReport why → CheckFaults why
+check_faults fault.DiscUnread is = inl refl
+check_faults fault.TapeUnread is = inr (inl refl)
+check_faults fault.NoMemory is = inr (inr refl)
+check_faults fault.NoFilestore is = absurd is
+check_faults fault.NoUser is = absurd is
+check_faults fault.NoFile is = absurd is
+check_faults fault.NoCopy is = absurd is
+
+module _ (size : ℕ) (held : Option (List (List ℕ))) (reels : List Reel) (dumps : List SealedDump) (files : List SealedFile) (ended : Status) (w : Written) where
+  pub report_failed : (why : LookFault) → CheckFaults why → TellsCheck (Err why) ended w → EndsReport ended size held reels dumps files w
+  report_failed why faults tells = inl (ends_fault size held reels why ended w faults tells, inl (failed_of why ended w faults tells))
+
+  -- A REPORT
+  pub report_found : (c : Checked) (report : List ℕ) → IsChecked size held reels c.verdict.broken c.verdict.missing c.text → ForSome held (λ blocks. IsTrue c.filestore ↔ ((d : Directory) × StandsFor blocks d))
+      → IsReport held reels dumps files report → TellsReport c report ended w → EndsReport ended size held reels dumps files w
+  report_found c [] right store reported tells = inl (ends_check size held reels (Ok c) ended w right store tt tells, inr reported)
+  report_found c (byte ∷ report) right store reported (inl puts) =
+      inr (
+        c.text ++ byte ∷ report,
+        record {
+          broken = c.verdict.broken;
+          missing = c.verdict.missing;
+          front = c.text;
+          checked = right;
+          report = byte ∷ report;
+          reported = reported;
+          some = λ none. (let no : ⊥ = cc in no);
+          text_is = refl;
+        },
+        puts,
+      )
+  report_found c (byte ∷ report) right store reported (inr quiet) =
+      inl (quiet_ends (λ s. EndsCheck s size held reels w) status.NoMemory ended w (λ q. q) quiet, inl (quiet_ends IsFailed status.NoMemory ended w (λ _. tt) quiet))
+
+-- the report of devices that were read before
+pub report_mid : (held now : Option (List (List ℕ))) (reels after : List Reel) (dumps : List SealedDump) (files : List SealedFile) (text : List ℕ) → now ≡ held → after ≡ reels → AllTold held reels
+    → (AllTold now after → IsReport now after dumps files text) → IsReport held reels dumps files text
+report_mid held now reels after dumps files text same left told is =
+    subst (λ (h : Option (List (List ℕ))). AllTold h reels → IsReport h reels dumps files text) same (subst (λ (rs : List Reel). AllTold now rs → IsReport now rs dumps files text) left is) told

@@ -1,0 +1,18 @@
+use Rattle.g_twins.proofs.TwinLemmas.{all_mounted_after}
+use Rattle.g_look_program.proofs.ReportLemmas.{check_faults, report_failed, report_found, report_mid}
+use Rattle.g_look_program.proofs.against.look_against.Goals as goal
+
+pub returns-in-Err-clause-report : goal.returns-in-Err-clause-report
+returns-in-Err-clause-report g c = λ told. report_failed _ _ _ _ _ c.tell_check.result _ c.in-Err.fault c.in-Err.ensures.faults c.tell_check.ensures
+
+pub rotten-requires-clause-mounted : goal.rotten-requires-clause-mounted
+rotten-requires-clause-mounted g c = all_mounted_after _ _ c.in-Ok.ensures.tapes.only c.requires.mounted
+
+pub returns-in-Ok-rotten-clause-report : goal.returns-in-Ok-rotten-clause-report
+returns-in-Ok-rotten-clause-report g c = λ told.
+    report_found _ _ _ _ _ c.tell_report.result _ c.in-Ok.checked c.in-Ok-rotten.report (c.in-Ok.ensures.right told) c.in-Ok.ensures.filestore
+    (report_mid _ _ _ _ _ _ _ c.in-Ok.ensures.disc.held c.in-Ok.ensures.tapes.only.reels told c.in-Ok-rotten.ensures.text) c.tell_report.ensures
+
+pub returns-in-Err-rotten-clause-report : goal.returns-in-Err-rotten-clause-report
+returns-in-Err-rotten-clause-report g c = λ told.
+    report_failed _ _ _ _ _ c.tell_check-in-Err-rotten.result _ c.in-Err-rotten.fault (check_faults _ c.in-Err-rotten.ensures.faults) c.tell_check-in-Err-rotten.ensures

@@ -1,0 +1,93 @@
+//! The check against a seal.
+ghost use Rattle.std.specs.Prelude.{◌≡◌, ◌⊎◌, ◌<◌, All, true};
+ghost use Rattle.g_store_meaning.specs.Meaning.{told_reels};
+ghost use Rattle.g_store_meaning.specs.Reading.{AllTold};
+ghost use Rattle.g_look_program.specs.Exit.{IsExit, IsOfLook};
+ghost use Rattle.g_look_program.specs.Telling as told;
+
+use crate::Status;
+use crate::answer::{IMAGE, NO_IMAGE, RACK};
+use crate::mount::mount_all;
+use crate::tell::{put, tell_check, tell_refused, tell_report};
+use g_devices::look_at;
+use g_disc::Disc;
+use g_io::Sink;
+use g_known::KnownReels;
+use g_look::check;
+use g_seal::{Seal, parse_seal, rotten};
+use g_tape::Tapes;
+use std::alloc::Global;
+use std::fs::File;
+use std::io::{self, Error, ErrorKind, Read};
+
+/// Checks image and rack against the seal in this file, which is read and parsed first. Returns 8 if it isn't a seal, and 7 if image or rack can't
+/// be used.
+pub(crate) fn against_file<K: Sink>(rt: &HostRuntime, path: &str, out: &mut K) -> u8
+    ensures { (result ≡ 7) ⊎ IsExit IsOfLook result }
+{
+    let bytes = match read_file(rt, path) {
+        Ok(bytes) => bytes,
+        Err(fault) if fault.kind() == ErrorKind::OutOfMemory => return Status::NoMemory.code(),
+        Err(_) => return put(out, b"SEAL NOT READ\n", Status::NoSeal).code(),
+    };
+    match parse_seal(rt.alloc(), bytes.as_slice()) {
+        Ok(seal) => against_files(rt, &seal, out),
+        Err(fault) => tell_refused(rt.alloc(), out, fault).code(),
+    }
+}
+
+/// The bytes of a plain file.
+fn read_file(rt: &HostRuntime, path: &str) -> io::Result<Vec<u8>> {
+    let mut file = File::open(rt, path)?;
+    if !file.metadata()?.is_file() {
+        return Err(Error::from(ErrorKind::InvalidData));
+    }
+    let mut bytes = Vec::new(rt.alloc());
+    file.read_to_end(&mut bytes)?;
+    Ok(bytes)
+}
+
+/// Checks image and rack against a seal. Returns 7 if they can't be used.
+fn against_files<K: Sink>(rt: &HostRuntime, seal: &Seal, out: &mut K) -> u8
+    ensures { (result ≡ 7) ⊎ IsExit IsOfLook result }
+{
+    let (mut disc, tapes) = match look_at(rt, IMAGE, RACK) {
+        Ok(devices) => devices,
+        Err(fault) if fault.kind() == ErrorKind::OutOfMemory => return Status::NoMemory.code(),
+        Err(_) => return NO_IMAGE,
+    };
+    let mut tapes = KnownReels::new(rt.alloc(), tapes);
+    if !mount_all(&mut tapes) {
+        return NO_IMAGE;
+    }
+    look_against(rt.alloc(), seal, out, &mut disc, &mut tapes).code()
+}
+
+/// Checks disc and rack, and reports which bytes have changed since this seal: the text of a check is printed, and the report after it. All reels have
+/// to be mounted. Disc and rack are only read.
+pub fn look_against<K: Sink, D: Disc, T: Tapes>(
+    alloc: Global,
+    seal: &Seal,
+    out: &mut K,
+    disc: &mut D,
+    tapes: &mut KnownReels<T>,
+) -> Status
+    requires size { 2177 < (D.state disc.old).size }
+    requires mounted { All (λ r. r.mounted ≡ true) (T.rack tapes.old).reels }
+    ensures report { AllTold (D.state disc.old).held (told_reels (T.rack tapes.old)) → told.EndsReport result
+        (D.state disc.old).size (D.state disc.old).held (told_reels (T.rack tapes.old)) seal.now.dumps.items seal.now.files.items
+        (record { before = K.written out.old; after = K.written out.new; faults_before = K.faults out.old; faults_after = K.faults out.new }) }
+    ensures look { IsOfLook result }
+    ensures sink { told.SinkCause result
+        (record { before = K.written out.old; after = K.written out.new; faults_before = K.faults out.old; faults_after = K.faults out.new }) }
+    ensures devices { told.Looked result (D.state disc.old) (D.state disc.new) (T.rack tapes.old) (T.rack tapes.new) }
+{
+    let checked = match check(alloc, disc, tapes) {
+        Ok(checked) => checked,
+        Err(fault) => return tell_check(out, Err(fault)),
+    };
+    match rotten(alloc, disc, tapes, seal) {
+        Ok(report) => tell_report(out, checked, &report),
+        Err(fault) => tell_check(out, Err(fault)),
+    }
+}
