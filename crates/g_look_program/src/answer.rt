@@ -39,9 +39,6 @@ pub(crate) const RACK: &str = "george.tapes";
 /// The folder of the twins of these reels, if there are any.
 const SECOND: &str = "george.tapes2";
 
-/// The folder of the twins of these reels, if there are any.
-const SECOND: &str = "george.tapes2";
-
 /// Prints what the words request, and returns the exit status. The words are checked before any file is opened.
 pub fn answer(rt: &HostRuntime, words: &[&str]) -> u8
     ensures { (AskNothing (texts_of words.now) × IsExit IsOfWords result) ⊎ (result ≡ 7) ⊎ IsExit IsOfLook result }
@@ -86,7 +83,7 @@ fn on_files<K: Sink>(rt: &HostRuntime, asked: &Asked, out: &mut K) -> u8
 }
 
 /// The second rack, if there is one. The error is the exit status: 7 if the rack can't be used, or that of memory that ran out.
-fn second_rack(rt: &HostRuntime) -> Result<Option<KnownReels<FileTapes>>, u8>
+pub(crate) fn second_rack(rt: &HostRuntime) -> Result<Option<KnownReels<FileTapes>>, u8>
     ensures { IfErr result (λ code. (code ≡ 7) ⊎ IsExit IsOfLook code) }
 {
     match is_there(rt, SECOND) {
