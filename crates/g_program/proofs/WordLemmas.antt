@@ -22,17 +22,19 @@ two_words (word ∷ log ∷ next ∷ words) d e least most = absurd (omega arith
 pub is_one : (same : Bool) (words : List (Bor (List ℕ))) (d : Bor (List ℕ)) → 1 ≤ length words → length words < 2 → same ≡ bytes_eq (get_or words 0 d).now (codes "console") → same ≡ true → IsConsole words
 is_one same words d least most tested is = inl (one_word words d least most ∙ ap (λ (w : List ℕ). w ∷ []) ((bytes_eq-Decides (get_or words 0 d).now (codes "console")).0 (sym tested ∙ is)))
 
-pub is_two : (same : Bool) (words : List (Bor (List ℕ))) (d e : Bor (List ℕ)) → 2 ≤ length words → length words < 3 → same ≡ bytes_eq (get_or words 0 d).now (codes "console") → same ≡ true → IsConsole words
-is_two same words d e least most tested is =
-    inr ((get_or words 1 e).now, two_words words d e least most ∙ ap (λ (w : List ℕ). w ∷ (get_or words 1 e).now ∷ []) ((bytes_eq-Decides (get_or words 0 d).now (codes "console")).0 (sym tested ∙ is)))
+pub is_two : (same : Bool) (words : List (Bor (List ℕ))) (d : Bor (List ℕ)) → 2 ≤ length words → length words < 3 → same ≡ bytes_eq (get_or words 0 d).now (codes "console") → same ≡ true → IsConsole words
+is_two same words d least most tested is =
+    inr ((get_or words 1 d).now, two_words words d d least most ∙ ap (λ (w : List ℕ). w ∷ (get_or words 1 d).now ∷ []) ((bytes_eq-Decides (get_or words 0 d).now (codes "console")).0 (sym tested ∙ is)))
 
 -- the words of a session aren't those of a run
-first_byte : List (List ℕ) → ℕ
+abbrev first_byte : List (List ℕ) → ℕ
 first_byte ((byte ∷ bytes) ∷ words) = byte
 first_byte words = 0
 
 no_run : (words others : List (List ℕ)) → words ≡ codes "console" ∷ others → words ≡ codes "run" ∷ [] → ⊥
-no_run words others is run = let same : 99 ≡ 114 = ap first_byte (sym is ∙ run) in omega (arith, same)
+no_run words others is run =
+    let both : codes "console" ∷ others ≡ codes "run" ∷ [] = sym is ∙ run in
+    let same : ◌≡◌ {A = ℕ} 99 114 = ap first_byte both in omega (arith, same)
 
 pub not_run : (words : List (Bor (List ℕ))) → IsConsole words → IsRun words → ⊥
 not_run words (inl is) run = no_run (texts_of words) [] is run
