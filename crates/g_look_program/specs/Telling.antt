@@ -160,13 +160,6 @@ EndsTwins so_far text ended w =
     ((text ≡ []) × EndsQuietly so_far ended w)
     ⊎ (((text ≢ []) × Puts status.No text ended w) ⊎ (Puts status.Unread (codes "TAPE READ\n") ended w ⊎ EndsQuietly status.NoMemory ended w))
 
--- THE END OF A CHECK of two racks that expose their blocks, after a check of the first that ended with the status `so_far`. If no reel differs,
--- nothing is printed; otherwise the lines of those that do. Or a reel couldn't be read, or memory ran out.
-abbrev pub EndsTwins : Status → List ℕ → Status → Written → Type 0
-EndsTwins so_far text ended w =
-    ((text ≡ []) × EndsQuietly so_far ended w)
-    ⊎ (((text ≢ []) × Puts status.No text ended w) ⊎ (Puts status.Unread (codes "TAPE READ\n") ended w ⊎ EndsQuietly status.NoMemory ended w))
-
 -- THE END OF A LOOK AT THE DUMPS, if the reels expose their blocks.
 abbrev pub EndsDumps : Status → (ℕ → List Dump) → List Reel → Written → Type 0
 EndsDumps status.Done shelf reels w = IsWhole (text_of (rack_lines shelf reels)) w

@@ -39,9 +39,6 @@ pub(crate) const RACK: &str = "george.tapes";
 /// The folder of the twins of these reels, if there are any.
 const SECOND: &str = "george.tapes2";
 
-/// The folder of the twins of these reels, if there are any.
-const SECOND: &str = "george.tapes2";
-
 /// Prints what the words request, and returns the exit status. The words are checked before any file is opened.
 pub fn answer(rt: &HostRuntime, words: &[&str]) -> u8
     ensures { (AskNothing (texts_of words.now) × IsExit IsOfWords result) ⊎ (result ≡ 7) ⊎ IsExit IsOfLook result }
