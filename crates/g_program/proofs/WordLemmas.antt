@@ -1,5 +1,5 @@
 -- The words of a session and of a check.
--- serves: answer (check, console, known), check_words, console_words
+-- serves: answer (check, known), check_or_run (known), check_words, console_words
 use Rattle.std.proofs.Common.{Bool, List, [], ap, arith, codes, get_or, length, refl, sym, true, ℕ, ◌<◌, ◌∙◌, ◌∷◌, ◌≡◌, ◌≤◌, inl, inr}
 use Rattle.std.specs.Borrow.{Bor}
 use Rattle.std.specs.Str.{bytes_eq}
