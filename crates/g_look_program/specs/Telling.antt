@@ -160,6 +160,18 @@ EndsTwins so_far text ended w =
     ((text ≡ []) × EndsQuietly so_far ended w)
     ⊎ (((text ≢ []) × Puts status.No text ended w) ⊎ (Puts status.Unread (codes "TAPE READ\n") ended w ⊎ EndsQuietly status.NoMemory ended w))
 
+-- The status is that of a check that ended.
+abbrev pub IsToldOf : Status → Type 0
+IsToldOf status.Done = Unit {0}
+IsToldOf status.No = Unit {0}
+IsToldOf status.Nothing = Unit {0}
+IsToldOf ended = ⊥
+
+-- THE END OF A CHECK AGAINST A SEAL in a second rack that exposes its blocks, after one of the first that ended with the status `so_far`. After a
+-- failure nothing is printed.
+abbrev pub EndsRottenTwins : Status → List ℕ → Status → Written → Type 0
+EndsRottenTwins so_far text ended w = (IsToldOf so_far × EndsTwins so_far text ended w) ⊎ ((IsToldOf so_far → ⊥) × EndsQuietly so_far ended w)
+
 -- THE END OF A LOOK AT THE DUMPS, if the reels expose their blocks.
 abbrev pub EndsDumps : Status → (ℕ → List Dump) → List Reel → Written → Type 0
 EndsDumps status.Done shelf reels w = IsWhole (text_of (rack_lines shelf reels)) w

@@ -6,9 +6,10 @@ ghost use Rattle.g_look_program.specs.Exit.{IsExit, IsOfLook};
 ghost use Rattle.g_look_program.specs.Telling as told;
 
 use crate::Status;
-use crate::answer::{IMAGE, NO_IMAGE, RACK};
+use crate::answer::{IMAGE, NO_IMAGE, RACK, second_rack};
 use crate::mount::mount_all;
 use crate::tell::{put, tell_check, tell_refused, tell_report};
+use crate::twins::{tell_rotten_twins, tell_twins};
 use g_devices::look_at;
 use g_disc::Disc;
 use g_io::Sink;
@@ -47,7 +48,7 @@ fn read_file(rt: &HostRuntime, path: &str) -> io::Result<Vec<u8>> {
     Ok(bytes)
 }
 
-/// Checks image and rack against a seal. Returns 7 if they can't be used.
+/// Checks image and rack against a seal, and then a second rack, if there is one. Returns 7 if they can't be used.
 fn against_files<K: Sink>(rt: &HostRuntime, seal: &Seal, out: &mut K) -> u8
     ensures { (result ≡ 7) ⊎ IsExit IsOfLook result }
 {
@@ -60,7 +61,21 @@ fn against_files<K: Sink>(rt: &HostRuntime, seal: &Seal, out: &mut K) -> u8
     if !mount_all(&mut tapes) {
         return NO_IMAGE;
     }
-    look_against(rt.alloc(), seal, out, &mut disc, &mut tapes).code()
+    let status = look_against(rt.alloc(), seal, out, &mut disc, &mut tapes);
+    match status {
+        Status::Done | Status::No | Status::Nothing => {}
+        _ => return status.code(),
+    }
+    let mut second = match second_rack(rt) {
+        Ok(Some(second)) => second,
+        Ok(None) => return status.code(),
+        Err(code) => return code,
+    };
+    if !mount_all(&mut second) {
+        return NO_IMAGE;
+    }
+    let status = tell_twins(rt.alloc(), out, &mut tapes, &mut second, status);
+    tell_rotten_twins(rt.alloc(), seal, out, &mut second, status).code()
 }
 
 /// Checks disc and rack, and reports which bytes have changed since this seal: the text of a check is printed, and the report after it. All reels have

@@ -83,7 +83,7 @@ fn on_files<K: Sink>(rt: &HostRuntime, asked: &Asked, out: &mut K) -> u8
 }
 
 /// The second rack, if there is one. The error is the exit status: 7 if the rack can't be used, or that of memory that ran out.
-fn second_rack(rt: &HostRuntime) -> Result<Option<KnownReels<FileTapes>>, u8>
+pub(crate) fn second_rack(rt: &HostRuntime) -> Result<Option<KnownReels<FileTapes>>, u8>
     ensures { IfErr result (λ code. (code ≡ 7) ⊎ IsExit IsOfLook code) }
 {
     match is_there(rt, SECOND) {

@@ -15,7 +15,7 @@ pub use answer::look;
 use g_devices::{placeholders, texts_of, words_of};
 pub use status::Status;
 use std::process::ExitCode;
-pub use twins::tell_twins;
+pub use twins::{tell_rotten_twins, tell_twins};
 pub use words::{Asked, asked_by};
 
 /// Prints what the words of the command line request of the image `george.disc` and the rack `george.tapes` in the working folder, on standard

@@ -1,7 +1,7 @@
 -- A store whose seal it is has nothing to report.
--- serves: rotten (unchanged)
+-- serves: rotten (unchanged), rotten_twins (unchanged)
 use Rattle.std.proofs.Common.{◌≡◌, ◌≢◌, ◌⊎◌, inl, inr, ℕ, ◌*◌, Bool, true, false, ◌&&◌, ◌||◌, List, [], ◌∷◌, ◌++◌, zero, suc, get_or, map, Option, Some, None, refl, sym, ◌∙◌, ap, subst, arith, All}
-use Rattle.std.specs.Prelude.{◌==◌, AllPairs, cond, not, option_map}
+use Rattle.std.specs.Prelude.{codes, ◌==◌, AllPairs, cond, not, option_map}
 use Rattle.std.specs.List.{flat_map, list_any}
 use Rattle.std.specs.Cmp.Lexicographic.{bytes_decides}
 use Rattle.std.proofs.lemmas.Bool.{and_from, cases_Bool, cond-false, cond-true, eq-eqb, ne_eqb}
@@ -29,7 +29,7 @@ use Rattle.g_seal.specs.declared.entries.SealedFile.{SealedFile}
 use Rattle.g_seal.specs.declared.versions.CopyState.{CopyState}
 use Rattle.g_seal.specs.declared.versions.CopyState.TheVariants as state
 use Rattle.g_seal.specs.declared.versions.FoundVersion.{FoundVersion}
-use Rattle.g_seal.specs.Rotten.{IsReport, IsSealing, disc_state, file_lines, found_version, has_copy, is_inside, is_left_out, is_other, is_rotten, is_same_place, is_sealed, reel_state, rotten_dump_line, rotten_dumps, rotten_file_line, rotten_files, rotten_if, sum_state, tape_state, version_lines, version_of}
+use Rattle.g_seal.specs.Rotten.{IsReport, IsSealing, disc_state, file_lines, found_version, has_copy, is_inside, is_left_out, is_other, is_rotten, is_same_place, is_sealed, reel_state, rotten_dump_line, rotten_dumps, rotten_file_line, rotten_files, rotten_if, sum_state, tape_state, twin_lines, version_lines, version_of}
 use Rattle.g_seal.specs.Sealing.{bytes_on, dump_place, sealed_dump, sealed_file, sealed_files, taped_bytes}
 
 same : (xs : List ℕ) → same_text xs xs ≡ true
@@ -151,6 +151,10 @@ own_report held reels dumps files text report sealing =
     let none : rotten_dumps reels dumps ≡ [] = ap (rotten_dumps reels) sealing.dumps_are ∙ own_dumps reels (all_dumps sealing.shelf reels) in
     let files_are : files ≡ sealed_files report.blocks reels sealing.found = sealing.files_are ∙ ap (λ (bs : List (List ℕ)). sealed_files bs reels sealing.found) same_blocks in
     report.text_is
-    ∙ ap (λ (ds : List SealedDump). text_of (map rotten_dump_line ds ++ rotten_files report.blocks reels ds report.found files)) none
+    ∙ ap (λ (ds : List SealedDump). text_of (map (rotten_dump_line []) ds ++ rotten_files report.blocks reels ds report.found files)) none
     ∙ ap (λ (fs : List SealedFile). text_of (rotten_files report.blocks reels [] report.found fs)) files_are
     ∙ ap text_of (own_held report.blocks reels report.found sealing.found report.found_is here)
+
+pub own_twins : (reels : List Reel) (sealed : List SealedDump) (dumps : List Dump) (text : List ℕ) → text ≡ text_of (twin_lines reels sealed) → sealed ≡ map (sealed_dump reels) dumps → text ≡ []
+own_twins reels sealed dumps text is are =
+    is ∙ ap (λ (ds : List SealedDump). text_of (map (rotten_dump_line (codes " IN THE SECOND RACK")) ds)) (ap (rotten_dumps reels) are ∙ own_dumps reels dumps)

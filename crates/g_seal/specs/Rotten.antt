@@ -117,9 +117,9 @@ abbrev pub tape_state : List Reel → List SealedDump → SealedFile → CopySta
 tape_state reels rotten s disc len None = Absent
 tape_state reels rotten s disc len (Some copy) = if is_left_out rotten s disc copy then Absent else reel_state reels copy len s.sum
 
--- THE LINE OF A ROTTEN DUMP.
-abbrev pub rotten_dump_line : SealedDump → List ℕ
-rotten_dump_line d = told (codes "ROTTEN DUMP ") d.number ++ told (codes " ON ") d.serial
+-- THE LINE OF A ROTTEN DUMP, with words after its reel that say in which rack it is.
+abbrev pub rotten_dump_line : List ℕ → SealedDump → List ℕ
+rotten_dump_line rack d = told (codes "ROTTEN DUMP ") d.number ++ told (codes " ON ") d.serial ++ rack
 
 -- The place on tape, if the copy there is one of those that are listed.
 abbrev pub tape_if : Bool → Option TapeCopy → List ℕ
@@ -170,7 +170,11 @@ rotten_files blocks reels rotten (Some (format, d)) files = flat_map (file_lines
 -- THE LINES OF A CHECK AGAINST A SEAL: those of rotten dumps, and those of rotten files, each in the order of the seal.
 abbrev pub rotten_lines : List (List ℕ) → List Reel → Option (Format × Directory) → List SealedDump → List SealedFile → List (List ℕ)
 rotten_lines blocks reels found dumps files =
-    map rotten_dump_line (rotten_dumps reels dumps) ++ rotten_files blocks reels (rotten_dumps reels dumps) found files
+    map (rotten_dump_line []) (rotten_dumps reels dumps) ++ rotten_files blocks reels (rotten_dumps reels dumps) found files
+
+-- THE LINES OF A SECOND RACK: those of the sealed dumps that are rotten on its reels.
+abbrev pub twin_lines : List Reel → List SealedDump → List (List ℕ)
+twin_lines reels dumps = map (rotten_dump_line (codes " IN THE SECOND RACK")) (rotten_dumps reels dumps)
 
 -- THE TEXT OF THESE LINES, for devices that expose their contents.
 pub record IsReport (held : Option (List (List ℕ))) (reels : List Reel) (dumps : List SealedDump) (files : List SealedFile) (text : List ℕ) : Type 0 where

@@ -22,5 +22,5 @@ mod versions;
 
 pub use entries::{SealedDump, SealedFile};
 pub use parse::{Seal, SealFault, parse_seal};
-pub use reporting::rotten;
+pub use reporting::{rotten, rotten_twins};
 pub use sealing::{Sealed, seal};

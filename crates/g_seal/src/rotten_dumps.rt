@@ -85,21 +85,26 @@ fn is_rotten<T: Tapes>(tapes: &mut T, dump: &SealedDump) -> Result<bool, LookFau
     }
 }
 
-/// Appends a line for each of these dumps to the text.
-pub(crate) fn push_rotten_dumps(text: &mut Text, dumps: &[SealedDump]) -> Result<(), NoMemory>
-    ensures { OnOk result (text.new ≡ text.old ++ text_of (map rotten_dump_line dumps.now)) }
+/// Appends a line for each of these dumps to the text, with the words for its rack.
+pub(crate) fn push_rotten_dumps(
+    text: &mut Text,
+    dumps: &[SealedDump],
+    rack: &[u8],
+) -> Result<(), NoMemory>
+    ensures { OnOk result (text.new ≡ text.old ++ text_of (map (rotten_dump_line rack.now) dumps.now)) }
 {
     for dump in dumps {
-        push_rotten_dump(text, dump)?;
+        push_rotten_dump(text, dump, rack)?;
     }
     Ok(())
 }
 
 /// Appends the line of a rotten dump to the text.
-fn push_rotten_dump(text: &mut Text, dump: &SealedDump) -> Result<(), NoMemory>
-    ensures { OnOk result (text.new ≡ text.old ++ ended (rotten_dump_line dump.now)) }
+fn push_rotten_dump(text: &mut Text, dump: &SealedDump, rack: &[u8]) -> Result<(), NoMemory>
+    ensures { OnOk result (text.new ≡ text.old ++ ended (rotten_dump_line rack.now dump.now)) }
 {
     push_told(text, b"ROTTEN DUMP ", dump.number)?;
     push_told(text, b" ON ", u64::from(dump.serial))?;
+    text.extend(rack)?;
     text.push(b'\n')
 }
