@@ -242,7 +242,7 @@ def run(hard, folder, lines, **settings):
     since the start of a process is faster so."""
     env = {"LD_PRELOAD": hard.RECORDER, **settings}
     ended = subprocess.run(["george", "run"], executable=hard.PROGRAM, cwd=folder.path, input=lines, capture_output=True, env=env)
-    return ended.returncode, ended.stdout, ended.stderr
+    return ended.returncode, ended.stdout, hard.NOTES.sub(b"", ended.stderr)
 
 
 def put_files(folder, files):

@@ -395,7 +395,7 @@ def tests(hard):
                 one = single.run(LONG_SCRIPT)
                 told = rebuilt((1, "second"), (2, "second")) + lost(1)
                 check("a full second device: the run", (content("status"), content("text")) == (b"0\n", one[1]), (content("status"), ran.stderr))
-                check("a full second device: what is told", content("told") == told, content("told"))
+                check("a full second device: what is told", hard.NOTES.sub(b"", content("told") or b"") == told, content("told"))
                 check("a full second device: the first reel", content(f"full/{RACK}/1.tape") == single.reels()[1])
                 check("with room again it is made again", content("retold") == rebuilt((1, "second")), content("retold"))
                 check("with room again both are equal", content("second/1.tape") == single.reels()[1])

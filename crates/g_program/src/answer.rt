@@ -4,11 +4,14 @@ ghost use Rattle.g_demo.specs.Words.{AskNothing, texts_of};
 ghost use Rattle.g_run.specs.Input.{IsRun};
 ghost use Rattle.g_run.specs.Top.{IsOfRun, IsOfWords, code_of};
 ghost use Rattle.g_session.specs.Session.{IsOfSession};
-ghost use Rattle.g_program.specs.Exit.{IsConsole, IsExit};
+ghost use Rattle.g_program.specs.Exit.{IsCheck, IsConsole, IsExit, IsOfCheck};
 
+use crate::checking::{check, check_words};
 use crate::console::{console, console_words};
+use crate::explain::tell_bad;
+use crate::noted::Noted;
 use crate::rules::run_by_rules;
-use crate::telling::{tell_lost, tell_rebuilt, tell_unusable};
+use crate::telling::{tell_lost, tell_missing, tell_rebuilt, tell_unusable, tell_usage};
 use g_base::NoMemory;
 use g_demo::{Asked, asked_by};
 use g_devices::{
@@ -40,18 +43,47 @@ const LEAST_BLOCKS: u32 = 2_178;
 
 /// Does what the words request, and returns the exit status. It reads the words before it opens or creates anything.
 pub(crate) fn answer(rt: &HostRuntime, words: &[&str]) -> u8
-    ensures unknown { (IsConsole words.now → ⊥) → AskNothing (texts_of words.now) → IsExit IsOfWords result }
+    ensures unknown { (IsConsole words.now → ⊥) → (IsCheck words.now → ⊥) → AskNothing (texts_of words.now) → IsExit IsOfWords result }
     ensures known { IsRun words.now → (result ≡ 7) ⊎ IsExit IsOfRun result }
     ensures console { IsConsole words.now → (result ≡ 7) ⊎ IsExit IsOfSession result }
+    ensures check { IsCheck words.now → IsExit IsOfCheck result }
 {
-    if let Some(log) = console_words(words) {
-        return console(rt, log);
+    match console_words(words) {
+        Some(log) => console(rt, log),
+        None => check_or_run(rt, words),
     }
+}
+
+/// Does what the words request, if that is no session.
+fn check_or_run(rt: &HostRuntime, words: &[&str]) -> u8
+    ensures unknown { (IsCheck words.now → ⊥) → AskNothing (texts_of words.now) → IsExit IsOfWords result }
+    ensures known { IsRun words.now → (result ≡ 7) ⊎ IsExit IsOfRun result }
+    ensures check { IsCheck words.now → IsExit IsOfCheck result }
+{
+    match check_words(words) {
+        Some(()) => check(rt),
+        None => run_or_demo(rt, words),
+    }
+}
+
+/// Does what the words request, if that is neither a session nor a check.
+fn run_or_demo(rt: &HostRuntime, words: &[&str]) -> u8
+    ensures unknown { AskNothing (texts_of words.now) → IsExit IsOfWords result }
+    ensures known { IsRun words.now → (result ≡ 7) ⊎ IsExit IsOfRun result }
+{
     match asked_by(words) {
         Some(Asked::Run) => on_files(rt, words),
         Some(Asked::Demo(_demo)) => without_files(rt, words),
-        None => without_files(rt, words),
+        None => unknown(rt, words),
     }
+}
+
+/// Explains how the program is used, if its words request nothing.
+fn unknown(rt: &HostRuntime, words: &[&str]) -> u8
+    ensures unknown { AskNothing (texts_of words.now) → IsExit IsOfWords result }
+{
+    tell_usage(rt);
+    without_files(rt, words)
 }
 
 /// Runs on image and rack. The exit status is 7 if they can't be used, which standard error explains, and 5 if memory runs out before the run.
@@ -73,6 +105,7 @@ fn on_files(rt: &HostRuntime, words: &[&str]) -> u8
 fn run_on_files(rt: &HostRuntime, words: &[&str]) -> Result<u8, PairFault>
     ensures known { IfOk result (λ code. IsRun words.now → IsExit IsOfRun code) }
 {
+    tell_missing(rt);
     let disc = open_image(rt, IMAGE)?;
     if is_there(rt, SECOND_RACK)? {
         let (pair, rebuilt) = open_duplex(rt, RACK, SECOND_RACK)?;
@@ -138,7 +171,9 @@ fn run<D: Disc, T: Tapes>(rt: &HostRuntime, words: &[&str], disc: D, tapes: T) -
     ensures unknown { AskNothing (texts_of words.now) → IsOfWords result.status }
     ensures known { IsRun words.now → IsOfRun result.status }
 {
-    let mut script = StdSource::new(HostInput::new(rt.reader()));
+    let mut script = Noted::new(rt.alloc(), StdSource::new(HostInput::new(rt.reader())));
     let mut out = StdSink::new(HostOutput::new(io::writer(rt)));
-    run_by_rules(rt.alloc(), words, &mut script, &mut out, disc, tapes)
+    let finish = run_by_rules(rt.alloc(), words, &mut script, &mut out, disc, tapes);
+    tell_bad(rt, finish.status, script.text());
+    finish
 }

@@ -4,8 +4,9 @@ ghost use Rattle.g_session.specs.Session.{IsOfSession};
 ghost use Rattle.g_program.specs.Exit.{IsConsole, IsExit};
 
 use crate::answer::{IMAGE, NO_IMAGE, RACK, SECOND_RACK, closed, closed_pair};
+use crate::explained::Explained;
 use crate::rules::session_by_rules;
-use crate::telling::{tell_no_log, tell_rebuilt, tell_unusable};
+use crate::telling::{tell_missing, tell_no_log, tell_rebuilt, tell_unusable};
 use g_base::WriteFailed;
 use g_devices::{
     HostOutput, PairFault, StdConsole, are_terminals, is_there, open_duplex, open_image, open_rack,
@@ -65,6 +66,7 @@ pub(crate) fn console(rt: &HostRuntime, log: Option<&str>) -> u8
 fn on_files(rt: &HostRuntime, log: Option<&str>) -> Result<u8, PairFault>
     ensures { IfOk result (λ code. (code ≡ 7) ⊎ IsExit IsOfSession code) }
 {
+    tell_missing(rt);
     let disc = open_image(rt, IMAGE)?;
     if is_there(rt, SECOND_RACK)? {
         let (pair, rebuilt) = open_duplex(rt, RACK, SECOND_RACK)?;
@@ -108,7 +110,10 @@ fn session<D: Disc, T: Tapes>(
     requires { (2177 < (D.state disc).size) × ((D.state disc).size ≤ 1048576) }
     ensures { IsOfSession result.status }
 {
-    let mut console = StdConsole::new(rt.reader(), io::writer(rt), are_terminals(rt));
+    let mut console = Explained::new(
+        rt,
+        StdConsole::new(rt.reader(), io::writer(rt), are_terminals(rt)),
+    );
     match log {
         None => {
             let mut log = NoLog {};

@@ -3,7 +3,11 @@
 #![tactic(auto)]
 
 mod answer;
+mod checking;
 mod console;
+mod explain;
+mod explained;
+mod noted;
 mod rules;
 mod telling;
 

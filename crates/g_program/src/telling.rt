@@ -1,10 +1,40 @@
 //! Messages on standard error, about the reels of two racks and about an image or a rack that can't be used: standard output has only
 //! the text of a run. A message that can't be printed is dropped.
 
-use crate::answer::{RACK, SECOND_RACK};
-use g_devices::PairFault;
+use crate::answer::{IMAGE, RACK, SECOND_RACK};
+use g_devices::{PairFault, is_there};
 use g_duplex::Twin;
 use std::io::ErrorKind;
+
+/// How the program is used.
+const USAGE: [&str; 6] = [
+    "usage: george console [LOG]    answer what is typed, line by line; write it to the new file LOG as a script",
+    "       george run < SCRIPT     run a script, in which each line has a time",
+    "       george check < SCRIPT   say what is wrong with a script, and run nothing",
+    "       george demo NUMBER N    run a generated script in memory, and print a summary",
+    "console and run use george.disc and george.tapes in this folder, and make them if they are missing.",
+    "To begin, type FORMAT, then JOB ONE,:MASTER,TIME 10 and a document up to a line ****. See docs/MANUAL.md.",
+];
+
+/// Prints how the program is used.
+pub(crate) fn tell_usage(rt: &HostRuntime) {
+    for line in USAGE {
+        let _told = eprintln!(rt; "{line}");
+    }
+}
+
+/// Reports which of image and rack are missing, before they are made. A missing rack of an image that is there may have been moved away.
+pub(crate) fn tell_missing(rt: &HostRuntime) {
+    let note = match (is_there(rt, IMAGE), is_there(rt, RACK)) {
+        (Ok(false), Ok(false)) => "no george.disc and no george.tapes here; making new ones",
+        (Ok(false), Ok(true)) => "no george.disc here; making a new one",
+        (Ok(true), Ok(false)) => {
+            "george.disc is here, but no george.tapes; making a new one. If the rack was moved away, its dumps are missing"
+        }
+        _ => return,
+    };
+    let _told = eprintln!(rt; "george: {note}");
+}
 
 /// Reports which reels were rebuilt from the other rack's before the run.
 pub(crate) fn tell_rebuilt(rt: &HostRuntime, rebuilt: &[(u32, Twin)]) {

@@ -6,7 +6,7 @@ use Rattle.g_lines.specs.Documents.{IsOneLine}
 use Rattle.g_lines.specs.Lines.{lines_of, text_of}
 use Rattle.g_script.specs.Script.{IsItem, Job, WrittenItem, head_line, item_lines, timed_said, written_text}
 use Rattle.g_script.specs.declared.operator.Timed.{Timed}
-use Rattle.g_typing.specs.Typed.{AtOnce, AtTime, BeginsDocument, CanFollow, IsTyped, IsUnfinished, When, first_of}
+use Rattle.g_typing.specs.Typed.{AtOnce, AtTime, BeginsDocument, CanFollow, IsShort, IsTyped, IsUnfinished, When, first_of, type_text}
 use Rattle.g_typing.specs.declared.item.ItemReader.{ItemReader}
 use Rattle.g_typing.specs.declared.item.Place.{Place}
 use Rattle.g_typing.specs.declared.item.Place.TheVariants as place
@@ -33,10 +33,20 @@ IsTime t rest line = (t ≤ 1000000000) × (line ≡ decimal t ++ (32 ∷ rest))
 abbrev pub JobText : List ℕ → Type 0
 JobText asked = (rest : List ℕ) × (asked ≡ codes "JOB " ++ rest)
 
+-- what a line without a time asks for: the operator line that it is, or the one that it is short for
+abbrev pub AsksOnly : List ℕ → List ℕ → Type 0
+AsksOnly line asked = (((digit : ℕ) (text : List ℕ) → IsShort digit text line → ⊥) × (asked ≡ line))
+    ⊎ ((digit : ℕ) × (text : List ℕ) × IsShort digit text line × (asked ≡ type_text digit text))
+
+-- the operator line with this text, which follows TYPE and a terminal if the line is short
+abbrev pub asked_by : Option ℕ → List ℕ → List ℕ
+asked_by None text = text
+asked_by (Some digit) text = type_text digit text
+
 -- WHEN A FIRST LINE IS DUE, and what it asks for
 abbrev pub IsHead : ℕ → List ℕ → Bool → ℕ → List ℕ → Type 0
 IsHead count line true turn asked = (t : ℕ) × IsTime t asked line × (turn ≡ max t count)
-IsHead count line false turn asked = HasNoTime line × (asked ≡ line) × (turn ≡ count)
+IsHead count line false turn asked = HasNoTime line × AsksOnly line asked × (turn ≡ count)
 
 -- a JOB whose document is being typed: the lines so far, and their text as a script has it
 pub record IsInDocument (count : ℕ) (lines : List (List ℕ)) (timed : Bool) (text : List ℕ) : Type 0 where

@@ -10,9 +10,20 @@ pub data When : Type 0 where
   AtOnce : When
   AtTime : When
 
--- its first line, as a script has it except for the time; a time in the past means now
+-- a line typed at a terminal, in short: `T1 LISTDIR` for `TYPE 1,LISTDIR`, and `T1` for `TYPE 1,`; terminals have the digits from 1 to 8
+abbrev pub IsShort : ℕ → List ℕ → List ℕ → Type 0
+IsShort digit text line = ((49 ≤ digit) × (digit ≤ 56)) × (((text ≡ []) × (line ≡ 84 ∷ digit ∷ [])) ⊎ (line ≡ 84 ∷ digit ∷ 32 ∷ text))
+
+abbrev pub type_text : ℕ → List ℕ → List ℕ
+type_text digit text = codes "TYPE " ++ digit ∷ 44 ∷ text
+
+-- a line without a time asks for an operator line: it is that line, or short for it
+abbrev pub AsksFor : List ℕ → List ℕ → Type 0
+AsksFor line asked = (line ≡ asked) ⊎ ((digit : ℕ) × (text : List ℕ) × IsShort digit text line × (asked ≡ type_text digit text))
+
+-- its first line, as a script has it except for the time, or in short; a time in the past means now
 abbrev pub IsTypedHead : ℕ → WrittenItem → When → List ℕ → Type 0
-IsTypedHead count item AtOnce first = (first ≡ written_text item.what) × (item.turn ≡ count)
+IsTypedHead count item AtOnce first = AsksFor first (written_text item.what) × (item.turn ≡ count)
 IsTypedHead count item AtTime first = (t : ℕ) × (t ≤ 1000000000) × (first ≡ decimal t ++ (32 ∷ written_text item.what)) × (item.turn ≡ max t count)
 
 -- AN ITEM IS TYPED in these lines

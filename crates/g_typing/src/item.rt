@@ -1,10 +1,11 @@
 //! The item that is being typed: its lines as those of a script, with the turn at which it is taken.
-ghost use Rattle.std.specs.Prelude.{◌≡◌, ◌+◌, ◌<◌, ◌≤◌, ◌↔◌, [], ◌∷◌, ◌++◌, ℕ, List, IfOk, IsTrue, MatchOption, codes, if◌then◌else◌, length};
+ghost use Rattle.std.specs.Prelude.{◌≡◌, ◌+◌, ◌<◌, ◌≤◌, ◌↔◌, [], ◌∷◌, ◌++◌, ℕ, List, IfOk, IsTrue, MatchOption, OnOk, codes, if◌then◌else◌, length};
 ghost use Rattle.std.specs.Fmt.{decimal};
 ghost use Rattle.g_lines.specs.Documents.{IsOneLine};
 ghost use Rattle.g_lines.specs.Lines.{ended, lines_of};
 ghost use Rattle.g_script.specs.Script.{IsPrinted};
-ghost use Rattle.g_typing.specs.Reader.{HasNoTime, Holds, IsBegun, IsClosed, IsHead, IsInDocument, IsOneItem, IsOneOrNot, IsTime, JobText, Replies};
+ghost use Rattle.g_typing.specs.Reader.{HasNoTime, Holds, IsBegun, IsClosed, IsHead, IsInDocument, IsOneItem, IsOneOrNot, IsTime, JobText, Replies, asked_by};
+ghost use Rattle.g_typing.specs.Typed.{IsShort};
 
 use g_base::NoMemory;
 use g_lines::{number, push_decimal, split_at_byte};
@@ -113,10 +114,10 @@ impl ItemReader {
         if line.is_empty() {
             return Ok(Reply::Rest);
         }
-        let (timed, turn, asked) = head_of(count, line);
-        self.timed = timed;
-        self.text = script_line(alloc, turn, asked)?;
-        let is_job = begins_job(asked);
+        let head = head_of(count, line);
+        self.timed = head.timed;
+        self.text = script_line(alloc, &head)?;
+        let is_job = begins_job(&head);
         if line.len() > MOST_LINE {
             return Ok(self.refuse(is_job));
         }
@@ -124,7 +125,7 @@ impl ItemReader {
             return self.begin_document(alloc, number);
         }
         match one_item(alloc, self.text.as_slice())? {
-            Some(next) => Ok(Reply::Item(next, timed)),
+            Some(next) => Ok(Reply::Item(next, head.timed)),
             None => Ok(Reply::Refused),
         }
     }
@@ -189,26 +190,82 @@ impl ItemReader {
     }
 }
 
-/// Whether what a line asks for begins as a JOB does.
-fn begins_job(asked: &[u8]) -> bool
-    ensures { IsTrue result ↔ JobText asked.now }
-{
-    asked.starts_with(b"JOB ")
+/// What a first line asks for, and when.
+#[derive(Clone, Copy)]
+struct Head<'a> {
+    /// It has a time of its own.
+    timed: bool,
+    turn: u64,
+    /// The digit of a terminal, if the line is short for a TYPE line.
+    digit: Option<u8>,
+    /// The operator line, or the text that the TYPE line has after its comma.
+    text: &'a [u8],
 }
 
-/// When a first line is due, and what it asks for: whether it has a time of its own, its turn at this count, and the rest of it. A time in the past means now.
-fn head_of(count: u64, line: &[u8]) -> (bool, u64, &[u8])
-    ensures { IsHead count line.now result.0 result.1 result.2.now }
+/// Whether what a line asks for begins as a JOB does.
+fn begins_job(head: &Head<'_>) -> bool
+    ensures { IsTrue result ↔ JobText (asked_by head.now.digit head.now.text.now) }
+{
+    match head.digit {
+        Some(_digit) => false,
+        None => head.text.starts_with(b"JOB "),
+    }
+}
+
+/// When a first line is due, at this count, and what it asks for. A time in the past means now.
+fn head_of(count: u64, line: &[u8]) -> Head<'_>
+    ensures { IsHead count line.now result.timed result.turn (asked_by result.digit result.text.now) }
 {
     match time_of(line) {
-        Some((time, asked)) => (true, time.max(count), asked),
-        None => (false, count, line),
+        Some((time, text)) => Head {
+            timed: true,
+            turn: time.max(count),
+            digit: None,
+            text,
+        },
+        None => match short_of(line) {
+            Some((digit, text)) => Head {
+                timed: false,
+                turn: count,
+                digit: Some(digit),
+                text,
+            },
+            None => Head {
+                timed: false,
+                turn: count,
+                digit: None,
+                text: line,
+            },
+        },
+    }
+}
+
+/// The digit of a terminal and the text typed there, if a line is short for a TYPE line.
+fn short_of(line: &[u8]) -> Option<(u8, &[u8])>
+    ensures { MatchOption result ((digit : ℕ) (text : List ℕ) → IsShort digit text line.now → ⊥) (λ parts. IsShort parts.0 parts.1.now line.now) }
+{
+    match line {
+        [mark, digit] => if *mark == b'T' && b'1' <= *digit && *digit <= b'8' {
+            Some((*digit, &[]))
+        } else {
+            None
+        },
+        [mark, digit, space, text @ ..] => if *mark == b'T'
+            && b'1' <= *digit
+            && *digit <= b'8'
+            && *space == b' '
+        {
+            Some((*digit, text))
+        } else {
+            None
+        },
+        _ => None,
     }
 }
 
 /// The time before what a line asks for, if there is one.
 #[tactic(auto, using(crate::proofs::HeadLemmas::no_space, crate::proofs::HeadLemmas::no_number, crate::proofs::HeadLemmas::time_is))]
-fn time_of(line: &[u8]) -> Option<(u64, &[u8])>
+pub fn time_of(line: &[u8]) -> Option<(u64, &[u8])>
     ensures { MatchOption result (HasNoTime line.now) (λ parts. IsTime parts.0 parts.1.now line.now) }
 {
     match split_at_byte(line, b' ') {
@@ -221,15 +278,28 @@ fn time_of(line: &[u8]) -> Option<(u64, &[u8])>
 }
 
 /// The line of a script with its byte 10.
-fn script_line(alloc: Global, turn: u64, asked: &[u8]) -> Result<Text, NoMemory>
-    ensures { IfOk result (λ text. text ≡ ended (decimal turn ++ (32 ∷ asked.now))) }
+fn script_line(alloc: Global, head: &Head<'_>) -> Result<Text, NoMemory>
+    ensures { IfOk result (λ text. text ≡ ended (decimal head.now.turn ++ (32 ∷ asked_by head.now.digit head.now.text.now))) }
 {
     let mut text = Text::new(alloc);
-    push_decimal(&mut text, turn)?;
+    push_decimal(&mut text, head.turn)?;
     text.push(b' ')?;
-    text.extend(asked)?;
+    push_asked(&mut text, head)?;
     text.push(b'\n')?;
     Ok(text)
+}
+
+/// Appends what a line asks for.
+fn push_asked(text: &mut Text, head: &Head<'_>) -> Result<(), NoMemory>
+    ensures { OnOk result (text.new ≡ text.old ++ asked_by head.now.digit head.now.text.now) }
+{
+    if let Some(digit) = head.digit {
+        text.extend(b"TYPE ")?;
+        text.push(digit)?;
+        text.push(b',')?;
+        return text.extend(head.text);
+    }
+    text.extend(head.text)
 }
 
 /// Whether a line, with its byte 10, and a line that ends a document are a JOB.

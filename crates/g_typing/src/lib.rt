@@ -3,4 +3,4 @@
 
 mod item;
 
-pub use item::{ItemReader, Place, Reply};
+pub use item::{ItemReader, Place, Reply, time_of};

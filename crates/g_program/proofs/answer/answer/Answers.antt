@@ -1,11 +1,15 @@
-use Rattle.g_demo.specs.declared.words.Asked.TheVariants.{Run}
-use Rattle.g_program.proofs.WordLemmas.{not_run}
+use Rattle.g_program.proofs.WordLemmas.{not_check, not_run}
 use Rattle.g_program.proofs.answer.answer.Goals as goal
 
--- words that ask for nothing aren't the word `run`
-pub returns-in-None-clause-known : goal.returns-in-None-clause-known
-returns-in-None-clause-known c = λ is. let no : ⊥ = c.in-None.ensures Run tt is in absurd no
+-- the words of a session are neither a run's nor a check's
+pub returns-in-Some-clause-unknown : goal.returns-in-Some-clause-unknown
+returns-in-Some-clause-unknown c = λ isnt no_check asks. absurd (isnt c.in-Some.ensures)
 
--- nor do the words of a session
 pub returns-in-Some-clause-known : goal.returns-in-Some-clause-known
 returns-in-Some-clause-known c = λ is. absurd (not_run c.args.words.now c.in-Some.ensures is)
+
+pub returns-in-Some-clause-check : goal.returns-in-Some-clause-check
+returns-in-Some-clause-check c = λ is. absurd (not_check c.args.words.now c.in-Some.ensures is)
+
+pub returns-in-None-clause-console : goal.returns-in-None-clause-console
+returns-in-None-clause-console c = λ is. absurd (c.in-None.ensures is)

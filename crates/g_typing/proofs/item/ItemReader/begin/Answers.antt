@@ -12,15 +12,15 @@ pub returns-then-line-gt-MOST_LINE : goal.returns-then-line-gt-MOST_LINE
 returns-then-line-gt-MOST_LINE c one =
     let some : c.args.line.now ≢ [] = λ none. false≢true (sym c.if-is_empty.false ∙ c.is_empty.ensures ∙ eq-eqb (length c.args.line.now) 0 (ap length none)) in
     refused_replies place.Start c.args.number c.args.count [] c.args.line.now c.refuse.result c.refuse.new.self c.refuse.ensures.reply refl
-    (too_long c.args.count c.args.line.now _ _ _ c.head_of-timed.ensures c.ranges.count.fits one c.refuse.new.self.place some c.if-line-gt-MOST_LINE.true
-    (skips_by c.head_of-timed.result.2.now c.begins_job-is_job.result c.refuse.new.self.place c.begins_job-is_job.ensures c.refuse.ensures.place))
+    (too_long c.args.count c.args.line.now _ _ _ c.head_of-head.ensures c.ranges.count.fits one c.refuse.new.self.place some c.if-line-gt-MOST_LINE.true
+    (skips_by _ c.begins_job-is_job.result c.refuse.new.self.place c.begins_job-is_job.ensures c.refuse.ensures.place))
 
 pub returns-then-is_job : goal.returns-then-is_job
 returns-then-is_job c one =
     let some : c.args.line.now ≢ [] = λ none. false≢true (sym c.if-is_empty.false ∙ c.is_empty.ensures ∙ eq-eqb (length c.args.line.now) 0 (ap length none)) in
     let short = c.if-line-gt-MOST_LINE.false in
-    let old : ItemReader = record { text = c.in_ok-self.field-0; place = c.args.self.now.place; timed = c.head_of-timed.result.0 } in
-    begun_replies c.args.count c.args.line.now _ _ _ c.head_of-timed.ensures c.ranges.count.fits one c.args.number old c.begin_document.new.self c.begin_document.result some (omega (arith, short))
+    let old : ItemReader = record { text = c.in_ok-self.field-0; place = c.args.self.now.place; timed = c.head_of-head.result.timed } in
+    begun_replies c.args.count c.args.line.now _ _ _ c.head_of-head.ensures c.ranges.count.fits one c.args.number old c.begin_document.new.self c.begin_document.result some (omega (arith, short))
     (c.begins_job-is_job.ensures.0 c.if-is_job.true) (c.in_ok-self.ensures ∙ sym (append-nil _)) refl c.begin_document.ensures
 
 pub returns-in-Some : goal.returns-in-Some
@@ -29,7 +29,7 @@ returns-in-Some c one =
     let short = c.if-line-gt-MOST_LINE.false in
     let item = subst (λ (o : Option Timed). IsOneItem (lines_of c.as_slice.result.now) o) c.in-Some.is c.in_ok-next.ensures in (
       refl,
-      one_line_done c.args.count c.args.line.now _ _ _ c.head_of-timed.ensures c.ranges.count.fits one _ c.in-Some.next (omega (arith, short)) text c.requires
+      one_line_done c.args.count c.args.line.now _ _ _ c.head_of-head.ensures c.ranges.count.fits one _ c.in-Some.next (omega (arith, short)) text c.requires
           (subst (λ (t : List ℕ). IsOneItem (lines_of t) (Some c.in-Some.next)) (c.as_slice.ensures ∙ text) item),
     )
 
@@ -39,7 +39,7 @@ returns-in-None c one =
     let text = c.in_ok-self.ensures ∙ sym (append-nil _) in
     let item = subst (λ (o : Option Timed). IsOneItem (lines_of c.as_slice.result.now) o) c.in-None.is c.in_ok-next.ensures in (
       refl,
-      one_line_refused c.args.count c.args.line.now _ _ _ c.head_of-timed.ensures c.ranges.count.fits one c.args.self.now.place some c.requires
+      one_line_refused c.args.count c.args.line.now _ _ _ c.head_of-head.ensures c.ranges.count.fits one c.args.self.now.place some c.requires
           (λ job. false≢true (sym c.if-is_job.false ∙ c.begins_job-is_job.ensures.1 job))
           (subst (λ (t : List ℕ). IsOneItem (lines_of t) None) (c.as_slice.ensures ∙ text) item),
     )
