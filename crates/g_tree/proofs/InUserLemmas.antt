@@ -1,5 +1,5 @@
 -- The names of one user's files are in the order of their full names.
--- serves: insert, listing, numbers
+-- serves: listing, SortedLemmas
 use Rattle.std.proofs.Common.{◌≡◌, ℕ, ◌==◌, ◌⊎◌, true, false, List, [], ◌∷◌, map, filter, length, refl, sym, ap, ◌∙◌, inl, inr}
 use Rattle.std.specs.Ordering.{nat_cmp, ordering_then}
 use Rattle.std.specs.declared.cmp.Ordering.{Ordering}

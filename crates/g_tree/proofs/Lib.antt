@@ -19,5 +19,6 @@ pub mod ResultLemmas
 pub mod RightLemmas
 pub mod RoomLemmas
 pub mod RuleLemmas
+mod SortedLemmas
 pub mod TrapLemmas
 pub mod UserLemmas

@@ -1,5 +1,5 @@
 -- Finite maps made of lists of entries: parts of lists, values that are changed, and the entries in order.
--- serves: find_user (there, value), rows_are_of_records, ChangeLemmas, EntryLemmas, FaultLemmas, LawLemmas, NamedLemmas, PlaceLemmas, PutLemmas, and 6 more
+-- serves: find_user (there, value), rows_are_of_records, ChangeLemmas, EntryLemmas, FaultLemmas, LawLemmas, NamedLemmas, PlaceLemmas, PutLemmas, and 7 more
 use Rattle.std.proofs.Common.{◌≡◌, ◌≢◌, ℕ, Bool, true, false, cond, List, [], ◌∷◌, ◌++◌, length, map, filter, max, Option, Some, None, refl, sym, ap, subst, ◌∙◌, is_some, arith, true≢false, inl, inr}
 use Rattle.std.specs.List.{AllPairs, All, Contains}
 use Rattle.std.specs.List.Sorted.{IsPermutation}

@@ -1,5 +1,5 @@
 -- What follows under a result.
--- serves: free_file (least, unused), is_allowed, is_ninth, listing
+-- serves: free_file (least, unused), is_allowed, is_ninth, listing, listing_of
 use Rattle.std.proofs.Common.{◌≡◌, ◌↔◌, Bool, true, false, Option, Some, None, IfSome, Result, Ok, Err, IfOk, refl, sym, true≢false}
 
 pub ok_then : {A E : Type 0} (r : Result A E) {P Q : A → Type 0} → ((x : A) → P x → Q x) → IfOk r P → IfOk r Q

@@ -1,5 +1,6 @@
 -- The names of one user's files, which are full names without the user; and files with the same full name.
-use Rattle.std.specs.Prelude.{Bool, ◌==◌, ◌&&◌, nat_eq}
+use Rattle.std.specs.Prelude.{ℕ, Bool, ◌==◌, ◌&&◌, List, filter, map, nat_eq}
+use Rattle.std.specs.FinMap.{entries, from_entries}
 use Rattle.std.specs.Ordering.{ordering_then, nat_cmp}
 use Rattle.std.specs.declared.cmp.Ordering.{Ordering}
 use Rattle.g_name.specs.Order.{text_cmp, same_text}
@@ -17,3 +18,7 @@ same_name a b = (a.owner == b.owner) && (same_text a.local b.local && (nat_eq a.
 -- The name of a file without its user.
 abbrev pub name_in : FileRec → LocalName
 name_in r = record { local = r.local; generation = r.generation; lang = r.lang }
+
+-- The numbers of an owner's files in the order of their names.
+abbrev pub numbers_by_name : ℕ → List FileRec → List ℕ
+numbers_by_name owner files = map (λ e. e.1) (entries (from_entries {R = name_cmp} (map (λ r. (name_in r, r.number)) (filter (λ r. r.owner == owner) files))))

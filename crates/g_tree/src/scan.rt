@@ -1,18 +1,14 @@
 //! Functions that scan the records of users and files.
-ghost use Rattle.std.specs.Prelude.{◌≡◌, ◌<◌, ◌==◌, ◌&&◌, map, filter, length, All, IfOk};
-ghost use Rattle.std.specs.FinMap as finmap;
+ghost use Rattle.std.specs.Prelude.{◌≡◌, ◌<◌, ◌&&◌, length, All};
 ghost use Rattle.g_plain.specs.PlainTree.{is_version_of};
 ghost use Rattle.g_tree.specs.Records.{full_of};
 ghost use Rattle.g_tree.specs.State.{without_file};
 ghost use Rattle.g_tree.specs.Answers.{newest_of};
-ghost use Rattle.g_tree.specs.Names.{name_in, same_name};
+ghost use Rattle.g_tree.specs.Names.{same_name};
 
-use crate::sorted::{Sorted, name_in};
-use g_base::NoMemory;
 use g_entry::{FileRec, UserRec};
 use g_name::Full;
 use g_table::FileTable;
-use std::alloc::Global;
 
 /// The full name of a file whose owner exists.
 pub fn full_of(users: &[UserRec], file: &FileRec) -> Full
@@ -57,20 +53,4 @@ pub(crate) fn newest_besides(users: &[UserRec], name: &Full, files: &FileTable, 
         }
     }
     newest
-}
-
-/// The numbers of an owner's files by name.
-pub(crate) fn sorted_of(alloc: Global, owner: u8, files: &FileTable) -> Result<Sorted, NoMemory>
-    ensures { IfOk result (λ sorted. sorted
-        ≡ finmap.from_entries (map (λ r. (name_in r, r.number))
-        (filter (λ r. r.owner == owner) files.now))) }
-{
-    let mut sorted = Sorted::new(alloc);
-    let mut left = files.iter();
-    while let Some(file) = left.next_back() {
-        if file.owner == owner {
-            sorted.insert(name_in(file), file.number)?;
-        }
-    }
-    Ok(sorted)
 }

@@ -1,16 +1,14 @@
 //! The numbers of one user's files in the order of their names.
-ghost use Rattle.std.specs.Prelude.{◌≡◌, OnOk, IfOk, map};
-ghost use Rattle.std.specs.FinMap as finmap;
-ghost use Rattle.std.specs.BTreeMap.{IsOrdered};
-ghost use Rattle.g_tree.specs.Names.{name_cmp, name_in};
+ghost use Rattle.std.specs.Prelude.{◌≡◌, ◌==◌, AllPairs, IfOk, filter, map};
+ghost use Rattle.g_entry.specs.Rules.{SameName};
+ghost use Rattle.g_tree.specs.Names.{name_in, numbers_by_name};
 
 use crate::NumberList;
 use g_base::NoMemory;
 use g_entry::FileRec;
 use g_name::{Lang, Local};
+use g_table::FileTable;
 use std::alloc::Global;
-use std::collections::BTreeMap;
-use std::marker::Model;
 
 /// A full name without the user. Names are ordered by local name, generation and language, which is the order of the
 /// full names of one user's files.
@@ -32,57 +30,45 @@ pub(crate) fn name_in(file: &FileRec) -> LocalName
     }
 }
 
-/// The numbers of one user's files, in the order of their names.
-#[derive(Drop)]
-pub(crate) struct Sorted {
-    numbers: BTreeMap<LocalName, u16>,
+/// The numbers of an owner's files in the order of their names, which are all different.
+pub(crate) fn listing_of(
+    alloc: Global,
+    owner: u8,
+    files: &FileTable,
+) -> Result<NumberList, NoMemory>
+    requires { AllPairs (λ r s. SameName r s → ⊥) files.now }
+    ensures { IfOk result (λ list. list ≡ numbers_by_name owner files.now) }
+{
+    let mut entries = entries_of(alloc, owner, files)?;
+    entries.sort_unstable();
+    numbers_of(alloc, &entries)
 }
 
-impl Model for Sorted {
-    ghost use Rattle.std.specs.Prelude.{ℕ};
-    ghost use Rattle.std.specs.FinMap.{FinMap, from_entries};
-    ghost use Rattle.g_tree.specs.Codes.{names_code};
-    ghost use Rattle.g_tree.specs.Names.{name_cmp};
-
-    ghost Value = { FinMap name_cmp ℕ };
-
-    ghost coded = { names_code };
-
-    ghost view = { λ s. from_entries s.numbers.entries };
-}
-
-impl Sorted {
-    /// The empty map. It allocates nothing.
-    pub fn new(alloc: Global) -> Sorted
-        ensures { result ≡ finmap.empty }
-    {
-        Sorted {
-            numbers: BTreeMap::new(alloc),
+/// The names of an owner's files, each with the file's number.
+fn entries_of(
+    alloc: Global,
+    owner: u8,
+    files: &FileTable,
+) -> Result<Vec<(LocalName, u16)>, NoMemory>
+    ensures { IfOk result (λ entries. entries.items
+        ≡ map (λ r. (name_in r, r.number)) (filter (λ r. r.owner == owner) files.now)) }
+{
+    let mut entries = Vec::new(alloc);
+    for file in files {
+        if file.owner == owner {
+            entries.push((name_in(file), file.number))?;
         }
     }
-
-    pub fn insert(&mut self, name: LocalName, number: u16) -> Result<(), NoMemory>
-        ensures { OnOk result (self.new ≡ finmap.insert self.old name number) }
-    {
-        self.numbers.insert(name, number)?;
-        Ok(())
-    }
-
-    /// The numbers in the order of their names.
-    pub fn numbers(&self, alloc: Global) -> Result<NumberList, NoMemory>
-        ensures { IfOk result (λ list. list ≡ map (λ e. e.1) (finmap.entries self.now)) }
-    {
-        numbers_in(alloc, &self.numbers)
-    }
+    Ok(entries)
 }
 
-fn numbers_in(alloc: Global, numbers: &BTreeMap<LocalName, u16>) -> Result<NumberList, NoMemory>
-    ensures list { IfOk result (λ list. list ≡ map (λ e. e.1) numbers.now.entries) }
-    ensures ordered { IsOrdered name_cmp numbers.now }
+/// The numbers of these entries.
+fn numbers_of(alloc: Global, entries: &[(LocalName, u16)]) -> Result<NumberList, NoMemory>
+    ensures { IfOk result (λ list. list ≡ map (λ e. e.1) entries.now) }
 {
     let mut list = NumberList::new(alloc);
-    for (_name, number) in numbers {
-        list.push(*number)?;
+    for entry in entries {
+        list.push(entry.1)?;
     }
     Ok(list)
 }

@@ -12,7 +12,7 @@ mod rights;
 
 use crate::counts::{Counts, versions_of};
 use crate::index::Newest;
-use crate::scan::sorted_of;
+use crate::sorted::listing_of;
 use crate::{NumberList, Output};
 use g_base::NoMemory;
 use g_entry::{BoxedRec, FileRec, UserRec};
@@ -199,8 +199,7 @@ impl Tree {
         ensures { IfOk result (λ list. ForTree self.now.users self.now.files
             (λ t. list ≡ listed self.now.users self.now.files (name_of self.now.users owner) t)) }
     {
-        let sorted = sorted_of(alloc, owner, &self.files)?;
-        sorted.numbers(alloc)
+        listing_of(alloc, owner, &self.files)
     }
 
     /// The user whom a path names, or the owner of this number. `None` if the path names no user and no user has this
