@@ -1,3 +1,4 @@
+pub mod DurableLemmas
 pub mod FuseLemmas
 pub mod MemoryLemmas
 pub mod PlaceLemmas

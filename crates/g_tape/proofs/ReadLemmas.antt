@@ -12,7 +12,8 @@ use Rattle.g_tape.specs.declared.fault.TapeFault.{TapeFault}
 use Rattle.g_tape.specs.declared.fault.TapeFault.TheVariants.{NoTape, NotMounted, End, ReadFailed, WriteFailed}
 use Rattle.g_tape.specs.Reel.{Reel, IsReel, read_at}
 use Rattle.g_tape.specs.Rack.{Rack, AreReels, reel, with_reel, changed, refuses_read, Reading, Securing, SecuringAll}
-use Rattle.g_tape.specs.Reads.{unread, blocks_in, times_in, count_at, blocks_of, OnlyReads, HasRead}
+use Rattle.g_tape.specs.Reads.{unread, blocks_in, times_in, count_at, blocks_of, LeavesNoMore, OnlyReads, HasRead}
+use Rattle.g_tape.specs.Risk.{Leaves, Risk, risk, syncs}
 use Rattle.g_tape.specs.Laws.{ReadsOnlyRead}
 use Rattle.g_tape.proofs.PlaceLemmas.{reel-found}
 
@@ -81,16 +82,39 @@ reel-unread s (r ∷ rs) =
     ]
 
 -- After reads each reel is unchanged, apart from its read counts.
+same_unread : (s : ℕ) (rs qs : List Reel) → map unread rs ≡ map unread qs → option_map unread (reel s rs) ≡ option_map unread (reel s qs)
+same_unread s rs qs same = sym (reel-unread s rs) ∙ ap (reel s) same ∙ reel-unread s qs
+
 pub reel_after_reads : (s : ℕ) (old new : Rack) → OnlyReads old new → option_map unread (reel s new.reels) ≡ option_map unread (reel s old.reels)
-reel_after_reads s old new only = sym (reel-unread s new.reels) ∙ ap (reel s) only.reels ∙ reel-unread s old.reels
+reel_after_reads s old new only = same_unread s new.reels old.reels only.reels
 
 blocks-unread : (o : Option Reel) → blocks_in (option_map unread o) ≡ blocks_in o
 blocks-unread None = refl
 blocks-unread (Some r) = refl
 
+same_blocks : (s : ℕ) (rs qs : List Reel) → map unread rs ≡ map unread qs → blocks_in (reel s rs) ≡ blocks_in (reel s qs)
+same_blocks s rs qs same = sym (blocks-unread (reel s rs)) ∙ ap blocks_in (same_unread s rs qs same) ∙ blocks-unread (reel s qs)
+
 pub blocks_after_reads : (s : ℕ) (old new : Rack) → OnlyReads old new → blocks_of s new ≡ blocks_of s old
-blocks_after_reads s old new only =
-    sym (blocks-unread (reel s new.reels)) ∙ ap blocks_in (reel_after_reads s old new only) ∙ blocks-unread (reel s old.reels)
+blocks_after_reads s old new only = same_blocks s new.reels old.reels only.reels
+
+-- WHAT A POWER LOSS MAY LEAVE, if nothing was written
+pub same_risks : (old new : Rack) → map unread new.reels ≡ map unread old.reels → new.risks ≡ old.risks → LeavesNoMore old new
+same_risks old new reels risks = record {
+  leaves = λ s left may.
+      subst (λ (rs : List Risk). ForSome (blocks_of s old) (λ blocks. Leaves (risk s rs) blocks left)) risks
+      (subst (λ (o : Option (List (List ℕ))). ForSome o (λ blocks. Leaves (risk s new.risks) blocks left)) (same_blocks s new.reels old.reels reels) may);
+  syncable = λ s is. ap (λ (rs : List Risk). syncs (risk s rs)) risks ∙ is;
+}
+
+pub no_more : (rack : Rack) → LeavesNoMore rack rack
+no_more rack = record { leaves = λ s left may. may; syncable = λ s is. is }
+
+pub still_no_more : (first middle last : Rack) → LeavesNoMore first middle → LeavesNoMore middle last → LeavesNoMore first last
+still_no_more first middle last one two = record {
+  leaves = λ s left may. one.leaves s left (two.leaves s left may);
+  syncable = λ s is. two.syncable s (one.syncable s is);
+}
 
 -- one more at k lowers no count
 count-more : (k j : ℕ) (o : Option (List ℕ)) → count_at j o ≤ count_at j (option_map (λ ts. set ts k (one_more (get_or ts k 0))) o)
@@ -126,7 +150,7 @@ times-with_reel s k t j rs =
 
 -- no read
 pub nothing_read : (rack : Rack) → OnlyReads rack rack
-nothing_read rack = record { reels = refl; write_faults = refl; fuse = refl; arms = refl; read_faults = omega arith; times = λ s k. omega arith }
+nothing_read rack = record { reels = refl; write_faults = refl; fuse = refl; arms = refl; read_faults = omega arith; times = λ s k. omega arith; durable = no_more rack }
 
 nothing_else : (old new : Rack) → new ≡ old → OnlyReads old new
 nothing_else old new same = subst (OnlyReads old) (sym same) (nothing_read old)
@@ -140,14 +164,27 @@ more_reads first middle last one two = record {
   arms = two.arms ∙ one.arms;
   read_faults = omega (arith, one.read_faults, two.read_faults);
   times = λ s k. omega (arith, one.times s k, two.times s k);
+  durable = still_no_more first middle last one.durable two.durable;
 }
 
--- a device that failed to read or to make a reel durable
+-- reels that weren't changed, after reads that may have failed
+unchanged_reels : (old new : Rack) → old.read_faults ≤ new.read_faults → new ≡ record old { read_faults = new.read_faults; risks = new.risks } → LeavesNoMore old new → OnlyReads old new
+unchanged_reels old new more is durable = record {
+  reels = ap (λ (r : Rack). map unread r.reels) is;
+  write_faults = ap (λ (r : Rack). r.write_faults) is;
+  fuse = ap (λ (r : Rack). r.fuse) is;
+  arms = ap (λ (r : Rack). r.arms) is;
+  read_faults = more;
+  times = λ t j. let same : count_at j (times_in (reel t new.reels)) ≡ count_at j (times_in (reel t old.reels)) = ap (λ (r : Rack). count_at j (times_in (reel t r.reels))) is in omega (arith, same);
+  durable = durable;
+}
+
+-- a device that failed to read
 reads_failed : (old new : Rack) → Rose old.read_faults new.read_faults → new ≡ record old { read_faults = new.read_faults } → OnlyReads old new
 reads_failed old new rose is =
-    let failed : Rack = record old { read_faults = new.read_faults } in
-    let only : OnlyReads old failed = record { reels = refl; write_faults = refl; fuse = refl; arms = refl; read_faults = omega (arith, rose.more); times = λ t j. omega arith } in
-    subst (OnlyReads old) (sym is) only
+    let risks : new.risks ≡ old.risks = ap (λ (r : Rack). r.risks) is in
+    unchanged_reels old new (omega (arith, rose.more)) (is ∙ ap (λ (rs : List Risk). let r : Rack = record old { read_faults = new.read_faults; risks = rs } in r) (sym risks))
+    (same_risks old new (ap (λ (r : Rack). map unread r.reels) is) risks)
 
 -- a read, however it ends
 pub reading_only : (s k : ℕ) (old new : Rack) (result : Result (Unit {0}) TapeFault) (into : List ℕ) → Reading s k old result into new → OnlyReads old new
@@ -160,6 +197,7 @@ reading_only s k old new (Ok u) into (free, block, is) =
       arms = refl;
       read_faults = omega arith;
       times = λ t j. times-with_reel s k t j old.reels;
+      durable = same_risks old read (unread-with_reel s (read_at k) (unread-read_at k) old.reels) refl;
     } in
     subst (OnlyReads old) (sym is) only
 reading_only s k old new (Err ReadFailed) into (free, rose, is) = reads_failed old new rose is
@@ -226,21 +264,34 @@ then_read s k first middle last only has = record {
 }
 
 -- MAKING A REEL DURABLE, however it ends
-pub securing_only : (s : ℕ) (old new : Rack) (result : Result (Unit {0}) TapeFault) → Securing s old result new → OnlyReads old new
-securing_only s old new (Ok u) (there, is) = nothing_else old new is
-securing_only s old new (Err ReadFailed) (there, rose, is) = reads_failed old new rose is
-securing_only s old new (Err NoTape) (missing, is) = nothing_else old new is
-securing_only s old new (Err WriteFailed) never = absurd never
-securing_only s old new (Err NotMounted) never = absurd never
-securing_only s old new (Err End) never = absurd never
+faults_or_not : (old new : Rack) → new ≡ record old { risks = new.risks } → new ≡ record old { read_faults = new.read_faults; risks = new.risks }
+faults_or_not old new is =
+    let same : new.read_faults ≡ old.read_faults = ap (λ (r : Rack). r.read_faults) is in
+    is ∙ ap (λ (n : ℕ). let r : Rack = record old { read_faults = n; risks = new.risks } in r) (sym same)
 
-pub securing_all_only : (old new : Rack) (result : Result (Unit {0}) TapeFault) → SecuringAll old result new → OnlyReads old new
-securing_all_only old new (Ok u) is = nothing_else old new is
-securing_all_only old new (Err ReadFailed) (rose, is) = reads_failed old new rose is
-securing_all_only old new (Err NoTape) never = absurd never
-securing_all_only old new (Err WriteFailed) never = absurd never
-securing_all_only old new (Err NotMounted) never = absurd never
-securing_all_only old new (Err End) never = absurd never
+secured_well : (old new : Rack) → new ≡ record old { risks = new.risks } → LeavesNoMore old new → OnlyReads old new
+secured_well old new is durable =
+    let same : new.read_faults ≡ old.read_faults = ap (λ (r : Rack). r.read_faults) is in
+    unchanged_reels old new (omega (arith, same)) (faults_or_not old new is) durable
+
+secured_badly : (old new : Rack) → Rose old.read_faults new.read_faults → new ≡ record old { read_faults = new.read_faults; risks = new.risks } → LeavesNoMore old new → OnlyReads old new
+secured_badly old new rose is durable = unchanged_reels old new (omega (arith, rose.more)) is durable
+
+pub securing_only : (s : ℕ) (old new : Rack) (result : Result (Unit {0}) TapeFault) → Securing s old result new → LeavesNoMore old new → OnlyReads old new
+securing_only s old new (Ok u) (there, is) durable = secured_well old new is durable
+securing_only s old new (Err ReadFailed) (there, rose, is) durable = secured_badly old new rose is durable
+securing_only s old new (Err NoTape) (missing, is) durable = nothing_else old new is
+securing_only s old new (Err WriteFailed) never durable = absurd never
+securing_only s old new (Err NotMounted) never durable = absurd never
+securing_only s old new (Err End) never durable = absurd never
+
+pub securing_all_only : (old new : Rack) (result : Result (Unit {0}) TapeFault) → SecuringAll old result new → LeavesNoMore old new → OnlyReads old new
+securing_all_only old new (Ok u) is durable = secured_well old new is durable
+securing_all_only old new (Err ReadFailed) (rose, is) durable = secured_badly old new rose is durable
+securing_all_only old new (Err NoTape) never durable = absurd never
+securing_all_only old new (Err WriteFailed) never durable = absurd never
+securing_all_only old new (Err NotMounted) never durable = absurd never
+securing_all_only old new (Err End) never durable = absurd never
 
 pub reads_only_read : ReadsOnlyRead
 reads_only_read = record { only = reading_only; counted = has_read; blocks = blocks_after_reads; secured = securing_only; all_secured = securing_all_only }

@@ -1,3 +1,4 @@
+pub mod Durable
 pub mod Laws
 pub mod Leave
 pub mod Memory
@@ -5,3 +6,4 @@ pub mod Place
 pub mod Rack
 pub mod Reads
 pub mod Reel
+pub mod Risk

@@ -7,15 +7,17 @@ use Rattle.g_base.specs.Fuse.{Arms, BurnsByFailures, burnt}
 use Rattle.g_tape.specs.declared.fault.TapeFault.{TapeFault}
 use Rattle.g_tape.specs.declared.fault.TapeFault.TheVariants.{NoTape, NotMounted, End, ReadFailed, WriteFailed}
 use Rattle.g_tape.specs.Reel.{Reel, IsReel, with_mounted, ending, read_at, Remains, left_by}
+use Rattle.g_tape.specs.Risk.{Risk}
 
--- A rack: the reels by increasing serial, the counts of failed reads and of failed writes, the fuse, and what the rack
--- was armed with.
+-- A rack: the reels by increasing serial, the counts of failed reads and of failed writes, the fuse, what the rack
+-- was armed with, and what a power loss may leave of the reels that aren't durable.
 pub record Rack : Type 0 where
   pub reels : List Reel
   pub read_faults : ℕ
   pub write_faults : ℕ
   pub fuse : Option ℕ
   pub arms : Arms
+  pub risks : List Risk
 
 -- The rack's fuse agrees with what the rack was armed with and with the failed writes since.
 abbrev pub IsFused : Rack → Type 0
@@ -93,24 +95,23 @@ Reading s k old (Err fault) into new = (refuses_read k (reel s old.reels) ≡ So
 abbrev pub Writing : ℕ → ℕ → List ℕ → Rack → Result (Unit {0}) TapeFault → Rack → Type 0
 Writing s k block old (Ok _) new =
     (refuses_write k (reel s old.reels) ≡ None) × (old.fuse ≢ Some 1)
-    × (new ≡ record (changed s (ending k block) old) { fuse = burnt old.fuse })
+    × (new ≡ record (changed s (ending k block) old) { fuse = burnt old.fuse; risks = new.risks })
 Writing s k block old (Err WriteFailed) new =
     (refuses_write k (reel s old.reels) ≡ None) × Rose old.write_faults new.write_faults
-    × ((how : Remains) × (new ≡ record (changed s (left_by how k) old) { write_faults = new.write_faults; fuse = burnt old.fuse }))
+    × ((how : Remains) × (new ≡ record (changed s (left_by how k) old) { write_faults = new.write_faults; fuse = burnt old.fuse; risks = new.risks }))
 Writing s k block old (Err ReadFailed) new = ⊥
 Writing s k block old (Err fault) new = (refuses_write k (reel s old.reels) ≡ Some fault) × (new ≡ old)
 
--- The reel was made durable, and nothing that a caller can observe changed; or the device failed, which counts as a failed read; or the
--- rack has no such reel.
+-- The reel was made durable, which changes nothing else; or the device failed, which counts as a failed read; or the rack has no such reel.
 abbrev pub Securing : ℕ → Rack → Result (Unit {0}) TapeFault → Rack → Type 0
-Securing s old (Ok _) new = (is_some (reel s old.reels) ≡ true) × (new ≡ old)
+Securing s old (Ok _) new = (is_some (reel s old.reels) ≡ true) × (new ≡ record old { risks = new.risks })
 Securing s old (Err ReadFailed) new =
-    (is_some (reel s old.reels) ≡ true) × Rose old.read_faults new.read_faults × (new ≡ record old { read_faults = new.read_faults })
+    (is_some (reel s old.reels) ≡ true) × Rose old.read_faults new.read_faults × (new ≡ record old { read_faults = new.read_faults; risks = new.risks })
 Securing s old (Err NoTape) new = (is_some (reel s old.reels) ≡ false) × (new ≡ old)
 Securing s old (Err fault) new = ⊥
 
 -- The same for every reel of the rack.
 abbrev pub SecuringAll : Rack → Result (Unit {0}) TapeFault → Rack → Type 0
-SecuringAll old (Ok _) new = new ≡ old
-SecuringAll old (Err ReadFailed) new = Rose old.read_faults new.read_faults × (new ≡ record old { read_faults = new.read_faults })
+SecuringAll old (Ok _) new = new ≡ record old { risks = new.risks }
+SecuringAll old (Err ReadFailed) new = Rose old.read_faults new.read_faults × (new ≡ record old { read_faults = new.read_faults; risks = new.risks })
 SecuringAll old (Err fault) new = ⊥

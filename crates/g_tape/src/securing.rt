@@ -1,4 +1,5 @@
 //! Makes every reel of a rack durable.
+ghost use Rattle.g_tape.specs.Durable.{AllSecureDurably};
 ghost use Rattle.g_tape.specs.Rack.{SecuringAll};
 
 use crate::fault::TapeFault;
@@ -7,7 +8,8 @@ use crate::tapes::Tapes;
 /// Makes every reel of the rack durable, as `Tapes::secure` does, by increasing serial and whether mounted or not. `ReadFailed` at
 /// the first reel whose device fails; the reels before it are durable then.
 pub fn secure_all<T: Tapes>(tapes: &mut T) -> Result<(), TapeFault>
-    ensures { SecuringAll (T.rack tapes.old) result (T.rack tapes.new) }
+    ensures secured { SecuringAll (T.rack tapes.old) result (T.rack tapes.new) }
+    ensures durable { AllSecureDurably (T.rack tapes.old) result (T.rack tapes.new) }
 {
     for i in 0..tapes.reels() {
         let serial = tapes.serial(i);

@@ -2,6 +2,7 @@
 ghost use Rattle.std.specs.Prelude.{◌≡◌, ◌<◌, ◌≤◌, Some, true, false, length, map, slice_get};
 ghost use Rattle.g_base.specs.Fuse.{armed_with};
 ghost use Rattle.g_tape.specs.Laws.{ReadsOnlyRead};
+ghost use Rattle.g_tape.specs.Durable.{SecuresDurably, WritesDurably};
 ghost use Rattle.g_tape.specs.Rack.{Rack, AreReels, IsFused, reel, is_mounted, told_of, refuses_mount, refuses_unmount, Mounting, Reading, Writing, Securing};
 
 use crate::fault::TapeFault;
@@ -50,14 +51,16 @@ pub trait Tapes {
 
     /// Writes block k of the reel, which ends there. `NoTape`, `NotMounted`, `End`, `WriteFailed`.
     fn write(&mut self, serial: u32, k: u32, from: &Block) -> Result<(), TapeFault>
-        ensures { Writing serial k from.now (rack self.old) result (rack self.new) };
+        ensures written { Writing serial k from.now (rack self.old) result (rack self.new) }
+        ensures durable { WritesDurably serial k from.now (rack self.old) result (rack self.new) };
 
     /// Makes the reel durable, mounted or not. After `Ok` its completed dumps survive a power loss as they are read, and a power loss
     /// completes no other dump on it, whatever failed before (docs/FORMATS.md, "Durability"). Reads, writes and mounts see no
     /// difference, and the fuse doesn't burn. `NoTape`; `ReadFailed` if the device fails: the blocks that were written last are then
     /// unspecified after a power loss.
     fn secure(&mut self, serial: u32) -> Result<(), TapeFault>
-        ensures { Securing serial (rack self.old) result (rack self.new) };
+        ensures secured { Securing serial (rack self.old) result (rack self.new) }
+        ensures durable { SecuresDurably serial (rack self.old) result (rack self.new) };
 
     /// Sets the fuse: the k-th next write that isn't refused fails. It replaces an earlier fuse. A fuse that has fired
     /// is spent.

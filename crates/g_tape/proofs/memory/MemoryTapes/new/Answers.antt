@@ -26,6 +26,7 @@ returns c =
       write_faults = refl;
       fuse = c.new-3.ensures;
       arms = c.new-4.ensures;
+      risks = refl;
       leave = refl;
       fail = c.new.ensures.items;
       reads = refl;

@@ -1,5 +1,5 @@
 -- The reel that was found is written, or torn, at its place.
-use Rattle.std.proofs.Common.{◌≡◌, List, Some, true, subst, ap, ◌∙◌}
+use Rattle.std.proofs.Common.{◌≡◌, List, Some, true, refl, subst, ap, ◌∙◌}
 use Rattle.g_base.proofs.FuseLemmas.{fused_failed, fused_well}
 use Rattle.g_tape.specs.Reel.{Reel}
 use Rattle.g_tape.specs.Rack.{refuses_write}
@@ -33,7 +33,7 @@ returns-then-burn c =
     (c.refuses_write.ensures ∙ ap (λ (r : Reel). refuses_write c.args.k (Some r)) c.state.ensures) c.in_default-refuses_write.is in
     let fired : c.args.self.now.fuse ≡ Some 1 = c.burn.ensures.fires.0 c.if-burn.true in
     writes-torn c.args.serial c.args.k c.in-Some.place c.args.from.now _ c.burn.new.self c.raised-self.result c.index_mut.result.now c.tear.new.self place c.index_mut.ensures.value free
-    c.tear.ensures.value c.burn.ensures.left c.raised-self.ensures fired
+    c.tear.ensures.value c.burn.ensures.left c.raised-self.ensures fired refl c.args.self.now.well_formed
 
 pub returns : goal.returns
 returns c =
@@ -42,3 +42,4 @@ returns c =
     (c.refuses_write.ensures ∙ ap (λ (r : Reel). refuses_write c.args.k (Some r)) c.state.ensures) c.in_default-refuses_write.is in
     writes-done c.args.serial c.args.k c.in-Some.place c.args.from.now _ c.burn.new.self c.index_mut-2.result.now c.end_with.new.self place c.index_mut-2.ensures.value free
     c.end_with.ensures.value c.burn.ensures.left (λ one'. let fires : c.burn.result ≡ true = c.burn.ensures.fires.1 one' in cc)
+    refl c.args.self.now.well_formed
