@@ -128,7 +128,7 @@ module _ (s k : ℕ) (block : List ℕ) (old new : Rack) (before : old.risks ≡
     others = others_same;
     front = λ n within durable. durable_to n s new after;
     syncable = λ is. syncable_all s new after;
-    fresh = λ durable. syncable_all s new after;
+    fresh = λ free durable. syncable_all s new after;
     short = short_after writing;
     synced = λ synced able. durable_all s new after;
     failed = tt;
@@ -137,7 +137,7 @@ module _ (s k : ℕ) (block : List ℕ) (old new : Rack) (before : old.risks ≡
     others = others_same;
     front = λ n within durable. durable_to n s new after;
     syncable = λ is. syncable_all s new after;
-    fresh = λ durable. tt;
+    fresh = λ free durable. syncable_all s new after;
     short = tt;
     synced = λ synced able. tt;
     failed = failed_leaves fault writing;

@@ -2,7 +2,7 @@
 use Rattle.std.specs.Prelude.{◌≡◌, ◌⊎◌, ℕ, ◌+◌, ◌-◌, ◌≤◌, true, List, Result, OnErr, OnOk, length, take}
 use Rattle.std.specs.Option.{ForSome}
 use Rattle.g_tape.specs.declared.fault.TapeFault.{TapeFault}
-use Rattle.g_tape.specs.Rack.{Rack, reel}
+use Rattle.g_tape.specs.Rack.{Rack, reel, refuses_write}
 use Rattle.g_tape.specs.Reads.{LeavesNoMore, MayLeave, blocks_of, is_syncable}
 use Rattle.g_tape.specs.Risk.{IsSynced, Leaves, risk}
 
@@ -36,14 +36,15 @@ pub record IsBegun (s k : ℕ) (block : List ℕ) (old : Rack) (left : List (Lis
   pub short : length left ≤ k + 1
   pub synced : IsSynced k block → IsSyncableTo k s old → HasFront k s old left
 
--- A WRITE of block k, whether it failed or not: of the blocks before it, those that were durable stay durable, and nothing becomes unsyncable.
--- If it is Ok, nothing follows the block on the device; and if the write is synced, the reel is durable up to it, provided that the device
--- still had the blocks before it. If it failed, a power loss leaves what it could have left before, or what was begun.
+-- A WRITE of block k, whether it failed or not: of the blocks before it, those that were durable stay durable. A syncable reel stays so; and
+-- if all blocks before it were durable, the reel is syncable. If the write is Ok, nothing follows the block on the device; and if it is
+-- synced, the reel is durable, provided that the device still had the blocks before it. If the write failed, a power loss leaves what it
+-- could have left before, or what was begun.
 pub record WritesDurably (s k : ℕ) (block : List ℕ) (old : Rack) (result : Result (Unit {0}) TapeFault) (new : Rack) : Type 0 where
   pub others : OthersAsDurable s old new
   pub front : (n : ℕ) → n ≤ k → IsDurableTo n s old → IsDurableTo n s new
   pub syncable : is_syncable s old ≡ true → is_syncable s new ≡ true
-  pub fresh : IsDurableTo k s old → OnOk result (is_syncable s new ≡ true)
+  pub fresh : refuses_write k (reel s old.reels) ≡ None → IsDurableTo k s old → is_syncable s new ≡ true
   pub short : OnOk result (AfterPowerLoss s new (λ left. length left ≤ k + 1))
   pub synced : IsSynced k block → IsSyncableTo k s old → OnOk result (IsDurable s new)
   pub failed : OnErr result (AfterPowerLoss s new (λ left. MayLeave s old left ⊎ IsBegun s k block old left))
