@@ -1,5 +1,5 @@
 -- Which blocks of a reel survive a power loss, and what each call does to that.
-use Rattle.std.specs.Prelude.{◌≡◌, ◌⊎◌, ℕ, ◌+◌, ◌-◌, ◌≤◌, true, List, Result, OnErr, OnOk, length, take}
+use Rattle.std.specs.Prelude.{◌≡◌, ◌⊎◌, ℕ, ◌+◌, ◌-◌, ◌≤◌, true, List, None, Result, OnErr, OnOk, length, take}
 use Rattle.std.specs.Option.{ForSome}
 use Rattle.g_tape.specs.declared.fault.TapeFault.{TapeFault}
 use Rattle.g_tape.specs.Rack.{Rack, reel, refuses_write}
