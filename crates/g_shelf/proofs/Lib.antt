@@ -6,4 +6,6 @@ pub mod QuietLemmas
 pub mod RackLemmas
 pub mod ReadLemmas
 pub mod RowLemmas
+pub mod SurvivalLemmas
+pub mod SurvivingLemmas
 pub mod WalkLemmas

@@ -4,4 +4,5 @@ pub mod HeldBlocks
 pub mod LastDump
 pub mod QuietWrites
 pub mod ReaderSteps
+pub mod Surviving
 pub mod Walk

@@ -10,6 +10,7 @@ mod walk;
 ghost use Rattle.g_shelf.specs.CompletedDumps.{CompletedAreOne};
 ghost use Rattle.g_shelf.specs.HeldBlocks.{HeldInOne};
 ghost use Rattle.g_shelf.specs.QuietWrites.{MarkCompletes, QuietBlocks};
+ghost use Rattle.g_shelf.specs.Surviving.{BegunCompletesNothing, MarkCompletesOne};
 
 pub use copy::{find_copy, holds, is_held};
 pub use last::{first_unmounted, last_dump};
@@ -35,4 +36,11 @@ pub fn one_list_of_dumps()
 #[tactic(auto, using(crate::proofs::HeldLemmas::held_in_one))]
 pub fn held_blocks_lie_in_one_dump()
     ensures one { HeldInOne }
+{}
+
+/// What a power loss leaves of a dump that is being written completes no dump but this one, and this one only if all of it but the mark is
+/// durable.
+pub fn power_losses()
+    ensures begun { BegunCompletesNothing }
+    ensures mark { MarkCompletesOne }
 {}
