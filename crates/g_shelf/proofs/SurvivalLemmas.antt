@@ -7,7 +7,7 @@ use Rattle.std.proofs.lemmas.List.{take-take, length-take, length-take-le, take-
 use Rattle.g_base.specs.Fields.{padded}
 use Rattle.g_tape.specs.declared.fault.TapeFault.{TapeFault}
 use Rattle.g_tape.specs.declared.fault.TapeFault.TheVariants.{WriteFailed}
-use Rattle.g_tape.specs.Durable.{AfterPowerLoss, HasFront, IsBegun as IsBegunWrite, IsDurable, IsDurableTo, IsSecurable, OthersAsDurable, AllSecureDurably, WritesDurably}
+use Rattle.g_tape.specs.Durable.{AfterPowerLoss, HasFront, IsBegun as IsBegunWrite, IsDurable, IsDurableTo, AllSecureDurably, WritesDurably}
 use Rattle.g_tape.specs.Rack.{Rack, reel, refuses_write}
 use Rattle.g_tape.specs.Reads.{LeavesNoMore, MayLeave, blocks_in, blocks_of, is_syncable}
 use Rattle.g_tape.specs.Reel.{Reel, Remains, Unchanged, Shortened, Torn}
@@ -135,8 +135,8 @@ module _ (serial j : ℕ) (ds : List Dump) (d : Dump) (block : List ℕ) (old ne
         by left leaves (inl may) = survive blocks at ds all blocks at left (may blocks at)
         by left leaves (inr more) = quiet_left how there left early more.short leaves failed.front
 
-    pub failed_mark : j ≡ count_of d + 1 → block ≡ mark_block d → LeavesWithOrWithout serial new ds d × IsSecurable serial new
-    failed_mark last is = (λ bs here left leaves. by left (failed.failed bs here left leaves), inl (failed.syncable (durably some).syncable))
+    pub failed_mark : j ≡ count_of d + 1 → block ≡ mark_block d → LeavesWithOrWithout serial new ds d × (is_syncable serial new ≡ true)
+    failed_mark last is = (λ bs here left leaves. by left (failed.failed bs here left leaves), failed.syncable (durably some).syncable)
       where
         some : 0 < j
         some = omega (arith, last)
@@ -171,8 +171,8 @@ module _ (serial : ℕ) (block : List ℕ) (old new : Rack) (free : refuses_writ
   }
 
   pub failed_release : (blocks : List (List ℕ)) (ds : List Dump) → blocks_of serial old ≡ Some blocks → AreCompleted serial blocks ds → DumpsSurvive serial old
-      → WritesDurably serial 0 block old (Err WriteFailed) new → LeavesAllOrNone serial new ds × IsSecurable serial new
-  failed_release blocks ds at all survive failed = (λ bs here left leaves. by left (failed.failed bs here left leaves), inl (failed.fresh free nothing_before))
+      → WritesDurably serial 0 block old (Err WriteFailed) new → LeavesAllOrNone serial new ds × (is_syncable serial new ≡ true)
+  failed_release blocks ds at all survive failed = (λ bs here left leaves. by left (failed.failed bs here left leaves), failed.fresh free nothing_before)
     where
       by : (left : List (List ℕ)) → MayLeave serial old left ⊎ IsBegunWrite serial 0 block old left → AreCompleted serial left ds ⊎ AreCompleted serial left []
       by left (inl may) = inl (survive blocks at ds all blocks at left (may blocks at))
@@ -186,13 +186,9 @@ module _ (other : ℕ) (old new : Rack) (risks : risk other new.risks ≡ risk o
   pub other_survives : DumpsSurvive other old → DumpsSurvive other new
   other_survives survive blocks at ds all bs here left leaves = survive blocks (sym same ∙ at) ds all bs (sym same ∙ here) left (still bs left leaves)
 
-  other_durable : (n : ℕ) → IsDurableTo n other old → IsDurableTo n other new
-  other_durable n durable bs here left leaves cs is = durable bs (sym same ∙ here) left (still bs left leaves) cs (sym same ∙ is)
-
-  pub other_can : reel other new.reels ≡ reel other old.reels → CanSurvive other old → CanSurvive other new
-  other_can reels (inl survive) = inl (other_survives survive)
-  other_can reels (inr (inl able)) = inr (inl (ap (λ (o : Option Risk). syncs o) risks ∙ able))
-  other_can reels (inr (inr durable)) = inr (inr (λ r is. other_durable _ (durable r (sym reels ∙ is))))
+  pub other_can : CanSurvive other old → CanSurvive other new
+  other_can (inl survive) = inl (other_survives survive)
+  other_can (inr able) = inr (ap syncs risks ∙ able)
 
 -- SECURING THE RACK
 pub survive_secured : (serial : ℕ) (old new : Rack) → blocks_of serial new ≡ blocks_of serial old → AllSecureDurably old (Ok tt) new → CanSurvive serial old → DumpsSurvive serial new

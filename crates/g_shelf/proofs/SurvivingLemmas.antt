@@ -8,7 +8,7 @@ use Rattle.std.proofs.lemmas.Bool.{cases_lt}
 use Rattle.std.proofs.lemmas.List.{drop-take, take-take, take_all, take-append-drop, length-take, length-drop, length-append}
 use Rattle.g_tape.specs.declared.fault.TapeFault.{TapeFault}
 use Rattle.g_tape.specs.declared.fault.TapeFault.TheVariants.{WriteFailed}
-use Rattle.g_tape.specs.Durable.{AfterPowerLoss, HasFront, IsBegun as IsBegunWrite, IsDurable, IsDurableTo, IsSecurable, WritesDurably}
+use Rattle.g_tape.specs.Durable.{AfterPowerLoss, IsDurable, IsDurableTo}
 use Rattle.g_tape.specs.Rack.{AreReels, Rack, Writing, reel, refuses_write}
 use Rattle.g_tape.specs.Reads.{LeavesNoMore, MayLeave, OnlyReads, blocks_in, blocks_of, is_syncable}
 use Rattle.g_tape.specs.Reel.{Remains, Unchanged, Shortened, Torn}
@@ -148,6 +148,10 @@ after_reads P serial old new more same all blocks at left leaves = all blocks (s
 pub survive_reads : (serial : ℕ) (old new : Rack) → LeavesNoMore old new → blocks_of serial new ≡ blocks_of serial old → DumpsSurvive serial old → DumpsSurvive serial new
 survive_reads serial old new more same survive blocks at ds all =
     after_reads (λ left. AreCompleted serial left ds) serial old new more same (survive blocks (sym same ∙ at) ds all)
+
+pub can_reads : (serial : ℕ) (old new : Rack) → LeavesNoMore old new → blocks_of serial new ≡ blocks_of serial old → CanSurvive serial old → CanSurvive serial new
+can_reads serial old new more same (inl survive) = inl (survive_reads serial old new more same survive)
+can_reads serial old new more same (inr able) = inr (more.syncable serial able)
 
 durable_to_reads : (n serial : ℕ) (old new : Rack) → LeavesNoMore old new → blocks_of serial new ≡ blocks_of serial old → IsDurableTo n serial old → IsDurableTo n serial new
 durable_to_reads n serial old new more same durable blocks at left leaves bs there =

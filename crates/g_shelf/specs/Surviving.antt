@@ -1,7 +1,7 @@
 -- Which completed dumps a reel has after a power loss.
 use Rattle.std.specs.Prelude.{◌≡◌, ◌⊎◌, ℕ, ◌+◌, ◌<◌, ◌≤◌, true, List, [], ◌∷◌, ◌++◌, length, take}
 use Rattle.std.specs.Option.{ForSome}
-use Rattle.g_tape.specs.Durable.{AfterPowerLoss, IsDurableTo, IsSecurable}
+use Rattle.g_tape.specs.Durable.{AfterPowerLoss, IsDurableTo}
 use Rattle.g_tape.specs.Rack.{Rack}
 use Rattle.g_tape.specs.Reads.{blocks_of, is_syncable}
 use Rattle.g_incr.specs.Layout.{Dump, count_of}
@@ -13,9 +13,9 @@ abbrev pub DumpsSurvive : ℕ → Rack → Type 0
 DumpsSurvive serial rack =
     ForSome (blocks_of serial rack) (λ blocks. (dumps : List Dump) → AreCompleted serial blocks dumps → AfterPowerLoss serial rack (λ left. AreCompleted serial left dumps))
 
--- They survive, or will once the reel was secured.
+-- They survive, or will once the reel was secured, since the device still has its blocks.
 abbrev pub CanSurvive : ℕ → Rack → Type 0
-CanSurvive serial rack = DumpsSurvive serial rack ⊎ IsSecurable serial rack
+CanSurvive serial rack = DumpsSurvive serial rack ⊎ (is_syncable serial rack ≡ true)
 
 -- A power loss leaves the reel with these dumps, or with these and another one.
 abbrev pub LeavesWithOrWithout : ℕ → Rack → List Dump → Dump → Type 0

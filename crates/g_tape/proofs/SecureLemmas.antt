@@ -1,16 +1,15 @@
 -- A REEL AFTER THE OTHER is made durable.
 -- serves: secure_all
-use Rattle.std.proofs.Common.{◌≡◌, ℕ, zero, suc, ◌+◌, ◌-◌, List, [], ◌∷◌, Bool, true, false, ◌==◌, ◌<◌, ◌≤◌, length, take, subst, Option, Some, None, Result, Ok, Err, map, slice_get, is_some, if◌then◌else◌, inl, inr, eq-eqb, arith, refl, sym, ap, ◌∙◌}
-use Rattle.std.specs.Option.{ForSome}
+use Rattle.std.proofs.Common.{◌≡◌, ℕ, zero, suc, ◌+◌, List, [], ◌∷◌, Bool, true, false, ◌==◌, ◌<◌, ◌≤◌, length, subst, Some, None, Result, Ok, Err, map, slice_get, is_some, if◌then◌else◌, inl, inr, eq-eqb, arith, refl, sym, ap, ◌∙◌}
 use Rattle.std.proofs.lemmas.Bool.{cases_eq}
 use Rattle.std.proofs.lemmas.Bool.Decides.{eqb_tells}
 use Rattle.g_tape.specs.declared.fault.TapeFault.{TapeFault}
 use Rattle.g_tape.specs.declared.fault.TapeFault.TheVariants.{NoTape, NotMounted, End, ReadFailed, WriteFailed}
 use Rattle.g_tape.specs.Reel.{Reel}
 use Rattle.g_base.specs.Counts.{Rose}
-use Rattle.g_tape.specs.Durable.{AllSecureDurably, IsDurable, IsDurableTo, IsSecurable, SecuresDurably}
+use Rattle.g_tape.specs.Durable.{AllSecureDurably, IsDurable, SecuresDurably}
 use Rattle.g_tape.specs.Rack.{Rack, Securing, SecuringAll, reel}
-use Rattle.g_tape.specs.Reads.{LeavesNoMore, MayLeave, blocks_in, blocks_of}
+use Rattle.g_tape.specs.Reads.{LeavesNoMore, MayLeave, blocks_in, blocks_of, is_syncable}
 use Rattle.g_tape.specs.Risk.{Leaves, risk}
 use Rattle.g_tape.proofs.ReadLemmas.{no_more, still_no_more}
 
@@ -44,22 +43,11 @@ stays_durable s old new same more durable blocks at left leaves =
     let here : MayLeave s new left = λ bs there. subst (λ (x : List (List ℕ)). Leaves (risk s new.risks) x left) (let one : Some blocks ≡ Some bs = sym at ∙ there in cc) leaves in
     durable blocks (sym same ∙ at) left (more.leaves s left here blocks (sym same ∙ at))
 
-pub stays_durable_to : (n s : ℕ) (old new : Rack) → blocks_of s new ≡ blocks_of s old → LeavesNoMore old new → IsDurableTo n s old → IsDurableTo n s new
-stays_durable_to n s old new same more durable blocks at left leaves =
-    let here : MayLeave s new left = λ bs there. subst (λ (x : List (List ℕ)). Leaves (risk s new.risks) x left) (let one : Some blocks ≡ Some bs = sym at ∙ there in cc) leaves in
-    subst (λ (o : Option (List (List ℕ))). ForSome o (λ bs. take n left ≡ take n bs)) (sym same)
-    (durable blocks (sym same ∙ at) left (more.leaves s left here blocks (sym same ∙ at)))
-
-stays_securable : (s : ℕ) (old new : Rack) → new.reels ≡ old.reels → LeavesNoMore old new → IsSecurable s old → IsSecurable s new
-stays_securable s old new reels more (inl able) = inl (more.syncable s able)
-stays_securable s old new reels more (inr durable) =
-    inr (λ r at. stays_durable_to (r.len - 1) s old new (ap (λ (rs : List Reel). blocks_in (reel s rs)) reels) more (durable r (ap (λ (rs : List Reel). reel s rs) (sym reels) ∙ at)))
-
 -- THE FIRST i REELS of a rack are durable
 pub record SoFar (i : ℕ) (first now : Rack) : Type 0 where
   pub same : now ≡ record first { risks = now.risks }
   pub no_more : LeavesNoMore first now
-  pub durable : (j s : ℕ) → j < i → slice_get (map (λ r. r.serial) first.reels) j ≡ Some s → IsSecurable s first → IsDurable s now
+  pub durable : (j s : ℕ) → j < i → slice_get (map (λ r. r.serial) first.reels) j ≡ Some s → is_syncable s first ≡ true → IsDurable s now
 
 pub none_yet : (rack : Rack) → SoFar 0 rack rack
 none_yet rack = record { same = refl; no_more = no_more rack; durable = λ j s below at able. absurd (let no : ⊥ = omega (arith, below) in no) }
@@ -79,7 +67,7 @@ one_more_durable i s first now new so_far at securing durably = record {
         | inl same ↦
             let one : t ≡ s = (let both : Some t ≡ Some s = sym there ∙ ap (slice_get (map (λ r. r.serial) first.reels)) same ∙ ap (λ (rs : List Reel). slice_get (map (λ r. r.serial) rs) i) (sym (same_reels first now so_far.same)) ∙ at in cc) in
             subst (λ (u : ℕ). IsDurable u new) (sym one)
-            (durably.durable (stays_securable s first now (same_reels first now so_far.same) so_far.no_more (subst (λ (u : ℕ). IsSecurable u first) one able)))
+            (durably.durable (so_far.no_more.syncable s (subst (λ (u : ℕ). is_syncable u first ≡ true) one able)))
         | inr apart ↦
             stays_durable t now new (ap (λ (r : Rack). blocks_of t r) (is_secured s now new securing)) durably.no_more (so_far.durable j t (omega (arith, below, apart)) there able)
       ];

@@ -1,5 +1,5 @@
 -- Which blocks of a reel survive a power loss, and what each call does to that.
-use Rattle.std.specs.Prelude.{◌≡◌, ◌⊎◌, ℕ, ◌+◌, ◌-◌, ◌≤◌, true, List, None, Result, OnErr, OnOk, length, take}
+use Rattle.std.specs.Prelude.{◌≡◌, ◌⊎◌, ℕ, ◌+◌, ◌≤◌, true, List, None, Result, OnErr, OnOk, length, take}
 use Rattle.std.specs.Option.{ForSome}
 use Rattle.g_tape.specs.declared.fault.TapeFault.{TapeFault}
 use Rattle.g_tape.specs.Rack.{Rack, reel, refuses_write}
@@ -49,17 +49,13 @@ pub record WritesDurably (s k : ℕ) (block : List ℕ) (old : Rack) (result : R
   pub synced : IsSynced k block → IsSyncableTo k s old → OnOk result (IsDurable s new)
   pub failed : OnErr result (AfterPowerLoss s new (λ left. MayLeave s old left ⊎ IsBegun s k block old left))
 
--- All blocks of the reel but the last are durable, or the device still has them.
-abbrev pub IsSecurable : ℕ → Rack → Type 0
-IsSecurable s rack = (is_syncable s rack ≡ true) ⊎ ForSome (reel s rack.reels) (λ r. IsDurableTo (r.len - 1) s rack)
-
 -- A reel was made durable, or that failed.
 pub record SecuresDurably (s : ℕ) (old : Rack) (result : Result (Unit {0}) TapeFault) (new : Rack) : Type 0 where
   pub others : OthersAsDurable s old new
   pub no_more : LeavesNoMore old new
-  pub durable : OnOk result (IsSecurable s old → IsDurable s new)
+  pub durable : OnOk result (is_syncable s old ≡ true → IsDurable s new)
 
 -- All reels were made durable, or that failed.
 pub record AllSecureDurably (old : Rack) (result : Result (Unit {0}) TapeFault) (new : Rack) : Type 0 where
   pub no_more : LeavesNoMore old new
-  pub durable : (s : ℕ) → OnOk result (IsSecurable s old → IsDurable s new)
+  pub durable : (s : ℕ) → OnOk result (is_syncable s old ≡ true → IsDurable s new)
