@@ -7,6 +7,7 @@ use Rattle.std.proofs.lemmas.Bool.{cases_order}
 use Rattle.std.proofs.lemmas.List.Elements.{All-head, All-tail}
 use Rattle.std.proofs.lemmas.Option.{none-some, same_Some}
 use Rattle.g_base.specs.Fuse.{burnt}
+use Rattle.g_tape.specs.Durable.{AfterPowerLoss}
 use Rattle.g_tape.specs.Rack.{AreReels, Rack, changed, with_reel}
 use Rattle.g_tape.specs.Reads.{unread}
 use Rattle.g_tape.specs.Reel.{Reel, Remains, Torn, ending, left_by}
@@ -23,20 +24,23 @@ use Rattle.g_online.specs.declared.fault.OnlineFault.TheVariants as online
 use Rattle.g_online.specs.Change.{closed as closed_by}
 use Rattle.g_online.specs.Outcomes.{HasClosed, StoppedClosing}
 use Rattle.g_online.specs.Pins.{IsClosing}
-use Rattle.g_shelf.specs.CompletedDumps.{AreShelved, all_dumps}
+use Rattle.g_shelf.specs.CompletedDumps.{AreCompleted, AreShelved, all_dumps}
+use Rattle.g_shelf.specs.Surviving.{CanSurvive, DumpsSurvive}
 use Rattle.g_store_meaning.specs.Answers.{Belongs, IsStore, Told}
 use Rattle.g_store_meaning.specs.Belonging.{BelongWith, DiscBelongs, RackBelongs}
 use Rattle.g_store_meaning.specs.Meaning.{told_reels}
 use Rattle.g_store_meaning.specs.Reading.{AllTold, ReelsTold}
 use Rattle.g_store_meaning.specs.StoreInvariant.{DumpFacts, IsOpen, IsReady, IsUp, KeepsDirectories, StoreFacts, content_in, with_dump}
+use Rattle.g_store_meaning.specs.Surviving.{AreDumpsSafe}
 use Rattle.g_laws_store.specs.Dumping.{closed_with}
 use Rattle.g_laws_store.proofs.ClosingLemmas.{closing_stays}
 use Rattle.g_laws_store.proofs.DumpingLemmas.{events_stay_up}
 use Rattle.g_laws_store.proofs.PinLemmas.{both_told}
 use Rattle.g_laws_store.proofs.TiedLemmas.{devices_belong}
-use Rattle.g_dumper.specs.Invariant.{CompletesOpening, KeepsStore, behind_step, spent_with, up_with}
+use Rattle.g_dumper.specs.Invariant.{CompletesOpening, KeepsStore, LeavesDumps, behind_step, spent_with, up_with}
 use Rattle.g_dumper.specs.Steps.{Abandoned, FailedWrite, IsNextBlock, Stepping, WroteBlock}
 use Rattle.g_dumper.proofs.ReelLemmas.{same_serials, still_told}
+use Rattle.g_dumper.proofs.SafeLemmas.{begun_going, can_survive, dumps_failed, dumps_going, dumps_marked, left_at_mark, left_shelved}
 use Rattle.g_dumper.proofs.ShelfLemmas.{cut_shelf, left_serial, left_told, marked_shelf, quiet_shelf, ready}
 
 -- the invariant of a store that is up depends only on contents, pins and the marked users
@@ -70,6 +74,9 @@ store_spent o rack tied = record {
   pins = λ unspent. absurd (true≢false unspent);
 }
 
+pub can_only : (o : OnlineFacts) (rack : Rack) → ((n : ℕ) → CanSurvive n rack) → AreDumpsSafe (spent_with o rack)
+can_only o rack can = record { up = λ unspent. absurd (true≢false unspent); can = can; open_dump = λ unspent. absurd (true≢false unspent) }
+
 -- the content of the pins, if the disc exposes it
 pub content_told : (next : ℕ) (files : List File) (pins : List Pin) → All (IsPinOf true next files) pins → (content : List (List ℕ)) × (content_in pins ≡ Some content)
 content_told next files [] all = ([], refl)
@@ -82,7 +89,7 @@ content_told next files (p ∷ ps) all = by_first p.blocks refl (content_told ne
 
 -- the rack after a write of the next block
 module _ (d : DumpFacts) (old new : Rack) (how : Remains) (faults : ℕ)
-    (is : new ≡ record (changed d.plan.serial (left_by how (d.plan.place + d.done)) old) { write_faults = faults; fuse = burnt old.fuse }) where
+    (is : new ≡ record (changed d.plan.serial (left_by how (d.plan.place + d.done)) old) { write_faults = faults; fuse = burnt old.fuse; risks = new.risks }) where
   abbrev reels_then : List Reel
   reels_then = with_reel d.plan.serial (left_by how (d.plan.place + d.done)) old.reels
 
@@ -173,6 +180,30 @@ module _ (d : DumpFacts) (o : OnlineFacts) (old new : Rack) (reels : AreReels ol
         shelved_then d old new (Torn wrote.block) old.write_faults wrote.rack (with_dump (dump_of d.plan content) shelf)
         (marked_shelf d o old reels told.each is text shelf shelved up content has last wrote.block (wrote.next.is is.pins is.pinned content has))
 
+    -- the dumps survive: before the mark, and with it
+    safe_going : d.done + 1 < needs d.plan → Told before → Belongs before → AreDumpsSafe before → AreDumpsSafe (up_with o new (Some (record { plan = d.plan; done = d.done + 1 })))
+    safe_going less told was safe =
+        let (text, shelf, shelved, up) = was.up refl in
+        let (content, has) = the_content told in
+        let survive = dumps_going d o old reels told.each is text shelf shelved up content has safe new wrote less in
+        record {
+          up = λ unspent. survive;
+          can = λ n. inl (survive n);
+          open_dump = λ unspent some. begun_going d o old reels told.each is text shelf shelved up content has safe new wrote;
+        }
+
+    marked_survive : d.done + 1 ≡ needs d.plan → Told before → Belongs before → AreDumpsSafe before → (n : ℕ) → DumpsSurvive n new
+    marked_survive last told was safe =
+        let (text, shelf, shelved, up) = was.up refl in
+        let (content, has) = the_content told in
+        dumps_marked d o old reels told.each is text shelf shelved up content has safe new wrote last
+
+    safe_completed : (o' : OnlineFacts) → d.done + 1 ≡ needs d.plan → Told before → Belongs before → AreDumpsSafe before → AreDumpsSafe (up_with o' new None)
+    safe_completed o' last told was safe = let survive = marked_survive last told was safe in record { up = λ unspent. survive; can = λ n. inl (survive n); open_dump = λ unspent. tt }
+
+    safe_closing : (o' : OnlineFacts) → d.done + 1 ≡ needs d.plan → Told before → Belongs before → AreDumpsSafe before → AreDumpsSafe (spent_with o' new)
+    safe_closing o' last told was safe = let survive = marked_survive last told was safe in can_only o' new (λ n. inl (survive n))
+
     completed_belongs : (o' : OnlineFacts) → IsTied o' → d.done + 1 ≡ needs d.plan → HasClosed d.plan.number o o' → Told before → Belongs before → Belongs (up_with o' new None)
     completed_belongs o' tied' last closed told was =
         let (text, shelf, shelved, up) = was.up refl in
@@ -197,6 +228,9 @@ module _ (d : DumpFacts) (o : OnlineFacts) (old new : Rack) (reels : AreReels ol
         belongs_spent o' new (devices_closing told text shelf shelved up content has serials_kept o' stopped (shelved_marked told last text shelf shelved up content has))
 
   -- the versions wait no more
+  safe_abandoned : (o' : OnlineFacts) → AreDumpsSafe before → AreDumpsSafe (up_with o' old None)
+  safe_abandoned o' safe = record { up = λ unspent. safe.up refl; can = safe.can; open_dump = λ unspent. tt }
+
   abandoned_belongs : (o' : OnlineFacts) → IsTied o' → Abandoned d o o' → Told before → Belongs before → Belongs (up_with o' old None)
   abandoned_belongs o' tied' left told was =
       let (text, shelf, shelved, up) = was.up refl in
@@ -205,12 +239,25 @@ module _ (d : DumpFacts) (o : OnlineFacts) (old new : Rack) (reels : AreReels ol
       (without_dump text shelf old (record o { pins = None }) o' (ap (λ (x : OnlineFacts). x.contents) left.facts) (ap (λ (x : OnlineFacts). x.changed) left.facts) gone)
 
   -- the write of the block failed
-  module _ (failed : FailedWrite d old new) where
+  module _ (failed : FailedWrite d o.pins old new) where
     torn_serials : map (λ (r : Reel). r.serial) new.reels ≡ map (λ (r : Reel). r.serial) old.reels
     torn_serials = same_reels d old new failed.how new.write_faults failed.rack
 
     torn_told : Told before → AllTold o.disc.held (told_reels new)
     torn_told told = record { disc = told.disc; each = tell_still d old new failed.how new.write_faults failed.rack told.each }
+
+    torn_can : Told before → Belongs before → AreDumpsSafe before → (n : ℕ) → CanSurvive n new
+    torn_can told was safe =
+        let (text, shelf, shelved, up) = was.up refl in
+        let (content, has) = the_content told in
+        by_place (dumps_failed d o old reels told.each is text shelf shelved up content has safe new failed)
+        (can_survive d o old reels told.each is text shelf shelved up content has safe new failed) (cases_order (d.done + 1) (needs d.plan))
+      where
+        by_place : (d.done + 1 < needs d.plan → (n : ℕ) → DumpsSurvive n new) → (d.done + 1 ≡ needs d.plan → (n : ℕ) → CanSurvive n new)
+            → (d.done + 1 ≡ needs d.plan) ⊎ ((d.done + 1 < needs d.plan) ⊎ (needs d.plan < d.done + 1)) → (n : ℕ) → CanSurvive n new
+        by_place quiet at_mark (inl last) n = at_mark last n
+        by_place quiet at_mark (inr (inl less)) n = inl (quiet less n)
+        by_place quiet at_mark (inr (inr beyond)) n = let within = is.within in absurd (let no : ⊥ = omega (arith, within, beyond) in no)
 
     torn_belongs : Told before → Belongs before → Belongs (spent_with o new)
     torn_belongs told was =
@@ -254,6 +301,7 @@ keeps_step d d' o o' old new (Ok Going) reels live tied is (less, dump_is, same,
       };
       told = told_kept d o old new reels live tied is wrote o' (ap (λ (x : OnlineFacts). is_some x.disc.held) same);
       belongs = λ told store was. subst Belongs both (going_belongs d o old new reels live tied is wrote less told was);
+      dumps = λ told store was safe. subst AreDumpsSafe both (safe_going d o old new reels live tied is wrote less told was safe);
     }
 keeps_step d d' o o' old new (Ok (Completed n)) reels live tied is (last, number, plan_is, wrote, closing) open_then tied' =
     let closed : HasClosed d.plan.number o o' = subst (λ (m : ℕ). HasClosed m o o') number closing.ok in
@@ -266,16 +314,19 @@ keeps_step d d' o o' old new (Ok (Completed n)) reels live tied is (last, number
       };
       told = told_kept d o old new reels live tied is wrote o' closing.told;
       belongs = λ told store was. completed_belongs d o old new reels live tied is wrote o' tied' last closed told was;
+      dumps = λ told store was safe. safe_completed d o old new reels live tied is wrote o' last told was safe;
     }
 keeps_step d d' o o' old new (Err Stopped) reels live tied is (plan_is, inl (failed, same)) open_then tied' = record {
   store = λ was. store_spent o' new tied';
   told = λ told. subst (λ (x : OnlineFacts). AllTold x.disc.held (told_reels new)) (sym same) (torn_told d o old new reels live tied is failed told);
   belongs = λ told store was. subst (λ (x : OnlineFacts). Belongs (spent_with x new)) (sym same) (torn_belongs d o old new reels live tied is failed told was);
+  dumps = λ told store was safe. can_only o' new (torn_can d o old new reels live tied is failed told was safe);
 }
 keeps_step d d' o o' old new (Err Stopped) reels live tied is (plan_is, inr (last, wrote, closing)) open_then tied' = record {
   store = λ was. store_spent o' new tied';
   told = told_kept d o old new reels live tied is wrote o' closing.told;
   belongs = λ told store was. closing_belongs d o old new reels live tied is wrote o' last closing.stopped told was;
+  dumps = λ told store was safe. safe_closing d o old new reels live tied is wrote o' last told was safe;
 }
 keeps_step d d' o o' old new (Err DiscReadFault) reels live tied is (dump_is, same, left) open_then tied' = record {
   store = λ was. record {
@@ -289,6 +340,7 @@ keeps_step d d' o o' old new (Err DiscReadFault) reels live tied is (dump_is, sa
     each = subst (λ (r : Rack). ReelsTold (told_reels r)) (sym same) told.each;
   };
   belongs = λ told store was. subst (λ (r : Rack). Belongs (up_with o' r None)) (sym same) (abandoned_belongs d o old new reels live tied is o' tied' left told was);
+  dumps = λ told store was safe. subst (λ (r : Rack). AreDumpsSafe (up_with o' r None)) (sym same) (safe_abandoned d o old new reels live tied is o' safe);
 }
 keeps_step d d' o o' old new (Err fault) reels live tied is never open_then tied' = absurd never
 
@@ -299,3 +351,58 @@ completes_step d d' o o' old new (Ok Going) number reels live tied is step same 
 completes_step d d' o o' old new (Ok (Completed n)) number reels live tied is (last, at, plan_is, wrote, closing) same =
     completes d o old new reels live tied is wrote o' last (subst (λ (m : ℕ). HasClosed m o o') at closing.ok)
 completes_step d d' o o' old new (Err fault) number reels live tied is step same = let no : ⊥ = cc in absurd no
+
+-- WHAT A POWER LOSS LEAVES at each moment of a step
+module _ (d : DumpFacts) (o : OnlineFacts) (old new : Rack) (reels : AreReels old.reels) (live : o.live ≡ true) (tied : IsTied o) (is : IsOpen d o old) (told : Told (up_with o old (Some d)))
+    (text : ℕ → List ℕ) (shelf : ℕ → List Dump) (shelved : AreShelved shelf (told_reels old)) (up : IsUp text shelf (up_with o old (Some d))) (content : List (List ℕ))
+    (has : content_in is.pins ≡ Some content) (safe : AreDumpsSafe (up_with o old (Some d))) where
+  abbrev LeavesEither : Rack → ℕ → Type 0
+  LeavesEither rack n = AfterPowerLoss n rack (λ left. AreCompleted n left (shelf n) ⊎ AreCompleted n left (with_dump (dump_of d.plan content) shelf n))
+
+  without : (rack : Rack) → AreShelved shelf (told_reels rack) → ((n : ℕ) → DumpsSurvive n rack) → (n : ℕ) → LeavesEither rack n
+  without rack there survive n blocks at left leaves = inl (left_shelved n rack shelf there (survive n) blocks at left leaves)
+
+  with_it : (rack : Rack) → AreShelved (with_dump (dump_of d.plan content) shelf) (told_reels rack) → ((n : ℕ) → DumpsSurvive n rack) → (n : ℕ) → LeavesEither rack n
+  with_it rack there survive n blocks at left leaves = inr (left_shelved n rack (with_dump (dump_of d.plan content) shelf) there (survive n) blocks at left leaves)
+
+  pub leaves_same : (n : ℕ) → LeavesEither old n
+  leaves_same = without old shelved (safe.up refl)
+
+  pub leaves_going : WroteBlock d o.pins old new → d.done + 1 < needs d.plan → (n : ℕ) → LeavesEither new n
+  leaves_going wrote less =
+      without new (shelved_then d old new (Torn wrote.block) old.write_faults wrote.rack shelf (quiet_shelf d o old reels told.each is text shelf shelved up content has (Torn wrote.block) less))
+      (dumps_going d o old reels told.each is text shelf shelved up content has safe new wrote less)
+
+  pub leaves_marked : WroteBlock d o.pins old new → d.done + 1 ≡ needs d.plan → (n : ℕ) → LeavesEither new n
+  leaves_marked wrote last =
+      with_it new (shelved_then d old new (Torn wrote.block) old.write_faults wrote.rack (with_dump (dump_of d.plan content) shelf)
+      (marked_shelf d o old reels told.each is text shelf shelved up content has last wrote.block (wrote.next.is is.pins is.pinned content has)))
+      (dumps_marked d o old reels told.each is text shelf shelved up content has safe new wrote last)
+
+  pub leaves_failed : FailedWrite d o.pins old new → (n : ℕ) → LeavesEither new n
+  leaves_failed failed = by_place (cases_order (d.done + 1) (needs d.plan))
+    where
+      by_place : (d.done + 1 ≡ needs d.plan) ⊎ ((d.done + 1 < needs d.plan) ⊎ (needs d.plan < d.done + 1)) → (n : ℕ) → LeavesEither new n
+      by_place (inl last) = left_at_mark d o old reels told.each is text shelf shelved up content has safe new failed last
+      by_place (inr (inl less)) =
+          without new (shelved_then d old new failed.how new.write_faults failed.rack shelf (quiet_shelf d o old reels told.each is text shelf shelved up content has failed.how less))
+          (dumps_failed d o old reels told.each is text shelf shelved up content has safe new failed less)
+      by_place (inr (inr beyond)) = let within = is.within in absurd (let no : ⊥ = omega (arith, within, beyond) in no)
+
+pub leaves_step : (d d' : DumpFacts) (o o' : OnlineFacts) (old new : Rack) (answer : Result Stepped StoreFault) → AreReels old.reels → o.live ≡ true → IsTied o → IsOpen d o old
+    → Stepping d o old answer d' o' new → LeavesDumps d (up_with o old (Some d)) (behind_step answer d' o' new)
+leaves_step d d' o o' old new (Ok Going) reels live tied is (less, dump_is, same, wrote) =
+    record { left = λ told is' text shelf shelved up content has safe. leaves_going d o old new reels live tied is' told text shelf shelved up content has safe wrote less }
+leaves_step d d' o o' old new (Ok (Completed n)) reels live tied is (last, number, plan_is, wrote, closing) =
+    record { left = λ told is' text shelf shelved up content has safe. leaves_marked d o old new reels live tied is' told text shelf shelved up content has safe wrote last }
+leaves_step d d' o o' old new (Err Stopped) reels live tied is (plan_is, inl (failed, same)) =
+    record { left = λ told is' text shelf shelved up content has safe. leaves_failed d o old new reels live tied is' told text shelf shelved up content has safe failed }
+leaves_step d d' o o' old new (Err Stopped) reels live tied is (plan_is, inr (last, wrote, closing)) =
+    record { left = λ told is' text shelf shelved up content has safe. leaves_marked d o old new reels live tied is' told text shelf shelved up content has safe wrote last }
+leaves_step d d' o o' old new (Err DiscReadFault) reels live tied is (dump_is, same, left) =
+    record {
+      left = λ told is' text shelf shelved up content has safe n.
+          subst (λ (r : Rack). AfterPowerLoss n r (λ left. AreCompleted n left (shelf n) ⊎ AreCompleted n left (with_dump (dump_of d.plan content) shelf n))) (sym same)
+          (leaves_same d o old old reels live tied is' told text shelf shelved up content has safe n);
+    }
+leaves_step d d' o o' old new (Err fault) reels live tied is never = absurd never

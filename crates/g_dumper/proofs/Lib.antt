@@ -8,4 +8,5 @@ pub mod OpeningLemmas
 pub mod PlanLemmas
 pub mod ReelLemmas
 pub mod RulesLemmas
+pub mod SafeLemmas
 pub mod ShelfLemmas

@@ -23,6 +23,9 @@ use Rattle.g_store_meaning.specs.Answers.{Belongs, Told}
 use Rattle.g_store_meaning.specs.Belonging.{DiscBelongs, IsPlaced, KeepsFile}
 use Rattle.g_store_meaning.specs.Meaning.{joined, told_reels}
 use Rattle.g_store_meaning.specs.Reading.{AllTold, ReelsTold}
+use Rattle.g_shelf.specs.Surviving.{DumpsSurvive, IsBegunDurably}
+use Rattle.g_shelf.proofs.SurvivingLemmas.{can_reads, survive_reads}
+use Rattle.g_store_meaning.specs.Surviving.{AreDumpsSafe}
 use Rattle.g_store_meaning.specs.StoreInvariant.{ArePinned, DumpFacts, IsOpen, IsUp}
 use Rattle.g_store_meaning.proofs.ChangeLemmas.{intents_belong}
 use Rattle.g_store_meaning.proofs.DirectoryLemmas.{all_up_to}
@@ -36,7 +39,7 @@ use Rattle.g_dumper.specs.Invariant.{KeepsStore, behind_opening, spent_with, up_
 use Rattle.g_dumper.proofs.BeginLemmas.{after_reads, reel_named}
 use Rattle.g_dumper.proofs.HeldLemmas.{held_of_one}
 use Rattle.g_dumper.proofs.IntentLemmas.{rules_here}
-use Rattle.g_dumper.proofs.KeepLemmas.{belongs_spent, belongs_up, store_spent, without_dump}
+use Rattle.g_dumper.proofs.KeepLemmas.{belongs_spent, belongs_up, can_only, store_spent, without_dump}
 use Rattle.g_dumper.proofs.ShelfLemmas.{reel_there, told_is}
 
 -- THE PINS HAVE THE TEXTS of their versions
@@ -233,6 +236,22 @@ module _ (serial : ℕ) (o new : OnlineFacts) (rack after : Rack) (live : o.live
       belongs_up text shelf (up_with new after None) tied_new live_new (read_shelf o rack after reads shelf shelved)
       (without_dump text shelf after o new contents changed (read_up o rack after reads text shelf up))
 
+-- THE DUMPS SURVIVE, since reads change nothing of that; and of a dump that is opened nothing is written yet
+safe_reads : (o new : OnlineFacts) (rack after : Rack) → OnlyReads rack after → (dump : Option DumpFacts) → ((d : DumpFacts) → dump ≡ Some d → d.done ≡ 0) → AreDumpsSafe (up_with o rack None)
+    → AreDumpsSafe (up_with new after dump)
+safe_reads o new rack after reads dump none safe = record {
+  up = λ unspent. survive;
+  can = λ n. inl (survive n);
+  open_dump = λ unspent. by dump none;
+}
+  where
+    survive : (n : ℕ) → DumpsSurvive n after
+    survive n = survive_reads n rack after reads.durable (blocks_after_reads n rack after reads) (safe.up refl n)
+
+    by : (x : Option DumpFacts) → ((d : DumpFacts) → x ≡ Some d → d.done ≡ 0) → IfSome x (λ d. 0 < d.done → IsBegunDurably d.plan.serial d.plan.place d.done after)
+    by None none = tt
+    by (Some d) none = λ some. absurd (let start = none d refl in let no : ⊥ = omega (arith, start, some) in no)
+
 -- WHAT A REFUSAL LEAVES
 touched_by : OnlineFacts → List ℕ → OnlineFacts
 touched_by o touched = record o { touched = touched }
@@ -266,6 +285,7 @@ refused_store serial o new rack after live pins tied tied_new reads touched is =
         pins = λ unspent none. ap (λ (x : OnlineFacts). x.pins) is ∙ pins;
       };
       told = told_after serial o new rack after live tied tied_new reads new.disc.held (ap (λ (x : OnlineFacts). is_some x.disc.held) is);
+      dumps = λ told store was safe. safe_reads o new rack after reads None (λ d none. absurd (none-some d none)) safe;
       belongs = λ told store was.
           refused_belongs serial o new rack after live tied tied_new reads (ap (λ (x : OnlineFacts). x.contents) is) (ap (λ (x : OnlineFacts). x.changed) is) live_new was;
     }
@@ -282,6 +302,7 @@ keeps_opening serial o new rack after (Ok d) live pins tied tied_new reads begin
   };
   told = told_after serial o new rack after live tied tied_new reads new.disc.held begins.opened.told;
   belongs = λ told store was. opening_belongs serial o new rack after live tied tied_new reads d begins told was;
+  dumps = λ told store was safe. safe_reads o new rack after reads (Some d) (λ e is. ap (λ (x : DumpFacts). x.done) (same_Some e d (sym is) ∙ begins.dump)) safe;
 }
 keeps_opening serial o new rack after (Err Stopped) live pins tied tied_new reads begins refuses left stopped =
     let was_stopped = stopped refl in
@@ -291,6 +312,7 @@ keeps_opening serial o new rack after (Err Stopped) live pins tied tied_new read
       store = λ was. store_spent new after tied_new;
       told = told_after serial o new rack after live tied tied_new reads new.disc.held was_stopped.left.told;
       belongs = λ told store was. stopped_belongs serial o new rack after live tied tied_new reads q q_is was_stopped told was;
+      dumps = λ told store was safe. can_only new after (λ n. can_reads n rack after reads.durable (blocks_after_reads n rack after reads) (safe.can n));
     }
 keeps_opening serial o new rack after (Err fault) live pins tied tied_new reads begins refuses left stopped =
     let is : new ≡ touched_by o new.touched = left_is fault o new (λ e. let no : ⊥ = cc in no) left in

@@ -1,5 +1,5 @@
 -- The completed dumps of the rack after a write of the next block of an open dump.
--- serves: KeepLemmas, OpeningLemmas, crates above
+-- serves: KeepLemmas, OpeningLemmas, SafeLemmas, crates above
 use Rattle.std.proofs.Common.{◌≡◌, ◌≢◌, ℕ, zero, suc, ◌+◌, ◌<◌, ◌≤◌, ◌==◌, Bool, true, List, [], ◌∷◌, ◌++◌, get_or, length, map, take, Option, Some, None, refl, sym, ◌∙◌, ap, arith, subst, inl, inr}
 use Rattle.std.specs.Prelude.{◌⊎◌, All, Contains, is_some, option_map, slice_get}
 use Rattle.std.specs.Option.{ForSome}
@@ -47,7 +47,7 @@ number_most last from (d ∷ ds) low all =
     number_most last (d.number + 1) ds (omega (arith, here)) (All-tail (λ (e : Dump). e.number ≤ last) d ds all)
 
 -- what a write leaves of the blocks
-left_blocks : (how : Remains) (k : ℕ) (r : Reel) (was blocks : List (List ℕ)) → r.blocks ≡ Some was → (left_by how k r).blocks ≡ Some blocks → blocks ≡ left_in how k was
+pub left_blocks : (how : Remains) (k : ℕ) (r : Reel) (was blocks : List (List ℕ)) → r.blocks ≡ Some was → (left_by how k r).blocks ≡ Some blocks → blocks ≡ left_in how k was
 left_blocks Unchanged k r was blocks at is = same_Some blocks was (sym is ∙ at)
 left_blocks Shortened k r was blocks at is = same_Some blocks (take k was) (sym is ∙ ap (option_map (take k)) at)
 left_blocks (Torn block) k r was blocks at is =
@@ -85,7 +85,7 @@ module _ (d : DumpFacts) (o : OnlineFacts) (old : Rack) (reels : AreReels old.re
   named_on : is.on.serial ≡ d.plan.serial
   named_on = reel_named d.plan.serial old.reels is.on is.reel_is
 
-  the_blocks : (blocks : List (List ℕ)) × (is.on.blocks ≡ Some blocks)
+  pub the_blocks : (blocks : List (List ℕ)) × (is.on.blocks ≡ Some blocks)
   the_blocks = told_is is.on.blocks (All-contains (λ (r : Reel). is_some r.blocks ≡ true) (told_reels old) (unread is.on) tell.each there_on)
 
   pub counts : count_of made + 2 ≡ needs d.plan
@@ -94,7 +94,7 @@ module _ (d : DumpFacts) (o : OnlineFacts) (old : Rack) (reels : AreReels old.re
       let files = length-made d.plan.serial 0 (first_content d.plan) d.plan.files in
       omega (arith, long, files)
 
-  now : AreCompleted d.plan.serial the_blocks.0 (shelf d.plan.serial)
+  pub now : AreCompleted d.plan.serial the_blocks.0 (shelf d.plan.serial)
   now = subst (λ (n : ℕ). AreCompleted n the_blocks.0 (shelf n)) named_on (shelved.each (unread is.on) there_on the_blocks.0 the_blocks.1)
 
   lowest : number_behind 0 (shelf d.plan.serial) ≤ d.plan.number
@@ -106,7 +106,7 @@ module _ (d : DumpFacts) (o : OnlineFacts) (old : Rack) (reels : AreReels old.re
       let number = is.number in
       omega (arith, all, number)
 
-  begun : IsBegun d.plan.serial the_blocks.0 (shelf d.plan.serial) d.done made
+  pub begun : IsBegun d.plan.serial the_blocks.0 (shelf d.plan.serial) d.done made
   begun =
       let right = is_reel d.plan.serial old.reels is.on reels.each is.reel_is in
       record {
@@ -130,7 +130,7 @@ module _ (d : DumpFacts) (o : OnlineFacts) (old : Rack) (reels : AreReels old.re
   other_reel : (n : ℕ) → (n ≡ d.plan.serial → ⊥) → with_dump made shelf n ≡ shelf n
   other_reel n other = cond-false (n == d.plan.serial) (shelf n ++ made ∷ []) (shelf n) (ne_eqb n d.plan.serial other)
 
-  this_reel : with_dump made shelf d.plan.serial ≡ shelf d.plan.serial ++ made ∷ []
+  pub this_reel : with_dump made shelf d.plan.serial ≡ shelf d.plan.serial ++ made ∷ []
   this_reel = cond-true (d.plan.serial == d.plan.serial) (shelf d.plan.serial ++ made ∷ []) (shelf d.plan.serial) (eq-eqb d.plan.serial d.plan.serial refl)
 
   abbrev ShelvedAs : (ℕ → List Dump) → Remains → Type 0

@@ -4,7 +4,9 @@ use Rattle.std.specs.Option.{ForSome}
 use Rattle.g_base.specs.Counts.{Rose}
 use Rattle.g_base.specs.Fuse.{burnt}
 use Rattle.g_tape.specs.Reel.{Remains, ending, left_by}
-use Rattle.g_tape.specs.Rack.{Rack, changed}
+use Rattle.g_tape.specs.declared.fault.TapeFault.TheVariants.{WriteFailed}
+use Rattle.g_tape.specs.Durable.{WritesDurably}
+use Rattle.g_tape.specs.Rack.{Rack, changed, reel, refuses_write}
 use Rattle.g_plain.specs.declared.faults.StoreFault.{StoreFault}
 use Rattle.g_plain.specs.declared.faults.StoreFault.TheVariants.{DiscReadFault, Stopped}
 use Rattle.g_store_model.specs.DumpSteps.{Stepped, Going, Completed}
@@ -25,13 +27,19 @@ pub record IsNextBlock (d : DumpFacts) (pins : Option (List Pin)) (block : List 
 pub record WroteBlock (d : DumpFacts) (pins : Option (List Pin)) (old new : Rack) : Type 0 where
   pub block : List ℕ
   pub next : IsNextBlock d pins block
-  pub rack : new ≡ record (changed d.plan.serial (ending (d.plan.place + d.done) block) old) { fuse = burnt old.fuse }
+  pub rack : new ≡ record (changed d.plan.serial (ending (d.plan.place + d.done) block) old) { fuse = burnt old.fuse; risks = new.risks }
+  pub free : refuses_write (d.plan.place + d.done) (reel d.plan.serial old.reels) ≡ None
+  pub durably : WritesDurably d.plan.serial (d.plan.place + d.done) block old (Ok tt) new
 
 -- The write of the block failed.
-pub record FailedWrite (d : DumpFacts) (old new : Rack) : Type 0 where
+pub record FailedWrite (d : DumpFacts) (pins : Option (List Pin)) (old new : Rack) : Type 0 where
+  pub block : List ℕ
+  pub next : IsNextBlock d pins block
   pub rose : Rose old.write_faults new.write_faults
   pub how : Remains
-  pub rack : new ≡ record (changed d.plan.serial (left_by how (d.plan.place + d.done)) old) { write_faults = new.write_faults; fuse = burnt old.fuse }
+  pub rack : new ≡ record (changed d.plan.serial (left_by how (d.plan.place + d.done)) old) { write_faults = new.write_faults; fuse = burnt old.fuse; risks = new.risks }
+  pub free : refuses_write (d.plan.place + d.done) (reel d.plan.serial old.reels) ≡ None
+  pub durably : WritesDurably d.plan.serial (d.plan.place + d.done) block old (Err WriteFailed) new
 
 -- A read of the disc failed, for a block of a version, and the versions are no longer pinned.
 pub record Abandoned (d : DumpFacts) (old new : OnlineFacts) : Type 0 where
@@ -47,7 +55,7 @@ Stepping d o r (Ok Going) d' o' r' = (d.done + 1 < needs d.plan) × (d' ≡ reco
 Stepping d o r (Ok (Completed n)) d' o' r' = (d.done + 1 ≡ needs d.plan) × (n ≡ d.plan.number) × (d'.plan ≡ d.plan) × WroteBlock d o.pins r r' × IsClosing n o o' (Ok tt)
 Stepping d o r (Err DiscReadFault) d' o' r' = (d' ≡ d) × (r' ≡ r) × Abandoned d o o'
 Stepping d o r (Err Stopped) d' o' r' = (d'.plan ≡ d.plan)
-    × ((FailedWrite d r r' × (o' ≡ o)) ⊎ ((d.done + 1 ≡ needs d.plan) × WroteBlock d o.pins r r' × IsClosing d.plan.number o o' (Err online.Stopped)))
+    × ((FailedWrite d o.pins r r' × (o' ≡ o)) ⊎ ((d.done + 1 ≡ needs d.plan) × WroteBlock d o.pins r r' × IsClosing d.plan.number o o' (Err online.Stopped)))
 Stepping d o r (Err fault) d' o' r' = ⊥
 
 -- The code's answer, as the step of a state has it.

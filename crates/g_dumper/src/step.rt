@@ -4,7 +4,7 @@ ghost use Rattle.g_disc_contents.specs.Facts.{IsTied, Pin};
 ghost use Rattle.g_incr.specs.Plan.{first_content, needs, waiting};
 ghost use Rattle.g_store_meaning.specs.StoreInvariant.{ArePinned, IsOpen};
 ghost use Rattle.g_store_model.specs.DumpSteps.{Completed, Going};
-ghost use Rattle.g_dumper.specs.Invariant.{CompletesOpening, KeepsStore, behind_step, up_with};
+ghost use Rattle.g_dumper.specs.Invariant.{CompletesOpening, KeepsStore, LeavesDumps, behind_step, up_with};
 ghost use Rattle.g_dumper.specs.Steps.{Abandoned, IsNextBlock, Stepping, stepped_of};
 
 use crate::dump::{Dump, DumpStep};
@@ -32,6 +32,8 @@ impl Dump {
         ensures open { stepped_of result ≡ Ok Going → IsOpen self.new online.new (T.rack tapes.new) }
         ensures tied { IsTied online.new }
         ensures keeps { KeepsStore (up_with online.old (T.rack tapes.old) (Some self.old))
+            (behind_step (stepped_of result) self.new online.new (T.rack tapes.new)) }
+        ensures left { LeavesDumps self.old (up_with online.old (T.rack tapes.old) (Some self.old))
             (behind_step (stepped_of result) self.new online.new (T.rack tapes.new)) }
         ensures dumped { (number : ℕ) → stepped_of result ≡ Ok (Completed number)
             → CompletesOpening self.old (up_with online.old (T.rack tapes.old) (Some self.old))

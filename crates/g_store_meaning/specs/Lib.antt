@@ -7,3 +7,4 @@ pub mod OneState
 pub mod Reading
 pub mod Staying
 pub mod StoreInvariant
+pub mod Surviving
