@@ -82,7 +82,7 @@ content_told next files (p ∷ ps) all = by_first p.blocks refl (content_told ne
 
 -- the rack after a write of the next block
 module _ (d : DumpFacts) (old new : Rack) (how : Remains) (faults : ℕ)
-    (is : new ≡ record (changed d.plan.serial (left_by how (d.plan.place + d.done)) old) { write_faults = faults; fuse = burnt old.fuse }) where
+    (is : new ≡ record (changed d.plan.serial (left_by how (d.plan.place + d.done)) old) { write_faults = faults; fuse = burnt old.fuse; risks = new.risks }) where
   abbrev reels_then : List Reel
   reels_then = with_reel d.plan.serial (left_by how (d.plan.place + d.done)) old.reels
 

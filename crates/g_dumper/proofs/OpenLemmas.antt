@@ -90,7 +90,7 @@ module _ (d : DumpFacts) (o : OnlineFacts) (old : Rack) (reels : AreReels old.re
 
 -- what the code did, by the numbers that it has besides its writer
 pub wrote_by : (d : DumpFacts) (pins : Option (List Pin)) (serial place : ℕ) (block : List ℕ) (old new : Rack) → serial ≡ d.plan.serial → place ≡ d.plan.place → IsNextBlock d pins block
-    → new ≡ record (changed serial (ending (place + d.done) block) old) { fuse = burnt old.fuse } → WroteBlock d pins old new
+    → new ≡ record (changed serial (ending (place + d.done) block) old) { fuse = burnt old.fuse; risks = new.risks } → WroteBlock d pins old new
 wrote_by d pins serial place block old new serial_is place_is next rack = record {
   block = block;
   next = next;
@@ -98,10 +98,10 @@ wrote_by d pins serial place block old new serial_is place_is next rack = record
 }
   where
     write_at : ℕ → ℕ → Rack
-    write_at s p = record (changed s (ending (p + d.done) block) old) { fuse = burnt old.fuse }
+    write_at s p = record (changed s (ending (p + d.done) block) old) { fuse = burnt old.fuse; risks = new.risks }
 
 pub goes_on : (d : DumpFacts) (o same : OnlineFacts) (old new : Rack) (serial place : ℕ) (block : List ℕ) → AreReels old.reels → IsOpen d o old → same ≡ o → serial ≡ d.plan.serial → place ≡ d.plan.place
-    → IsNextBlock d o.pins block → new ≡ record (changed serial (ending (place + d.done) block) old) { fuse = burnt old.fuse } → d.done + 1 < needs d.plan
+    → IsNextBlock d o.pins block → new ≡ record (changed serial (ending (place + d.done) block) old) { fuse = burnt old.fuse; risks = new.risks } → d.done + 1 < needs d.plan
     → IsOpen (record { plan = d.plan; done = d.done + 1 }) same new
 goes_on d o same old new serial place block reels is unchanged serial_is place_is next rack less =
     let wrote = wrote_by d o.pins serial place block old new serial_is place_is next rack in

@@ -25,13 +25,13 @@ pub record IsNextBlock (d : DumpFacts) (pins : Option (List Pin)) (block : List 
 pub record WroteBlock (d : DumpFacts) (pins : Option (List Pin)) (old new : Rack) : Type 0 where
   pub block : List ℕ
   pub next : IsNextBlock d pins block
-  pub rack : new ≡ record (changed d.plan.serial (ending (d.plan.place + d.done) block) old) { fuse = burnt old.fuse }
+  pub rack : new ≡ record (changed d.plan.serial (ending (d.plan.place + d.done) block) old) { fuse = burnt old.fuse; risks = new.risks }
 
 -- The write of the block failed.
 pub record FailedWrite (d : DumpFacts) (old new : Rack) : Type 0 where
   pub rose : Rose old.write_faults new.write_faults
   pub how : Remains
-  pub rack : new ≡ record (changed d.plan.serial (left_by how (d.plan.place + d.done)) old) { write_faults = new.write_faults; fuse = burnt old.fuse }
+  pub rack : new ≡ record (changed d.plan.serial (left_by how (d.plan.place + d.done)) old) { write_faults = new.write_faults; fuse = burnt old.fuse; risks = new.risks }
 
 -- A read of the disc failed, for a block of a version, and the versions are no longer pinned.
 pub record Abandoned (d : DumpFacts) (old new : OnlineFacts) : Type 0 where

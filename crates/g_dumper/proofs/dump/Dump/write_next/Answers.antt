@@ -26,7 +26,7 @@ pub returns-then-self-needs-clause-open : goal.returns-then-self-needs-clause-op
 returns-then-self-needs-clause-open g c = λ _.
     let d : DumpFacts = record { plan = c.self.inside.writer; done = c.self.inside.done } in
     let is = subst (λ (e : DumpFacts). IsOpen e c.args.online.now (g.T.Tapes.rack c.args.tapes.now)) (sym c.self.view_is) c.requires.open in
-    goes_on d _ _ _ _ _ _ _ (g.met.T.Tapes.well_formed _) is c.in-Ok.ensures.same c.self.invariant.serial_is c.self.invariant.place_is c.in-Ok.ensures.block c.in-Ok-write.ensures.2
+    goes_on d _ _ _ _ _ _ _ (g.met.T.Tapes.well_formed _) is c.in-Ok.ensures.same c.self.invariant.serial_is c.self.invariant.place_is c.in-Ok.ensures.block c.in-Ok-write.ensures.written.2
     (subst (λ n. c.self.inside.done + 1 < n) c.needs.ensures c.if-self-needs.true)
 
 pub close_dump-requires-clause-rules : goal.close_dump-requires-clause-rules
