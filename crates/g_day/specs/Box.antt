@@ -20,7 +20,7 @@ nothing = record {
       pages = record { a = []; b = []; marks_a = []; marks_b = [] };
     };
   };
-  rack = record { reels = []; read_faults = 0; write_faults = 0; fuse = None; arms = never };
+  rack = record { reels = []; read_faults = 0; write_faults = 0; fuse = None; arms = never; risks = [] };
   dump = None;
   spent = false;
 }

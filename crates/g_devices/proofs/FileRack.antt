@@ -1,6 +1,6 @@
 -- The calls of a rack of files, by what was done to the reel of the serial.
 -- serves: mount, put_behind (rack), read, secure, unmount, write
-use Rattle.std.proofs.Common.{◌≡◌, ℕ, ◌+◌, ◌<◌, List, [], ◌∷◌, ◌++◌, Option, Some, None, is_some, Ok, Err, length, map, get_or, inl, inr, ap, subst, sym, ◌∙◌, arith, length-append}
+use Rattle.std.proofs.Common.{◌≡◌, ℕ, ◌+◌, ◌<◌, List, [], ◌∷◌, ◌++◌, Option, Some, None, is_some, Result, Ok, Err, length, map, get_or, inl, inr, ap, subst, sym, ◌∙◌, arith, length-append}
 use Rattle.std.specs.Prelude.{All}
 use Rattle.std.specs.List.Sorted.{IsStrictlyIncreasing}
 use Rattle.std.proofs.Math.ListN.{set}
@@ -10,17 +10,22 @@ use Rattle.std.proofs.lemmas.List.{get_or_append_left, get_or-map, length-map, m
 use Rattle.std.proofs.lemmas.List.Elements.{All-push}
 use Rattle.g_base.specs.Counts.{one_more}
 use Rattle.g_base.specs.Fuse.{burnt}
-use Rattle.g_tape.specs.declared.fault.TapeFault.TheVariants.{ReadFailed, WriteFailed}
+use Rattle.g_tape.specs.declared.fault.TapeFault.{TapeFault}
+use Rattle.g_tape.specs.declared.fault.TapeFault.TheVariants.{NoTape, NotMounted, End, ReadFailed, WriteFailed}
+use Rattle.g_tape.specs.Durable.{SecuresDurably}
 use Rattle.g_tape.specs.Reel.{IsReel, Reel, Remains, Shortened, Torn, Unchanged, ending, left_by, read_at}
 use Rattle.g_tape.specs.Rack.{AreReels, Rack, Reading, Securing, Writing, refuses_read, refuses_write, with_reel}
 use Rattle.g_tape.specs.Place.{IsPlaceOf}
+use Rattle.g_tape.proofs.DurableLemmas.{secures_durably}
 use Rattle.g_tape.proofs.MemoryLemmas.{at-place}
 use Rattle.g_tape.proofs.RackLemmas.{with_reel-place}
+use Rattle.g_tape.proofs.ReadLemmas.{same_risks}
+use Rattle.g_tape.specs.Reads as reads
 use Rattle.g_devices.specs.declared.file_tapes.FileTapes.{FileTapes}
 
 -- a rack over files, as every rack is seen
 abbrev pub rack_of : FileTapes → Rack
-rack_of t = record { reels = t.reels.items; read_faults = t.read_faults; write_faults = t.write_faults; fuse = t.fuse; arms = t.arms }
+rack_of t = record { reels = t.reels.items; read_faults = t.read_faults; write_faults = t.write_faults; fuse = t.fuse; arms = t.arms; risks = [] }
 
 -- a reel that tells no counts of reads is the same when it was read
 unread : (k : ℕ) (r : Reel) → r.times_read ≡ None → r ≡ read_at k r
@@ -88,6 +93,21 @@ module _ (s k i : ℕ) (old : Rack) (was : Reel) (place : IsPlaceOf s old.reels 
         record { more = omega arith },
         ap (λ (rs : List Reel). let rack : Rack = record old { reels = rs; read_faults = faults } in rack) same,
       )
+
+-- Securing a reel, however it ends, changes no block.
+secured_reels : (s : ℕ) (old new : Rack) (result : Result (Unit {0}) TapeFault) → Securing s old result new → new.reels ≡ old.reels
+secured_reels s old new (Ok u) (there, is) = ap (λ (r : Rack). r.reels) is
+secured_reels s old new (Err ReadFailed) (there, rose, is) = ap (λ (r : Rack). r.reels) is
+secured_reels s old new (Err NoTape) (missing, is) = ap (λ (r : Rack). r.reels) is
+secured_reels s old new (Err NotMounted) never = absurd never
+secured_reels s old new (Err End) never = absurd never
+secured_reels s old new (Err WriteFailed) never = absurd never
+
+pub secured_durably : (s : ℕ) (old new : Rack) → old.risks ≡ [] → new.risks ≡ [] → (result : Result (Unit {0}) TapeFault) → Securing s old result new
+    → SecuresDurably s old result new
+secured_durably s old new before after result securing =
+    let more = same_risks old new (ap (map reads.unread) (secured_reels s old new result securing)) (after ∙ sym before) in
+    secures_durably s old new before after more result
 
 -- whatever a failed write left, it is the reel of the same serial
 pub serial_left : (k : ℕ) (old new : Reel) → ((how : Remains) × (new ≡ left_by how k old)) → new.serial ≡ old.serial

@@ -1,5 +1,5 @@
 //! A rack of files, one for each reel. Contracts see none of their contents; each failure is counted.
-ghost use Rattle.std.specs.Prelude.{◌≡◌, ◌≤◌, None, Some, MatchOption, true, false};
+ghost use Rattle.std.specs.Prelude.{◌≡◌, ◌≤◌, [], None, Some, MatchOption, true, false};
 ghost use Rattle.g_base.specs.Fuse.{BurnsByFailures};
 ghost use Rattle.g_tape.specs.Place.{IsPlaceOf};
 ghost use Rattle.g_tape.specs.Rack.{AreReels, reel};
@@ -72,6 +72,7 @@ impl Tapes for FileTapes {
       write_faults = t.write_faults;
       fuse = t.fuse;
       arms = t.arms;
+      risks = [];
     } };
 
     fn reels(&self) -> usize {

@@ -78,13 +78,13 @@ behind_write s k block (Err fault) p = p
 
 -- what a write refuses, and what it leaves
 write_said : (s k : ℕ) (block : List ℕ) (p p' : Rack) (r : Answer) → Writing s k block p r p' → r ≢ Err WriteFailed
-    → (refuses_write k (reel s p.reels) ≡ refusal r) × (p' ≡ behind_write s k block r p)
-write_said s k block p p' (Ok u) is not_failed = (is.0, is.2)
+    → (refuses_write k (reel s p.reels) ≡ refusal r) × Alike p' (behind_write s k block r p)
+write_said s k block p p' (Ok u) is not_failed = (is.0, ap uncounted is.2)
 write_said s k block p p' (Err WriteFailed) is not_failed = absurd (not_failed refl)
 write_said s k block p p' (Err ReadFailed) is not_failed = absurd is
-write_said s k block p p' (Err NoTape) is not_failed = (is.0, is.1)
-write_said s k block p p' (Err NotMounted) is not_failed = (is.0, is.1)
-write_said s k block p p' (Err End) is not_failed = (is.0, is.1)
+write_said s k block p p' (Err NoTape) is not_failed = (is.0, ap uncounted is.1)
+write_said s k block p p' (Err NotMounted) is not_failed = (is.0, ap uncounted is.1)
+write_said s k block p p' (Err End) is not_failed = (is.0, ap uncounted is.1)
 
 alike_write : (s k : ℕ) (block : List ℕ) (r : Answer) (p q : Rack) → Alike p q → Alike (behind_write s k block r p) (behind_write s k block r q)
 alike_write s k block (Ok u) p q same = ap (λ (x : Rack). record (changed s (ending k block) x) { fuse = burnt x.fuse }) same
@@ -97,8 +97,8 @@ writes_alike s k block p q p' q' r r' same one two well well' =
     let here = write_said s k block p p' r one well in
     let there = write_said s k block q q' r' two well' in
     let answers : r ≡ r' = refusal-one r r' (sym here.0 ∙ ap (refuses_write k) reels ∙ there.0) in
-    let right : q' ≡ behind_write s k block r q = there.1 ∙ ap (λ (x : Answer). behind_write s k block x q) (sym answers) in
-    (answers, ap uncounted here.1 ∙ alike_write s k block r p q same ∙ sym (ap uncounted right))
+    let right : Alike q' (behind_write s k block r q) = there.1 ∙ ap (λ (x : Answer). uncounted (behind_write s k block x q)) (sym answers) in
+    (answers, here.1 ∙ alike_write s k block r p q same ∙ sym right)
 
 pub racks_answer_alike : AnswerAlike
 racks_answer_alike = record { reads = reads_alike; writes = writes_alike }

@@ -1,6 +1,7 @@
 pub mod AlikeLemmas
 pub mod CompareLemmas
 pub mod CopyLemmas
+pub mod DurableLemmas
 pub mod FailLemmas
 pub mod KeepLemmas
 pub mod LoseLemmas
@@ -10,6 +11,7 @@ pub mod PairLemmas
 pub mod PlaceLemmas
 pub mod ReadLemmas
 pub mod RebuildLemmas
+pub mod RiskLemmas
 pub mod SecureLemmas
 pub mod UnreadLemmas
 pub mod WriteLemmas

@@ -18,16 +18,8 @@ use Rattle.g_duplex.specs.declared.twin.Standing.{Standing}
 use Rattle.g_duplex.specs.declared.twin.Standing.TheVariants.{Level, Apart, Lost}
 use Rattle.g_duplex.proofs.PairLemmas.{AreAt, at_standing, seen_at}
 use Rattle.g_duplex.proofs.ReadLemmas.{second_of}
+use Rattle.g_duplex.proofs.RiskLemmas.{standing_set}
 use Rattle.g_duplex.proofs.WriteLemmas.{free_write}
-
-standing_set : (s : ℕ) (xs : List Reel) (ts : List Standing) (t u : Standing) → standing s xs ts ≡ Some t → standing s xs (with_standing s (λ (v : Standing). u) xs ts) ≡ Some u
-standing_set s [] ts t u is = let wrong : None ≡ Some t = is in absurd (cc)
-standing_set s (x ∷ xs) [] t u is = let wrong : None ≡ Some t = is in absurd (cc)
-standing_set s (x ∷ xs) (v ∷ ts) t u is =
-    elim (eqb_tells s x.serial) [
-      | inl here ↦ rw (here.0, here.0) refl
-      | inr apart ↦ rw (apart.0, apart.0) (standing_set s xs ts t u (rw apart.0 at is))
-    ]
 
 set_once : (s : ℕ) (xs : List Reel) (ts : List Standing) (t u v : Standing) → standing s xs ts ≡ Some t
     → with_standing s (λ (w : Standing). u) xs ts ≡ with_standing s (λ (w : Standing). v) xs ts → u ≡ v

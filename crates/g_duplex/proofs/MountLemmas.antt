@@ -7,14 +7,16 @@ use Rattle.g_tape.specs.declared.fault.TapeFault.{TapeFault}
 use Rattle.g_tape.specs.declared.fault.TapeFault.TheVariants.{NoTape, NotMounted}
 use Rattle.g_tape.specs.Reel.{Reel, with_mounted}
 use Rattle.g_tape.specs.Rack.{Mounting, Rack, changed, is_mounted, reel, refuses_mount, refuses_unmount, told_of, with_reel}
+use Rattle.g_tape.specs.Risk.{Risk}
 use Rattle.g_duplex.specs.Twins.{AreTwins, DoAgree, are_up, leader, of_leader, pair_reel}
-use Rattle.g_duplex.specs.Pair.{ArePaired, Pair, lost_of, pair_reels, shown, standing}
+use Rattle.g_duplex.specs.Pair.{ArePaired, Pair, lost_of, pair_reels, pair_risks, shown, standing}
 use Rattle.g_duplex.specs.Calls.{Answer, PairMounts, PairUnmounts}
 use Rattle.g_duplex.specs.declared.twin.Twin.TheVariants.{First, Second}
 use Rattle.g_duplex.specs.declared.twin.Standing.{Standing}
 use Rattle.g_duplex.specs.declared.twin.Standing.TheVariants.{Level, Apart, Lost}
 use Rattle.g_duplex.proofs.PairLemmas.{AreAt, at_of, at_standing, labels_kept, pair_changed, paired_changed, same_standings, seen_at}
 use Rattle.g_duplex.proofs.PlaceLemmas.{long_standings, lost_same}
+use Rattle.g_duplex.proofs.RiskLemmas.{risks_mounted}
 
 -- A serial that the rack doesn't have.
 pub none_seen : (s : ℕ) (ts : List Standing) (xs ys : List Reel) → ArePaired ts xs ys → reel s xs ≡ None → (reel s ys ≡ None) × (reel s (pair_reels ts xs ys) ≡ None)
@@ -112,6 +114,16 @@ module _ (is : Bool) (s : ℕ) (ts : List Standing) (xs ys : List Reel) (paired 
         agree = agree_mounted is t a b twins.agree;
       }))
 
+-- the rack that is seen then
+mounted_shown : (is : Bool) (s : ℕ) (p : Pair) (first' second' : Rack) → pair_reels p.standings first'.reels second'.reels ≡ with_reel s (with_mounted is) (shown p).reels
+    → first'.risks ≡ p.first.risks → second'.risks ≡ p.second.risks → shown (record p { first = first'; second = second' }) ≡ changed s (with_mounted is) (shown p)
+mounted_shown is s p first' second' reels one two =
+    ap (λ (rs : List Reel). let r : Rack = record (shown p) { reels = rs; risks = pair_risks p.standings rs first'.risks second'.risks } in r) reels
+    ∙ ap (λ (ks : List Risk). let r : Rack = record (changed s (with_mounted is) (shown p)) { risks = ks } in r)
+    (ap (λ (ks : List Risk). pair_risks p.standings (with_reel s (with_mounted is) (shown p).reels) ks second'.risks) one
+    ∙ ap (pair_risks p.standings (with_reel s (with_mounted is) (shown p).reels) p.first.risks) two
+    ∙ risks_mounted is s p.standings (shown p).reels p.first.risks p.second.risks)
+
 mount_there : (o : Option Reel) (x : Reel) (fault : TapeFault) → o ≡ Some x → refuses_mount o ≡ Some fault → ⊥
 mount_there o x fault there is = let never : None ≡ Some fault = sym (ap refuses_mount there) ∙ is in cc
 
@@ -143,7 +155,7 @@ pair_mounts s p first' second' u (Ok v) paired one two =
     subst (λ (r : Rack). ArePaired p.standings r.reels second'.reels) (sym one.1)
     (subst (λ (r : Rack). ArePaired p.standings (with_reel s (with_mounted true) p.first.reels) r.reels) (sym two.1) (paired_mounted true s p.standings p.first.reels p.second.reels paired)) in
     let mounts : PairMounts s p (Ok v) (record p { first = first'; second = second' }) = record {
-      mounting = (ap refuses_mount seen, ap (λ (rs : List Reel). let r : Rack = record (shown p) { reels = rs } in r) reels);
+      mounting = (ap refuses_mount seen, mounted_shown true s p first' second' reels (ap (λ (r : Rack). r.risks) one.1) (ap (λ (r : Rack). r.risks) two.1));
       both = refl;
       first = one;
       second = two;
@@ -226,7 +238,7 @@ pair_unmounts s n p first' second' one two paired told up is is' =
     subst (λ (r : Rack). ArePaired p.standings r.reels second'.reels) (sym left)
     (subst (λ (r : Rack). ArePaired p.standings (with_reel s (with_mounted false) p.first.reels) r.reels) (sym left') (paired_mounted false s p.standings p.first.reels p.second.reels paired)) in
     let unmounts : PairUnmounts s p (Ok tt) (record p { first = first'; second = second' }) = record {
-      mounting = (unmount_up (reel s (shown p).reels) up, ap (λ (rs : List Reel). let r : Rack = record (shown p) { reels = rs } in r) reels);
+      mounting = (unmount_up (reel s (shown p).reels) up, mounted_shown false s p first' second' reels (ap (λ (r : Rack). r.risks) left) (ap (λ (r : Rack). r.risks) left'));
       both = refl;
       first = left;
       second = left';

@@ -10,9 +10,10 @@ use Rattle.g_tape.specs.declared.fault.TapeFault.TheVariants.{NoTape, NotMounted
 use Rattle.g_tape.specs.Reel.{Reel, read_at}
 use Rattle.g_tape.specs.Rack.{Rack, Reading, changed, reel, refuses_read}
 use Rattle.g_tape.specs.Reads.{OnlyReads, unread}
+use Rattle.g_tape.specs.Risk.{Risk}
 use Rattle.g_tape.proofs.ReadLemmas.{nothing_read, reading_only}
-use Rattle.g_duplex.specs.Twins.{AreTwins, DoAgree, are_up, may_help, of_leader, of_other, pair_reel, told_with}
-use Rattle.g_duplex.specs.Pair.{ArePaired, Pair, pair_reels, shown, standing_in}
+use Rattle.g_duplex.specs.Twins.{AreTwins, DoAgree, are_up, leader, may_help, of_leader, of_other, pair_reel, told_with}
+use Rattle.g_duplex.specs.Pair.{ArePaired, Pair, pair_reels, pair_risks, shown, standing_in}
 use Rattle.g_duplex.specs.Calls.{Answer, HasAsked, Helps, PairReads, ReadsOn, behind, counted, leading}
 use Rattle.g_duplex.specs.declared.twin.Twin.TheVariants.{First, Second}
 use Rattle.g_duplex.specs.declared.twin.Standing.{Standing}
@@ -86,7 +87,7 @@ helper_same k Level a b p q may agree at at' = ap (λ (bs : List (List ℕ)). sl
 helper_same k (Apart j) a b p q may agree at at' = get_same k j p q (ltb-true k j may) (agree.2 p at q at')
 helper_same k (Lost twin) a b p q may agree at at' = let never : false ≡ true = may in absurd (cc)
 
-told_both : (x y : Option (List (List ℕ))) (bs : List (List ℕ)) → told_with x y ≡ Some bs → (x ≡ Some bs) × (q : List (List ℕ)) × (y ≡ Some q)
+pub told_both : (x y : Option (List (List ℕ))) (bs : List (List ℕ)) → told_with x y ≡ Some bs → (x ≡ Some bs) × (q : List (List ℕ)) × (y ≡ Some q)
 told_both None y bs is = absurd (cc)
 told_both (Some x) None bs is = absurd (cc)
 told_both (Some x) (Some y) bs is = (is, y, refl)
@@ -117,6 +118,21 @@ to_second P (Apart k) f g f' g' one two = two
 to_second P (Lost First) f g f' g' one two = one
 to_second P (Lost Second) f g f' g' one two = two
 
+-- and a relation of all four racks is one by who leads
+pub from_first : (P : Rack → Rack → Rack → Rack → Type 0) (t : Standing) (f g f' g' : Rack) → leader t ≡ First → P f g f' g'
+    → P (of_leader t f g) (of_other t f g) (of_leader t f' g') (of_other t f' g')
+from_first P Level f g f' g' leads is = is
+from_first P (Apart k) f g f' g' leads is = is
+from_first P (Lost First) f g f' g' leads is = let never : Second ≡ First = leads in absurd (cc)
+from_first P (Lost Second) f g f' g' leads is = is
+
+pub from_second : (P : Rack → Rack → Rack → Rack → Type 0) (t : Standing) (f g f' g' : Rack) → leader t ≡ Second → P g f g' f'
+    → P (of_leader t f g) (of_other t f g) (of_leader t f' g') (of_other t f' g')
+from_second P Level f g f' g' leads is = let never : First ≡ Second = leads in absurd (cc)
+from_second P (Apart k) f g f' g' leads is = let never : First ≡ Second = leads in absurd (cc)
+from_second P (Lost First) f g f' g' leads is = is
+from_second P (Lost Second) f g f' g' leads is = let never : First ≡ Second = leads in absurd (cc)
+
 -- nothing was read
 nothing_else : (old new : Rack) → new ≡ old → OnlyReads old new
 nothing_else old new same = subst (OnlyReads old) (sym same) (nothing_read old)
@@ -139,13 +155,50 @@ pub both_only : (may : Bool) (s k : ℕ) (lead other lead' other' : Rack) (resul
 both_only may s k lead other lead' other' result into (answer, block, reading, on) =
     (reading_only s k lead lead' answer block reading, on_only may s k other other' answer result block into on)
 
+-- nor does what a power loss may leave of either rack change
+abbrev SameRisks : Rack → Rack → Type 0
+SameRisks old new = new.risks ≡ old.risks
+
+reading_risks : (s k : ℕ) (old new : Rack) (result : Answer) (into : List ℕ) → Reading s k old result into new → SameRisks old new
+reading_risks s k old new (Ok u) into (free, block, is) = ap (λ (r : Rack). r.risks) is
+reading_risks s k old new (Err ReadFailed) into (free, rose, is) = ap (λ (r : Rack). r.risks) is
+reading_risks s k old new (Err WriteFailed) into never = absurd never
+reading_risks s k old new (Err NoTape) into (refused, is) = ap (λ (r : Rack). r.risks) is
+reading_risks s k old new (Err NotMounted) into (refused, is) = ap (λ (r : Rack). r.risks) is
+reading_risks s k old new (Err End) into (refused, is) = ap (λ (r : Rack). r.risks) is
+
+helps_same_risks : (may : Bool) (s k : ℕ) (old new : Rack) (result : Answer) (into : List ℕ) → Helps may s k old result into new → SameRisks old new
+helps_same_risks true s k old new result into is = reading_risks s k old new result into is
+helps_same_risks false s k old new result into is = ap (λ (r : Rack). r.risks) is.1
+
+on_same_risks : (may : Bool) (s k : ℕ) (old new : Rack) (answer result : Answer) (block into : List ℕ) → ReadsOn may s k answer block old result into new → SameRisks old new
+on_same_risks may s k old new (Ok u) result block into is = ap (λ (r : Rack). r.risks) is.2
+on_same_risks may s k old new (Err ReadFailed) result block into is = helps_same_risks may s k old new result into is
+on_same_risks may s k old new (Err WriteFailed) result block into is = ap (λ (r : Rack). r.risks) is.2
+on_same_risks may s k old new (Err NoTape) result block into is = ap (λ (r : Rack). r.risks) is.2
+on_same_risks may s k old new (Err NotMounted) result block into is = ap (λ (r : Rack). r.risks) is.2
+on_same_risks may s k old new (Err End) result block into is = ap (λ (r : Rack). r.risks) is.2
+
+both_same_risks : (may : Bool) (s k : ℕ) (lead other lead' other' : Rack) (result : Answer) (into : List ℕ) → HasAsked may s k lead other result into lead' other'
+    → SameRisks lead lead' × SameRisks other other'
+both_same_risks may s k lead other lead' other' result into (answer, block, reading, on) =
+    (reading_risks s k lead lead' answer block reading, on_same_risks may s k other other' answer result block into on)
+
 -- THE READ of a pair that isn't refused
 module _ (s k : ℕ) (p : Pair) (t : Standing) (a b : Reel) (first' second' : Rack) (into : List ℕ)
     (twins : AreTwins t a b) (at : AreAt s t a b p.standings p.first.reels p.second.reels)
     (seen : reel s (shown p).reels ≡ Some (pair_reel t a b)) (free : refuses_read k (reel s (shown p).reels) ≡ None)
-    (same : pair_reels p.standings first'.reels second'.reels ≡ pair_reels p.standings p.first.reels p.second.reels) where
+    (same : pair_reels p.standings first'.reels second'.reels ≡ pair_reels p.standings p.first.reels p.second.reels)
+    (first_risks : first'.risks ≡ p.first.risks) (second_risks : second'.risks ≡ p.second.risks) where
   abbrev after : Answer → Pair
   after result = record p { first = first'; second = second'; read_faults = counted result p.read_faults }
+
+  -- what is seen then, with this number of failed reads
+  seen_then : (n : ℕ) → shown (record p { first = first'; second = second'; read_faults = n }) ≡ record (shown p) { read_faults = n }
+  seen_then n =
+      ap (λ (rs : List Reel). let r : Rack = record (shown p) { reels = rs; read_faults = n; risks = pair_risks p.standings rs first'.risks second'.risks } in r) same
+      ∙ ap (λ (ks : List Risk). let r : Rack = record (shown p) { read_faults = n; risks = pair_risks p.standings (shown p).reels ks second'.risks } in r) first_risks
+      ∙ ap (λ (ks : List Risk). let r : Rack = record (shown p) { read_faults = n; risks = pair_risks p.standings (shown p).reels p.first.risks ks } in r) second_risks
 
   is_free : (are_up t a.mounted b.mounted ≡ true) × (nat_lt k (of_leader t a b).len ≡ true)
   is_free = free_read k (pair_reel t a b) (sym (ap (refuses_read k) seen) ∙ free)
@@ -180,14 +233,15 @@ module _ (s k : ℕ) (p : Pair) (t : Standing) (a b : Reel) (first' second' : Ra
   reads_well u block = (
     free,
     block,
-    ap (λ (rs : List Reel). let r : Rack = record (shown p) { reels = rs } in r) (same ∙ sym (seen_counts_none s k p.standings p.first.reels p.second.reels)),
+    seen_then p.read_faults
+        ∙ ap (λ (rs : List Reel). let r : Rack = record (shown p) { reels = rs } in r) (sym (seen_counts_none s k p.standings p.first.reels p.second.reels)),
   )
 
   reads_badly : Reading s k (shown p) (Err ReadFailed) into (shown (after (Err ReadFailed)))
   reads_badly = (
     free,
     record { more = omega arith },
-    ap (λ (rs : List Reel). let r : Rack = record (shown p) { reels = rs; read_faults = one_more p.read_faults } in r) same,
+    seen_then (one_more p.read_faults),
   )
 
   told_there : (r : Rack) (x : Reel) (block : List ℕ) → reel s r.reels ≡ Some x → ForSome (reel s r.reels) (λ y. ForSome y.blocks (λ bs. slice_get bs k ≡ Some block))
@@ -230,11 +284,13 @@ pair_reads s k p t first' second' result into paired stands free asked =
     let (a, b, twins, at) = at_standing s t p.standings p.first.reels p.second.reels paired stands in
     let (answer, block, reading, on) = asked in
     let (lead_only, other_only) = both_only (may_help k t) s k (leading t p) (behind t p) (of_leader t first' second') (of_other t first' second') result into asked in
+    let (lead_risks, other_risks) = both_same_risks (may_help k t) s k (leading t p) (behind t p) (of_leader t first' second') (of_other t first' second') result into asked in
     let one : OnlyReads p.first first' = to_first OnlyReads t p.first p.second first' second' lead_only other_only in
     let two : OnlyReads p.second second' = to_second OnlyReads t p.first p.second first' second' lead_only other_only in
     let same = seen_unread p.standings p.first.reels p.second.reels first'.reels second'.reels one.reels two.reels in
     record {
       reading = asked_reading s k p t a b first' second' into twins at (seen_at s t a b p.standings p.first.reels p.second.reels paired at) free same
+          (to_first SameRisks t p.first p.second first' second' lead_risks other_risks) (to_second SameRisks t p.first p.second first' second' lead_risks other_risks)
           answer result block (of_leader t first' second') (of_other t first' second') reading on;
       asked = λ free' u stands'.
           subst (λ (v : Standing). HasAsked (may_help k v) s k (leading v p) (behind v p) result into (of_leader v first' second') (of_other v first' second'))

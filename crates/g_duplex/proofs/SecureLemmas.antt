@@ -7,36 +7,45 @@ use Rattle.g_tape.specs.declared.fault.TapeFault.{TapeFault}
 use Rattle.g_tape.specs.declared.fault.TapeFault.TheVariants.{NoTape, NotMounted, End, ReadFailed, WriteFailed}
 use Rattle.g_tape.specs.Reel.{Reel}
 use Rattle.g_tape.specs.Rack.{Rack, Securing, is_mounted, reel, with_reel}
-use Rattle.g_tape.specs.Reads.{OnlyReads}
-use Rattle.g_tape.proofs.ReadLemmas.{nothing_read, securing_only}
-use Rattle.g_duplex.specs.Twins.{AreTwins, DoAgree, is_lost, of_leader, of_other, pair_reel}
-use Rattle.g_duplex.specs.Pair.{ArePaired, Pair, pair_reels, shown, standing, standing_in, stands, with_standing}
+use Rattle.g_tape.specs.Durable.{OthersAsDurable, SecuresDurably}
+use Rattle.g_tape.specs.Risk.{Risk}
+use Rattle.g_duplex.specs.Twins.{AreTwins, DoAgree, is_lost, leader, of_leader, of_other, pair_reel}
+use Rattle.g_duplex.specs.Pair.{ArePaired, Pair, pair_reels, pair_risks, shown, standing, standing_in, stands, with_standing}
 use Rattle.g_duplex.specs.Calls.{Answer, HasSecured, PairSecures, OtherTwin, SecuresOn, SecuresOther, behind, counted, is_shorter, leading, may_give_up, other_is, settles}
 use Rattle.g_duplex.specs.Calls.OtherTwin.{Gone, Lacking, Needed, Spare}
 use Rattle.g_duplex.specs.declared.twin.Twin.TheVariants.{First, Second}
 use Rattle.g_duplex.specs.declared.twin.Standing.{Standing}
 use Rattle.g_duplex.specs.declared.twin.Standing.TheVariants.{Apart, Level, Lost}
+use Rattle.g_duplex.proofs.DurableLemmas.{changes_nothing, others_shown, secures_nothing, secures_shown}
 use Rattle.g_duplex.proofs.PairLemmas.{AreAt, at_standing, pair_changed, paired_changed, same_reels, seen_at}
-use Rattle.g_duplex.proofs.ReadLemmas.{leader_at, one_standing, other_at, to_first, to_second}
-use Rattle.g_duplex.proofs.UnreadLemmas.{paired_unread, seen_unread}
+use Rattle.g_duplex.proofs.ReadLemmas.{leader_at, one_standing, to_first, to_second}
+use Rattle.g_duplex.proofs.WriteLemmas.{leads_well}
 
--- BOTH RACKS are read at most
-unchanged_only : (old new : Rack) → new ≡ old → OnlyReads old new
-unchanged_only old new same = subst (OnlyReads old) (sym same) (nothing_read old)
+-- BOTH RACKS hold the same reels
+abbrev SameReels : Rack → Rack → Type 0
+SameReels old new = new.reels ≡ old.reels
 
-other_only : (other : OtherTwin) (s : ℕ) (t after : Standing) (old new : Rack) (result : Answer) → SecuresOther other s t old result after new → OnlyReads old new
-other_only Gone s t after old new result (is, stays, same) = unchanged_only old new same
-other_only Lacking s t after old new result (is, stays, same) = unchanged_only old new same
-other_only Spare s t after old new result (answer, securing, settled) = securing_only s old new answer securing
-other_only Needed s t after old new result (answer, securing, settled) = securing_only s old new answer securing
+securing_reels : (s : ℕ) (old new : Rack) (answer : Answer) → Securing s old answer new → SameReels old new
+securing_reels s old new (Ok u) (there, is) = ap (λ (r : Rack). r.reels) is
+securing_reels s old new (Err ReadFailed) (there, rose, is) = ap (λ (r : Rack). r.reels) is
+securing_reels s old new (Err NoTape) (missing, is) = ap (λ (r : Rack). r.reels) is
+securing_reels s old new (Err WriteFailed) never = absurd never
+securing_reels s old new (Err NotMounted) never = absurd never
+securing_reels s old new (Err End) never = absurd never
 
-on_only : (s : ℕ) (t after : Standing) (lead other other' : Rack) (answer result : Answer) → SecuresOn s t lead other answer result after other' → OnlyReads other other'
-on_only s t after lead other other' (Err fault) result (is, stays, same) = unchanged_only other other' same
-on_only s t after lead other other' (Ok u) result on = other_only (other_is t (may_give_up s lead other) (is_shorter s lead other)) s t after other other' result on
+other_reels : (other : OtherTwin) (s : ℕ) (t after : Standing) (old new : Rack) (result : Answer) → SecuresOther other s t old result after new → SameReels old new
+other_reels Gone s t after old new result (is, stays, same) = ap (λ (r : Rack). r.reels) same
+other_reels Lacking s t after old new result (is, stays, same) = ap (λ (r : Rack). r.reels) same
+other_reels Spare s t after old new result (answer, securing, settled) = securing_reels s old new answer securing
+other_reels Needed s t after old new result (answer, securing, settled) = securing_reels s old new answer securing
 
-pub secured_only : (s : ℕ) (t after : Standing) (lead other lead' other' : Rack) (result : Answer) → HasSecured t s lead other result after lead' other'
-    → OnlyReads lead lead' × OnlyReads other other'
-secured_only s t after lead other lead' other' result (answer, securing, on) = (securing_only s lead lead' answer securing, on_only s t after lead' other other' answer result on)
+on_reels : (s : ℕ) (t after : Standing) (lead other other' : Rack) (answer result : Answer) → SecuresOn s t lead other answer result after other' → SameReels other other'
+on_reels s t after lead other other' (Err fault) result (is, stays, same) = ap (λ (r : Rack). r.reels) same
+on_reels s t after lead other other' (Ok u) result on = other_reels (other_is t (may_give_up s lead other) (is_shorter s lead other)) s t after other other' result on
+
+secured_reels : (s : ℕ) (t after : Standing) (lead other lead' other' : Rack) (result : Answer) → HasSecured t s lead other result after lead' other'
+    → SameReels lead lead' × SameReels other other'
+secured_reels s t after lead other lead' other' result (answer, securing, on) = (securing_reels s lead lead' answer securing, on_reels s t after lead' other other' answer result on)
 
 -- The outcomes: success, or a failed read; the standing is unchanged, or the second twin is given up.
 record Settled (t : Standing) (spare : Bool) (result : Answer) (after : Standing) : Type 0 where
@@ -73,13 +82,6 @@ on_settled s t after lead lead' other other' (Ok u) result r there securing on =
 on_settled s t after lead lead' other other' (Err fault) result r there securing (is, stays, same) =
     record { answer = inr (is ∙ ap (λ (f : TapeFault). let e : Answer = Err f in e) (only_failed s lead lead' fault r there securing)); stands = inl stays }
 
--- A successful call left the leading rack unchanged.
-give_up_same : (s : ℕ) (t after : Standing) (lead lead' other other' : Rack) (answer result : Answer) → Securing s lead answer lead' → SecuresOn s t lead' other answer result after other'
-    → after ≡ Lost Second → is_lost t ≡ false → lead' ≡ lead
-give_up_same s t after lead lead' other other' (Ok u) result (there, same) on lost fine = same
-give_up_same s t after lead lead' other other' (Err fault) result securing (is, stays, same) lost fine =
-    absurd (let never : true ≡ false = sym (ap is_lost (sym stays ∙ lost)) ∙ fine in cc)
-
 -- What a pair shows if its second twin is given up.
 up_alike : (m n : Bool) → (not m || n) ≡ true → m ≡ (m && n)
 up_alike true true is = refl
@@ -112,24 +114,22 @@ module _ (s : ℕ) (p : Pair) (t after : Standing) (first' second' : Rack) (resu
       on_settled s t after (leading t p) (of_leader t first' second') (behind t p) (of_other t first' second') answer result (of_leader t a b)
       (leader_at s t p a b at.first at.second) securing on
 
-  first_only : OnlyReads p.first first'
-  first_only =
-      let (lead, other) = secured_only s t after (leading t p) (behind t p) (of_leader t first' second') (of_other t first' second') result secured in
-      to_first OnlyReads t p.first p.second first' second' lead other
+  both_reels : SameReels (leading t p) (of_leader t first' second') × SameReels (behind t p) (of_other t first' second')
+  both_reels = secured_reels s t after (leading t p) (behind t p) (of_leader t first' second') (of_other t first' second') result secured
 
-  second_only : OnlyReads p.second second'
-  second_only =
-      let (lead, other) = secured_only s t after (leading t p) (behind t p) (of_leader t first' second') (of_other t first' second') result secured in
-      to_second OnlyReads t p.first p.second first' second' lead other
+  first_reels : SameReels p.first first'
+  first_reels = to_first SameReels t p.first p.second first' second' both_reels.0 both_reels.1
+
+  second_reels : SameReels p.second second'
+  second_reels = to_second SameReels t p.first p.second first' second' both_reels.0 both_reels.1
 
   -- The reels of this serial appear unchanged.
-  alike : after ≡ Lost Second → is_lost t ≡ false → may_give_up s (of_leader t first' second') (behind t p) ≡ true → may_give_up s p.first p.second ≡ true
-  alike lost fine spare =
-      let (answer, securing, on) = secured in
-      let same = give_up_same s t after (leading t p) (of_leader t first' second') (behind t p) (of_other t first' second') answer result securing on lost fine in
+  alike : is_lost t ≡ false → may_give_up s (of_leader t first' second') (behind t p) ≡ true → may_give_up s p.first p.second ≡ true
+  alike fine spare =
       let (lead, other) = led_first t p.first p.second fine in
       subst (λ (r : Rack). may_give_up s p.first r ≡ true) other
-      (subst (λ (r : Rack). may_give_up s r (behind t p) ≡ true) (same ∙ lead) spare)
+      (subst (λ (r : Rack). may_give_up s r (behind t p) ≡ true) lead
+      (subst (λ (rs : List Reel). (not (is_mounted (reel s rs)) || is_mounted (reel s (behind t p).reels)) ≡ true) both_reels.0 spare))
 
   here_seen : (u : Standing) (a b : Reel) → AreTwins u a b → AreAt s u a b p.standings p.first.reels p.second.reels → pair_reel after a b ≡ pair_reel u a b
   here_seen u a b twins at =
@@ -138,7 +138,7 @@ module _ (s : ℕ) (p : Pair) (t after : Standing) (first' second' : Rack) (resu
         | inl stays ↦ ap (λ (v : Standing). pair_reel v a b) (stays ∙ same)
         | inr (lost, fine, spare) ↦
             ap (λ (v : Standing). pair_reel v a b) lost
-            ∙ lost_seen t a b fine (give_up_at s p.first p.second a b at.first at.second (alike lost fine spare)) ∙ ap (λ (v : Standing). pair_reel v a b) same
+            ∙ lost_seen t a b fine (give_up_at s p.first p.second a b at.first at.second (alike fine spare)) ∙ ap (λ (v : Standing). pair_reel v a b) same
       ]
 
   here_twins : (u : Standing) (a b : Reel) → AreTwins u a b → AreAt s u a b p.standings p.first.reels p.second.reels → AreTwins after a b
@@ -152,17 +152,15 @@ module _ (s : ℕ) (p : Pair) (t after : Standing) (first' second' : Rack) (resu
   seen_same : pair_reels (stands s (λ _. after) p) first'.reels second'.reels ≡ pair_reels p.standings p.first.reels p.second.reels
   seen_same =
       let here = pair_changed s (λ r. r) (λ r. r) (λ r. r) (λ _. after) p.standings p.first.reels p.second.reels paired here_seen in
-      seen_unread (stands s (λ _. after) p) p.first.reels p.second.reels first'.reels second'.reels first_only.reels second_only.reels
-      ∙ sym (ap (λ (rs : List Reel). pair_reels (stands s (λ _. after) p) rs p.second.reels) (same_reels s p.first.reels))
-      ∙ sym (ap (λ (rs : List Reel). pair_reels (stands s (λ _. after) p) (with_reel s (λ r. r) p.first.reels) rs) (same_reels s p.second.reels))
+      ap (λ (rs : List Reel). pair_reels (stands s (λ _. after) p) rs second'.reels) (first_reels ∙ sym (same_reels s p.first.reels))
+      ∙ ap (pair_reels (stands s (λ _. after) p) (with_reel s (λ r. r) p.first.reels)) (second_reels ∙ sym (same_reels s p.second.reels))
       ∙ here ∙ same_reels s (pair_reels p.standings p.first.reels p.second.reels)
 
   pub paired_still : ArePaired (stands s (λ _. after) p) first'.reels second'.reels
   paired_still =
       let here = paired_changed s (λ r. r) (λ r. r) (λ _. after) p.standings p.first.reels p.second.reels paired here_twins in
-      paired_unread (stands s (λ _. after) p) p.first.reels p.second.reels first'.reels second'.reels first_only.reels second_only.reels
-      (subst (λ (rs : List Reel). ArePaired (stands s (λ _. after) p) rs p.second.reels) (same_reels s p.first.reels)
-      (subst (λ (rs : List Reel). ArePaired (stands s (λ _. after) p) (with_reel s (λ r. r) p.first.reels) rs) (same_reels s p.second.reels) here))
+      subst (λ (rs : List Reel). ArePaired (stands s (λ _. after) p) rs second'.reels) (same_reels s p.first.reels ∙ sym first_reels)
+      (subst (λ (rs : List Reel). ArePaired (stands s (λ _. after) p) (with_reel s (λ r. r) p.first.reels) rs) (same_reels s p.second.reels ∙ sym second_reels) here)
 
   seen_there : is_some (reel s (shown p).reels) ≡ true
   seen_there =
@@ -172,14 +170,35 @@ module _ (s : ℕ) (p : Pair) (t after : Standing) (first' second' : Rack) (resu
   abbrev then_pair : Answer → Pair
   then_pair answer = record p { first = first'; second = second'; standings = stands s (λ _. after) p; read_faults = counted answer p.read_faults }
 
-  securing_seen : (answer : Answer) → (answer ≡ Ok tt) ⊎ (answer ≡ Err ReadFailed) → Securing s (shown p) answer (shown (then_pair answer))
-  securing_seen answer (inl is) = rw is (seen_there, ap (λ (rs : List Reel). let r : Rack = record (shown p) { reels = rs } in r) seen_same)
-  securing_seen answer (inr is) =
-      rw is (seen_there, record { more = omega arith }, ap (λ (rs : List Reel). let r : Rack = record (shown p) { reels = rs; read_faults = one_more p.read_faults } in r) seen_same)
+  abbrev risks_then : List Risk
+  risks_then = pair_risks (stands s (λ _. after) p) (pair_reels (stands s (λ _. after) p) first'.reels second'.reels) first'.risks second'.risks
 
-  pub pair_secures : PairSecures s p result (then_pair result)
-  pair_secures = record {
+  securing_seen : (answer : Answer) → (answer ≡ Ok tt) ⊎ (answer ≡ Err ReadFailed) → Securing s (shown p) answer (shown (then_pair answer))
+  securing_seen answer (inl is) = rw is (seen_there, ap (λ (rs : List Reel). let r : Rack = record (shown p) { reels = rs; risks = risks_then } in r) seen_same)
+  securing_seen answer (inr is) =
+      rw is (seen_there, record { more = omega arith }, ap (λ (rs : List Reel). let r : Rack = record (shown p) { reels = rs; read_faults = one_more p.read_faults; risks = risks_then } in r) seen_same)
+
+  -- The same twin leads.
+  led : leader after ≡ leader t
+  led =
+      elim settled.stands [
+        | inl stays ↦ ap leader stays
+        | inr (lost, fine, spare) ↦ ap leader lost ∙ leads_well t fine
+      ]
+
+  secures : SecuresDurably s (leading t p) result (of_leader t first' second') → OthersAsDurable s (behind t p) (of_other t first' second')
+      → SecuresDurably s (shown p) result (shown (then_pair result))
+  secures durable other =
+      let changes = changes_nothing s (shown p) (shown (then_pair result)) seen_same in
+      let others = others_shown s p (then_pair result) t after paired paired_still stand refl led changes
+      (to_first (OthersAsDurable s) t p.first p.second first' second' durable.others other) (to_second (OthersAsDurable s) t p.first p.second first' second' durable.others other) in
+      secures_shown s p (then_pair result) t after paired paired_still stand refl led changes result others durable
+
+  pub pair_secures : SecuresDurably s (leading t p) result (of_leader t first' second') → OthersAsDurable s (behind t p) (of_other t first' second')
+      → PairSecures s p result (then_pair result)
+  pair_secures durable other = record {
     securing = securing_seen result settled.answer;
+    durable = secures durable other;
     secured = λ u stand'.
         let same = one_standing t u (standing_in s p) stand stand' in
         (after, subst (λ (v : Standing). HasSecured v s (leading v p) (behind v p) result after (of_leader v first' second') (of_other v first' second')) same secured, refl);
@@ -191,12 +210,13 @@ module _ (s : ℕ) (p : Pair) (t after : Standing) (first' second' : Rack) (resu
 pub pair_secures_as : (s : ℕ) (p : Pair) (t after : Standing) (first' second' : Rack) (result : Answer) (us : List Standing) (n : ℕ)
     → ArePaired p.standings p.first.reels p.second.reels → standing_in s p ≡ Some t
     → HasSecured t s (leading t p) (behind t p) result after (of_leader t first' second') (of_other t first' second')
+    → SecuresDurably s (leading t p) result (of_leader t first' second') → OthersAsDurable s (behind t p) (of_other t first' second')
     → us ≡ stands s (λ _. after) p → n ≡ counted result p.read_faults
     → PairSecures s p result (record p { first = first'; second = second'; standings = us; read_faults = n }) × ArePaired us first'.reels second'.reels
-pair_secures_as s p t after first' second' result us n paired stand secured stands_are counts = (
+pair_secures_as s p t after first' second' result us n paired stand secured durable other stands_are counts = (
   subst (λ (ts : List Standing). PairSecures s p result (record p { first = first'; second = second'; standings = ts; read_faults = n })) (sym stands_are)
       (subst (λ (m : ℕ). PairSecures s p result (record p { first = first'; second = second'; standings = stands s (λ _. after) p; read_faults = m })) (sym counts)
-      (pair_secures s p t after first' second' result paired stand secured)),
+      (pair_secures s p t after first' second' result paired stand secured durable other)),
   subst (λ (ts : List Standing). ArePaired ts first'.reels second'.reels) (sym stands_are) (paired_still s p t after first' second' result paired stand secured),
 )
 
@@ -204,6 +224,7 @@ pair_secures_as s p t after first' second' result us n paired stand secured stan
 pub pair_secures_none : (s : ℕ) (p : Pair) → reel s (shown p).reels ≡ None → standing_in s p ≡ None → PairSecures s p (Err NoTape) p
 pair_secures_none s p none nowhere = record {
   securing = (ap is_some none, refl);
+  durable = secures_nothing s (shown p) NoTape;
   secured = λ t stand. absurd (let never : Some t ≡ None = sym stand ∙ nowhere in cc);
   kept = refl;
   missing = λ is. refl;

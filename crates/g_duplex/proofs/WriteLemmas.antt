@@ -9,18 +9,21 @@ use Rattle.g_tape.specs.declared.fault.TapeFault.{TapeFault}
 use Rattle.g_tape.specs.declared.fault.TapeFault.TheVariants.{NoTape, NotMounted, End, ReadFailed, WriteFailed}
 use Rattle.g_tape.specs.Reel.{IsReel, Reel, Remains, Shortened, Torn, Unchanged, cut_at, ending, left_by}
 use Rattle.g_tape.specs.Rack.{AreReels, Rack, Writing, changed, reel, refuses_write, with_reel}
+use Rattle.g_tape.specs.Durable.{OthersAsDurable, WritesDurably}
+use Rattle.g_tape.specs.Risk.{Risk}
 use Rattle.g_tape.proofs.ReadLemmas.{is_reel}
-use Rattle.g_duplex.specs.Twins.{AreTwins, DoAgree, after_both, after_failure, are_up, is_lost, of_leader, of_other, pair_reel, told_with}
-use Rattle.g_duplex.specs.Pair.{ArePaired, Pair, armed, pair_reels, shown, standing, standing_in, with_standing}
+use Rattle.g_duplex.specs.Twins.{AreTwins, DoAgree, after_both, after_failure, are_up, is_lost, leader, of_leader, of_other, pair_reel, told_with}
+use Rattle.g_duplex.specs.Pair.{ArePaired, Pair, armed, pair_reels, pair_risks, shown, standing, standing_in, with_standing}
 use Rattle.g_duplex.specs.Calls.{Answer, Follows, HasWritten, PairWrites, WritesOn, armed_when, behind, counted, is_one, leading, stands_after}
 use Rattle.g_duplex.specs.declared.twin.Twin.TheVariants.{First, Second}
 use Rattle.g_duplex.specs.declared.twin.Standing.{Standing}
 use Rattle.g_duplex.specs.declared.twin.Standing.TheVariants.{Level, Apart, Lost}
+use Rattle.g_duplex.proofs.DurableLemmas.{others_shown, refused_durably, write_armed, writes_shown, writing_changes}
 use Rattle.g_duplex.proofs.KeepLemmas.{agree_both, agree_failed}
 use Rattle.g_duplex.proofs.LossLemmas.{told-first}
 use Rattle.g_duplex.proofs.PlaceLemmas.{eq_from}
 use Rattle.g_duplex.proofs.PairLemmas.{AreAt, at_standing, pair_changed, paired_changed, same_reels, seen_at}
-use Rattle.g_duplex.proofs.ReadLemmas.{first_of, leader_at, leader_up, one_standing, other_at, second_of, by_refusal}
+use Rattle.g_duplex.proofs.ReadLemmas.{first_of, leader_at, leader_up, one_standing, other_at, second_of, by_refusal, to_first, to_second}
 
 abbrev Blocks : Type 0
 Blocks = List (List ℕ)
@@ -214,6 +217,12 @@ pub record WriteDone (s k : ℕ) (block : List ℕ) (p : Pair) (result : Answer)
 module _ (s k : ℕ) (block : List ℕ) (p : Pair) (t : Standing) (a b : Reel) (first' second' : Rack)
     (twins : AreTwins t a b) (at : AreAt s t a b p.standings p.first.reels p.second.reels) (paired : ArePaired p.standings p.first.reels p.second.reels)
     (is : IsReel a) (is' : IsReel b) (free : refuses_write k (reel s (shown p).reels) ≡ None) where
+  abbrev stands_then : Standing → List Standing
+  stands_then u = with_standing s (λ (v : Standing). u) p.first.reels p.standings
+
+  abbrev risks_then : Standing → List Risk
+  risks_then u = pair_risks (stands_then u) (pair_reels (stands_then u) first'.reels second'.reels) first'.risks second'.risks
+
   seen : reel s (shown p).reels ≡ Some (pair_reel t a b)
   seen = seen_at s t a b p.standings p.first.reels p.second.reels paired at
 
@@ -230,10 +239,10 @@ module _ (s k : ℕ) (block : List ℕ) (p : Pair) (t : Standing) (a b : Reel) (
   refused_never o fault one two = cc
 
   -- The leading rack's reels after a successful write, and after a failed one.
-  lead_ends : (lead' : Rack) (n : ℕ) (fuse : Option ℕ) → lead' ≡ record (changed s (ending k block) (armed_when (is_one p.fuse) (leading t p))) { fuse = fuse } → lead'.reels ≡ with_reel s (ending k block) (leading t p).reels
+  lead_ends : (lead' : Rack) (n : ℕ) (fuse : Option ℕ) → lead' ≡ record (changed s (ending k block) (armed_when (is_one p.fuse) (leading t p))) { fuse = fuse; risks = lead'.risks } → lead'.reels ≡ with_reel s (ending k block) (leading t p).reels
   lead_ends lead' n fuse e = ap (λ (r : Rack). r.reels) e ∙ ap (with_reel s (ending k block)) (armed_reels (is_one p.fuse) (leading t p))
 
-  lead_left : (lead' : Rack) (how : Remains) (n : ℕ) (fuse : Option ℕ) → lead' ≡ record (changed s (left_by how k) (armed_when (is_one p.fuse) (leading t p))) { write_faults = n; fuse = fuse }
+  lead_left : (lead' : Rack) (how : Remains) (n : ℕ) (fuse : Option ℕ) → lead' ≡ record (changed s (left_by how k) (armed_when (is_one p.fuse) (leading t p))) { write_faults = n; fuse = fuse; risks = lead'.risks }
       → lead'.reels ≡ with_reel s (left_by how k) (leading t p).reels
   lead_left lead' how n fuse e = ap (λ (r : Rack). r.reels) e ∙ ap (with_reel s (left_by how k)) (armed_reels (is_one p.fuse) (leading t p))
 
@@ -251,7 +260,7 @@ module _ (s k : ℕ) (block : List ℕ) (p : Pair) (t : Standing) (a b : Reel) (
     writing = (
       free,
       not_one apart,
-      ap (λ (rs : List Reel). let r : Rack = record (shown p) { reels = rs; fuse = burnt p.fuse } in r)
+      ap (λ (rs : List Reel). let r : Rack = record (shown p) { reels = rs; fuse = burnt p.fuse; risks = risks_then u } in r)
           (done_seen s t u a b g h (ending k block) p.standings p.first.reels p.second.reels at paired first'.reels second'.reels one two same),
     );
     paired = done_paired s t u a b g h (ending k block) p.standings p.first.reels p.second.reels at paired first'.reels second'.reels one two now;
@@ -265,7 +274,7 @@ module _ (s k : ℕ) (block : List ℕ) (p : Pair) (t : Standing) (a b : Reel) (
       record { more = omega arith },
       (
         how,
-        ap (λ (rs : List Reel). let r : Rack = record (shown p) { reels = rs; write_faults = one_more p.write_faults; fuse = burnt p.fuse } in r)
+        ap (λ (rs : List Reel). let r : Rack = record (shown p) { reels = rs; write_faults = one_more p.write_faults; fuse = burnt p.fuse; risks = risks_then (after_failure k t) } in r)
             (done_seen s t (after_failure k t) a b (of_leader t (left_by how k) (λ (r : Reel). r)) (of_other t (left_by how k) (λ (r : Reel). r)) (left_by how k)
             p.standings p.first.reels p.second.reels at paired first'.reels second'.reels one two (seen_left how k t a b)),
       ),
@@ -338,6 +347,43 @@ module _ (s k : ℕ) (block : List ℕ) (p : Pair) (t : Standing) (a b : Reel) (
   written (Err NotMounted) result after (refused, left) on = absurd (refused_never (reel s (armed_when (is_one p.fuse) (leading t p)).reels) NotMounted lead_free refused)
   written (Err End) result after (refused, left) on = absurd (refused_never (reel s (armed_when (is_one p.fuse) (leading t p)).reels) End lead_free refused)
 
+-- WHO LEADS doesn't change.
+led_after_failure : (k : ℕ) (t : Standing) → leader (after_failure k t) ≡ leader t
+led_after_failure k Level = refl
+led_after_failure k (Apart j) = refl
+led_after_failure k (Lost twin) = refl
+
+led_after_both : (k : ℕ) (t : Standing) → leader (after_both k t) ≡ leader t
+led_after_both k Level = refl
+led_after_both k (Apart j) = by (nat_le k j)
+  where
+    by : (c : Bool) → leader (if c then Level else Apart j) ≡ First
+    by true = refl
+    by false = refl
+led_after_both k (Lost twin) = refl
+
+pub leads_well : (t : Standing) → is_lost t ≡ false → First ≡ leader t
+leads_well Level well = refl
+leads_well (Apart k) well = refl
+leads_well (Lost twin) well = let never : true ≡ false = well in absurd (cc)
+
+led_after : (k : ℕ) (answer : Answer) (t : Standing) → is_lost t ≡ false → leader (stands_after k answer t) ≡ leader t
+led_after k (Ok u) t well = led_after_both k t
+led_after k (Err fault) t well = leads_well t well
+
+led_follows : (lost : Bool) (s k : ℕ) (block : List ℕ) (t after : Standing) (old new : Rack) → is_lost t ≡ lost → Follows lost s k block t old new after → leader after ≡ leader t
+led_follows true s k block t after old new lost (left, stands) = ap leader stands
+led_follows false s k block t after old new well (answer, writing, stands) = ap leader stands ∙ led_after k answer t well
+
+led_on : (s k : ℕ) (block : List ℕ) (t after : Standing) (answer result : Answer) (old new : Rack) → WritesOn s k block t answer old result new after → leader after ≡ leader t
+led_on s k block t after (Ok u) result old new (answered, on) = led_follows (is_lost t) s k block t after old new refl on
+led_on s k block t after (Err fault) result old new (answered, left, stands) = ap leader stands ∙ led_after_failure k t
+
+-- arming changes no risk
+others_armed : (fires : Bool) (s : ℕ) (old new : Rack) → OthersAsDurable s (armed_when fires old) new → OthersAsDurable s old new
+others_armed true s old new others = others
+others_armed false s old new others = others
+
 -- A WRITE, whole
 pub write_done : (s k : ℕ) (block : List ℕ) (p : Pair) (t : Standing) (first' second' : Rack) (result : Answer) (after : Standing) → AreReels p.first.reels → AreReels p.second.reels
     → ArePaired p.standings p.first.reels p.second.reels → standing_in s p ≡ Some t → refuses_write k (reel s (shown p).reels) ≡ None
@@ -346,9 +392,45 @@ write_done s k block p t first' second' result after are are' paired stands free
     let (a, b, twins, at) = at_standing s t p.standings p.first.reels p.second.reels paired stands in
     written s k block p t a b first' second' twins at paired (is_reel s p.first.reels a are.each at.first) (is_reel s p.second.reels b are'.each at.second) free answer result after lead on
 
+-- What survives of it: the leading twin wrote durably, and the other rack's other reels are as durable as before.
+pub record TwinsSurvive (s k : ℕ) (block : List ℕ) (fires : Bool) (t : Standing) (p : Pair) (result : Answer) (first' second' : Rack) : Type 0 where
+  pub durable : WritesDurably s k block (armed_when fires (leading t p)) result (of_leader t first' second')
+  pub others : OthersAsDurable s (behind t p) (of_other t first' second')
+
+write_survives : (s k : ℕ) (block : List ℕ) (p : Pair) (t : Standing) (first' second' : Rack) (result : Answer) (after : Standing) → AreReels p.first.reels → AreReels p.second.reels
+    → ArePaired p.standings p.first.reels p.second.reels → standing_in s p ≡ Some t → refuses_write k (reel s (shown p).reels) ≡ None
+    → HasWritten (is_one p.fuse) t s k block (leading t p) (behind t p) result after (of_leader t first' second') (of_other t first' second')
+    → TwinsSurvive s k block (is_one p.fuse) t p result first' second'
+    → WritesDurably s k block (shown p) result (shown (record p {
+      first = first';
+      second = second';
+      standings = with_standing s (λ (v : Standing). after) p.first.reels p.standings;
+      write_faults = counted result p.write_faults;
+      fuse = burnt p.fuse;
+    }))
+write_survives s k block p t first' second' result after are are' paired stands free written survive =
+    let q : Pair = record p {
+      first = first';
+      second = second';
+      standings = with_standing s (λ (v : Standing). after) p.first.reels p.standings;
+      write_faults = counted result p.write_faults;
+      fuse = burnt p.fuse;
+    } in
+    let done = write_done s k block p t first' second' result after are are' paired stands free written in
+    let (a, b, twins, at) = at_standing s t p.standings p.first.reels p.second.reels paired stands in
+    let (answer, lead, on) = written in
+    let led = led_on s k block t after answer result (behind t p) (of_other t first' second') on in
+    let changes = writing_changes s k block (shown p) (shown q) result done.writing in
+    let lead_others = others_armed (is_one p.fuse) s (leading t p) (of_leader t first' second') survive.durable.others in
+    let others = others_shown s p q t after paired done.paired stands refl led changes
+    (to_first (OthersAsDurable s) t p.first p.second first' second' lead_others survive.others) (to_second (OthersAsDurable s) t p.first p.second first' second' lead_others survive.others) in
+    let free' = lead_free s k block p t a b first' second' twins at paired (is_reel s p.first.reels a are.each at.first) (is_reel s p.second.reels b are'.each at.second) free in
+    writes_shown s p q t after paired done.paired stands refl led changes k block result others (write_armed (is_one p.fuse) s k block (leading t p) (of_leader t first' second') result free' survive.durable)
+
 pub pair_writes : (s k : ℕ) (block : List ℕ) (p : Pair) (t : Standing) (first' second' : Rack) (result : Answer) (after : Standing) → AreReels p.first.reels → AreReels p.second.reels
     → ArePaired p.standings p.first.reels p.second.reels → standing_in s p ≡ Some t → refuses_write k (reel s (shown p).reels) ≡ None
     → HasWritten (is_one p.fuse) t s k block (leading t p) (behind t p) result after (of_leader t first' second') (of_other t first' second')
+    → TwinsSurvive s k block (is_one p.fuse) t p result first' second'
     → PairWrites s k block p result (record p {
       first = first';
       second = second';
@@ -356,8 +438,9 @@ pub pair_writes : (s k : ℕ) (block : List ℕ) (p : Pair) (t : Standing) (firs
       write_faults = counted result p.write_faults;
       fuse = burnt p.fuse;
     })
-pair_writes s k block p t first' second' result after are are' paired stands free written = record {
+pair_writes s k block p t first' second' result after are are' paired stands free written survive = record {
   writing = (write_done s k block p t first' second' result after are are' paired stands free written).writing;
+  durable = write_survives s k block p t first' second' result after are are' paired stands free written survive;
   asked = λ free' u stands'. (
     after,
     subst (λ (v : Standing). HasWritten (is_one p.fuse) v s k block (leading v p) (behind v p) result after (of_leader v first' second') (of_other v first' second'))
@@ -377,6 +460,7 @@ refused_writing s k block p fault of =
 pub pair_refuses_write : (s k : ℕ) (block : List ℕ) (p : Pair) (fault : TapeFault) → refuses_write k (reel s (shown p).reels) ≡ Some fault → PairWrites s k block p (Err fault) p
 pair_refuses_write s k block p fault is = record {
   writing = refused_writing s k block (shown p) fault (refused_write k (reel s (shown p).reels) fault is) is;
+  durable = refused_durably s k block (shown p) fault is;
   asked = λ free. absurd (let never : None ≡ Some fault = sym free ∙ is in cc);
   kept = refl;
   refused = λ other is'. refl;
@@ -390,11 +474,13 @@ pair_writes_none s k block p none = pair_refuses_write s k block p NoTape (ap (r
 pub pair_writes_as : (s k : ℕ) (block : List ℕ) (p : Pair) (t : Standing) (first' second' : Rack) (result : Answer) (after : Standing) (fires : Bool) (us : List Standing) (n : ℕ) (fuse : Option ℕ)
     → AreReels p.first.reels → AreReels p.second.reels → ArePaired p.standings p.first.reels p.second.reels → standing_in s p ≡ Some t → refuses_write k (reel s (shown p).reels) ≡ None → (IsTrue fires ↔ (p.fuse ≡ Some 1))
     → HasWritten fires t s k block (leading t p) (behind t p) result after (of_leader t first' second') (of_other t first' second')
+    → WritesDurably s k block (armed_when fires (leading t p)) result (of_leader t first' second') → OthersAsDurable s (behind t p) (of_other t first' second')
     → us ≡ with_standing s (λ (v : Standing). after) p.first.reels p.standings → n ≡ counted result p.write_faults → fuse ≡ burnt p.fuse
     → PairWrites s k block p result (record p { first = first'; second = second'; standings = us; write_faults = n; fuse = fuse }) × ArePaired us first'.reels second'.reels
-pair_writes_as s k block p t first' second' result after fires us n fuse are are' paired stands free same written one two three =
+pair_writes_as s k block p t first' second' result after fires us n fuse are are' paired stands free same written durable others one two three =
     let asked : HasWritten (is_one p.fuse) t s k block (leading t p) (behind t p) result after (of_leader t first' second') (of_other t first' second') =
-    subst (λ (b : Bool). HasWritten b t s k block (leading t p) (behind t p) result after (of_leader t first' second') (of_other t first' second')) (fires_one fires p.fuse same) written in (
+    subst (λ (b : Bool). HasWritten b t s k block (leading t p) (behind t p) result after (of_leader t first' second') (of_other t first' second')) (fires_one fires p.fuse same) written in
+    let survive = subst (λ (b : Bool). TwinsSurvive s k block b t p result first' second') (fires_one fires p.fuse same) (record { durable = durable; others = others }) in (
       subst (λ (vs : List Standing). PairWrites s k block p result (record p { first = first'; second = second'; standings = vs; write_faults = n; fuse = fuse })) (sym one)
           (subst (λ (m : ℕ). PairWrites s k block p result (record p {
             first = first';
@@ -409,6 +495,6 @@ pair_writes_as s k block p t first' second' result after fires us n fuse are are
             standings = with_standing s (λ (v : Standing). after) p.first.reels p.standings;
             write_faults = counted result p.write_faults;
             fuse = f;
-          })) (sym three) (pair_writes s k block p t first' second' result after are are' paired stands free asked))),
+          })) (sym three) (pair_writes s k block p t first' second' result after are are' paired stands free asked survive))),
       subst (λ (vs : List Standing). ArePaired vs first'.reels second'.reels) (sym one) (write_done s k block p t first' second' result after are are' paired stands free asked).paired,
     )

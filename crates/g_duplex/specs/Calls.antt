@@ -6,6 +6,7 @@ use Rattle.g_base.specs.Fuse.{armed_with}
 use Rattle.g_tape.specs.declared.fault.TapeFault.{TapeFault}
 use Rattle.g_tape.specs.declared.fault.TapeFault.TheVariants.{ReadFailed, WriteFailed}
 use Rattle.g_tape.specs.Reel.{with_mounted}
+use Rattle.g_tape.specs.Durable.{SecuresDurably, WritesDurably}
 use Rattle.g_tape.specs.Rack.{Rack, reel, changed, refuses_mount, refuses_unmount, refuses_read, refuses_write, is_mounted, told_of, Mounting, Reading, Securing, Writing}
 use Rattle.g_duplex.specs.Twins.{of_leader, of_other, is_lost, after_both, after_failure, may_help}
 use Rattle.g_duplex.specs.Pair.{Pair, armed, shown, standing_in, stands}
@@ -82,10 +83,11 @@ abbrev pub HasWritten : Bool → Standing → ℕ → ℕ → List ℕ → Rack 
 HasWritten fires t s k block lead other result after lead' other' = (answer : Answer)
     × Writing s k block (armed_when fires lead) answer lead' × WritesOn s k block t answer other result other' after
 
--- A write of block k: the clause of the trait holds for what the pair shows; and unless the write is refused, the racks
+-- A write of block k: the clauses of the trait hold for what the pair shows; and unless the write is refused, the racks
 -- are used as stated.
 pub record PairWrites (s k : ℕ) (block : List ℕ) (old : Pair) (result : Answer) (new : Pair) : Type 0 where
   pub writing : Writing s k block (shown old) result (shown new)
+  pub durable : WritesDurably s k block (shown old) result (shown new)
   pub asked : refuses_write k (reel s (shown old).reels) ≡ None → ForSome (standing_in s old) (λ t. (after : Standing)
       × HasWritten (is_one old.fuse) t s k block (leading t old) (behind t old) result after (leading t new) (behind t new)
       × (new.standings ≡ stands s (λ _. after) old))
@@ -139,9 +141,10 @@ SecuresOn s t lead other (Ok u) result after new = SecuresOther (other_is t (may
 abbrev pub HasSecured : Standing → ℕ → Rack → Rack → Answer → Standing → Rack → Rack → Type 0
 HasSecured t s lead other result after lead' other' = (answer : Answer) × Securing s lead answer lead' × SecuresOn s t lead' other answer result after other'
 
--- A pair is made durable: the clause of the trait holds for what the pair shows, and the two reels are used as stated.
+-- A pair is made durable: the clauses of the trait hold for what the pair shows, and the two reels are used as stated.
 pub record PairSecures (s : ℕ) (old : Pair) (result : Answer) (new : Pair) : Type 0 where
   pub securing : Securing s (shown old) result (shown new)
+  pub durable : SecuresDurably s (shown old) result (shown new)
   pub secured : ForSome (standing_in s old) (λ t. (after : Standing)
       × HasSecured t s (leading t old) (behind t old) result after (leading t new) (behind t new) × (new.standings ≡ stands s (λ _. after) old))
   pub kept : new ≡ record old { first = new.first; second = new.second; standings = new.standings; read_faults = new.read_faults }

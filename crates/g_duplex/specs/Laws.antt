@@ -38,7 +38,7 @@ WithLosses [] xs ys [] cs ds = Unit {0}
 WithLosses (t ∷ ts) (a ∷ xs) (b ∷ ys) (u ∷ us) (c ∷ cs) (d ∷ ds) = WithLoss t a b u c d × WithLosses ts xs ys us cs ds
 WithLosses ts xs ys us cs ds = ⊥
 
--- The rack that a pair shows doesn't depend on which twins are lost.
+-- The reels that a pair shows don't depend on which twins are lost.
 abbrev pub LossesAreNotSeen : Type 0
 LossesAreNotSeen = (ts us : List Standing) (xs ys cs ds : List Reel) → WithLosses ts xs ys us cs ds → pair_reels us cs ds ≡ pair_reels ts xs ys
 
@@ -49,11 +49,11 @@ pub record FailsWithAll : Type 0 where
   pub writes : (s k : ℕ) (block : List ℕ) (old new : Pair) → PairWrites s k block old (Err WriteFailed) new → ForSome (standing_in s old) (λ t.
       Rose (leading t old).write_faults (leading t new).write_faults)
 
--- The rack without its fault counts.
+-- The rack without its fault counts and its risks.
 abbrev pub uncounted : Rack → Rack
-uncounted r = record r { read_faults = 0; write_faults = 0 }
+uncounted r = record r { read_faults = 0; write_faults = 0; risks = [] }
 
--- The racks are equal, apart from their fault counts.
+-- The racks are equal, apart from their fault counts and from what a power loss may leave of them.
 abbrev pub Alike : Rack → Rack → Type 0
 Alike p q = uncounted p ≡ uncounted q
 

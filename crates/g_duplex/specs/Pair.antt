@@ -1,11 +1,14 @@
 -- Two racks as one.
 use Rattle.std.proofs.Props.{props}
-use Rattle.std.specs.Prelude.{◌≡◌, ℕ, List, [], ◌∷◌, Option, Some, None, ◌==◌, if◌then◌else◌}
+use Rattle.std.specs.Prelude.{◌≡◌, ℕ, List, [], ◌∷◌, ◌++◌, Bool, true, false, Option, Some, None, filter, ◌==◌, if◌then◌else◌}
 use Rattle.g_base.specs.Fuse.{Arms, armed_with}
 use Rattle.g_tape.specs.Reel.{Reel}
-use Rattle.g_tape.specs.Rack.{Rack}
-use Rattle.g_duplex.specs.Twins.{AreTwins, DoAgree, pair_reel}
+use Rattle.g_tape.specs.Rack.{Rack, reel}
+use Rattle.g_tape.specs.Reads.{blocks_in}
+use Rattle.g_tape.specs.Risk.{Risk}
+use Rattle.g_duplex.specs.Twins.{AreTwins, DoAgree, of_leader, of_twin, pair_reel}
 use Rattle.g_duplex.specs.declared.twin.Twin.{Twin}
+use Rattle.g_duplex.specs.declared.twin.Twin.TheVariants.{First, Second}
 use Rattle.g_duplex.specs.declared.twin.Standing.{Standing}
 use Rattle.g_duplex.specs.declared.twin.Standing.TheVariants.{Level, Apart, Lost}
 
@@ -25,16 +28,6 @@ pair_reels [] xs ys = []
 pair_reels (t ∷ ts) [] ys = []
 pair_reels (t ∷ ts) (a ∷ xs) [] = []
 pair_reels (t ∷ ts) (a ∷ xs) (b ∷ ys) = pair_reel t a b ∷ pair_reels ts xs ys
-
--- The rack that the pair shows: the reels of the leading twins, with the pair's own counts and fuse.
-abbrev pub shown : Pair → Rack
-shown p = record {
-  reels = pair_reels p.standings p.first.reels p.second.reels;
-  read_faults = p.read_faults;
-  write_faults = p.write_faults;
-  fuse = p.fuse;
-  arms = p.arms;
-}
 
 -- The reels of the two racks are twins, one by one.
 abbrev pub ArePaired : List Standing → List Reel → List Reel → Type 0
@@ -64,6 +57,31 @@ abbrev pub standing : ℕ → List Reel → List Standing → Option Standing
 standing s [] ts = None
 standing s (a ∷ xs) [] = None
 standing s (a ∷ xs) (t ∷ ts) = if s == a.serial then Some t else standing s xs ts
+
+-- This twin leads, and the pair shows the blocks of the reel.
+abbrev pub leads : Twin → Option Standing → Option (List (List ℕ)) → Bool
+leads twin None blocks = false
+leads twin (Some t) None = false
+leads twin (Some t) (Some blocks) = of_twin twin (of_leader t true false) (of_leader t false true)
+
+-- Those of the risks of a rack whose reels this twin leads.
+abbrev pub led_by : Twin → List Standing → List Reel → List Risk → List Risk
+led_by twin ts reels risks = filter (λ r. leads twin (standing r.serial reels ts) (blocks_in (reel r.serial reels))) risks
+
+-- What a power loss may leave of the reels that the pair shows: what it may leave of their leading twins.
+abbrev pub pair_risks : List Standing → List Reel → List Risk → List Risk → List Risk
+pair_risks ts reels first second = led_by First ts reels first ++ led_by Second ts reels second
+
+-- The rack that the pair shows: the reels of the leading twins, with the pair's own counts and fuse.
+abbrev pub shown : Pair → Rack
+shown p = record {
+  reels = pair_reels p.standings p.first.reels p.second.reels;
+  read_faults = p.read_faults;
+  write_faults = p.write_faults;
+  fuse = p.fuse;
+  arms = p.arms;
+  risks = pair_risks p.standings (pair_reels p.standings p.first.reels p.second.reels) p.first.risks p.second.risks;
+}
 
 -- The standings, with f applied to that of the twins of this serial.
 abbrev pub with_standing : ℕ → (Standing → Standing) → List Reel → List Standing → List Standing

@@ -1,5 +1,6 @@
 //! Reads, writes and secures two racks: first the one whose reel leads, then possibly the other one.
 ghost use Rattle.std.specs.Prelude.{◌≡◌};
+ghost use Rattle.g_tape.specs.Durable.{OthersAsDurable, SecuresDurably, WritesDurably};
 ghost use Rattle.g_duplex.specs.Calls.{Follows, HasAsked, HasSecured, HasWritten, SecuresOther, armed_when, counted, is_shorter, may_give_up, other_is};
 ghost use Rattle.g_duplex.specs.Twins.{is_lost, may_help, of_leader, of_other};
 
@@ -69,8 +70,11 @@ pub(crate) fn write_twins<T: Tapes>(
     k: u32,
     from: &Block,
 ) -> (Result<(), TapeFault>, Standing)
-    ensures { HasWritten fires standing serial k from.now (of_leader standing (T.rack first.old) (T.rack second.old)) (of_other standing (T.rack first.old) (T.rack second.old))
+    ensures written { HasWritten fires standing serial k from.now (of_leader standing (T.rack first.old) (T.rack second.old)) (of_other standing (T.rack first.old) (T.rack second.old))
         result.0 result.1 (of_leader standing (T.rack first.new) (T.rack second.new)) (of_other standing (T.rack first.new) (T.rack second.new)) }
+    ensures durable { WritesDurably serial k from.now (armed_when fires (of_leader standing (T.rack first.old) (T.rack second.old))) result.0
+        (of_leader standing (T.rack first.new) (T.rack second.new)) }
+    ensures others { OthersAsDurable serial (of_other standing (T.rack first.old) (T.rack second.old)) (of_other standing (T.rack first.new) (T.rack second.new)) }
 {
     match standing.leader() {
         Twin::First => write_both(first, second, standing, fires, serial, k, from),
@@ -89,7 +93,9 @@ fn write_both<T: Tapes>(
     k: u32,
     from: &Block,
 ) -> (Result<(), TapeFault>, Standing)
-    ensures { HasWritten fires standing serial k from.now (T.rack leading.old) (T.rack other.old) result.0 result.1 (T.rack leading.new) (T.rack other.new) }
+    ensures written { HasWritten fires standing serial k from.now (T.rack leading.old) (T.rack other.old) result.0 result.1 (T.rack leading.new) (T.rack other.new) }
+    ensures durable { WritesDurably serial k from.now (armed_when fires (T.rack leading.old)) result.0 (T.rack leading.new) }
+    ensures others { OthersAsDurable serial (T.rack other.old) (T.rack other.new) }
 {
     arm_where(leading, fires);
     match leading.write(serial, k, from) {
@@ -106,7 +112,8 @@ fn write_other<T: Tapes>(
     k: u32,
     from: &Block,
 ) -> Standing
-    ensures { Follows (is_lost standing) serial k from.now standing (T.rack other.old) (T.rack other.new) result }
+    ensures follows { Follows (is_lost standing) serial k from.now standing (T.rack other.old) (T.rack other.new) result }
+    ensures others { OthersAsDurable serial (T.rack other.old) (T.rack other.new) }
 {
     if standing.is_lost() {
         return standing;
@@ -125,8 +132,10 @@ pub(crate) fn secure_twins<T: Tapes>(
     standing: Standing,
     serial: u32,
 ) -> (Result<(), TapeFault>, Standing)
-    ensures { HasSecured standing serial (of_leader standing (T.rack first.old) (T.rack second.old)) (of_other standing (T.rack first.old) (T.rack second.old))
+    ensures secured { HasSecured standing serial (of_leader standing (T.rack first.old) (T.rack second.old)) (of_other standing (T.rack first.old) (T.rack second.old))
         result.0 result.1 (of_leader standing (T.rack first.new) (T.rack second.new)) (of_other standing (T.rack first.new) (T.rack second.new)) }
+    ensures durable { SecuresDurably serial (of_leader standing (T.rack first.old) (T.rack second.old)) result.0 (of_leader standing (T.rack first.new) (T.rack second.new)) }
+    ensures others { OthersAsDurable serial (of_other standing (T.rack first.old) (T.rack second.old)) (of_other standing (T.rack first.new) (T.rack second.new)) }
 {
     match standing.leader() {
         Twin::First => secure_both(first, second, standing, serial),
@@ -141,7 +150,9 @@ fn secure_both<T: Tapes>(
     standing: Standing,
     serial: u32,
 ) -> (Result<(), TapeFault>, Standing)
-    ensures { HasSecured standing serial (T.rack leading.old) (T.rack other.old) result.0 result.1 (T.rack leading.new) (T.rack other.new) }
+    ensures secured { HasSecured standing serial (T.rack leading.old) (T.rack other.old) result.0 result.1 (T.rack leading.new) (T.rack other.new) }
+    ensures durable { SecuresDurably serial (T.rack leading.old) result.0 (T.rack leading.new) }
+    ensures others { OthersAsDurable serial (T.rack other.old) (T.rack other.new) }
 {
     match leading.secure(serial) {
         Err(fault) => (Err(fault), standing),
@@ -157,8 +168,9 @@ fn secure_other<T: Tapes>(
     standing: Standing,
     serial: u32,
 ) -> (Result<(), TapeFault>, Standing)
-    ensures { SecuresOther (other_is standing (may_give_up serial (T.rack leading.now) (T.rack other.old)) (is_shorter serial (T.rack leading.now) (T.rack other.old)))
+    ensures secures { SecuresOther (other_is standing (may_give_up serial (T.rack leading.now) (T.rack other.old)) (is_shorter serial (T.rack leading.now) (T.rack other.old)))
         serial standing (T.rack other.old) result.0 result.1 (T.rack other.new) }
+    ensures others { OthersAsDurable serial (T.rack other.old) (T.rack other.new) }
 {
     if standing.is_lost() {
         return (Ok(()), standing);

@@ -14,7 +14,7 @@ use Rattle.g_tape.specs.Rack.{AreReels, Rack, Reading, reel, refuses_read, refus
 use Rattle.g_tape.specs.Reads.{HasRead, OnlyReads, blocks_in, blocks_of, unread}
 use Rattle.g_tape.proofs.ReadLemmas.{blocks_after_reads, is_reel, more_reads, read_then, reading_only, reel_after_reads, then_read}
 use Rattle.g_incr.specs.declared.fault.ShelfFault.{ShelfFault}
-use Rattle.g_incr.specs.declared.fault.ShelfFault.TheVariants.{NoTape, NotMounted, ReadFault}
+use Rattle.g_incr.specs.declared.fault.ShelfFault.TheVariants.{NoMemory, NoTape, NotMounted, ReadFault}
 use Rattle.g_incr.specs.Reading.{ReadsReel}
 use Rattle.g_incr.proofs.ListLemmas.{get_drop, none_within}
 
@@ -121,6 +121,19 @@ reads_then s first middle last fault one two =
       rose = λ is. subst (λ (n : ℕ). Rose n last.read_faults) still (two.rose is);
       kept = λ other. two.kept other ∙ still;
     }
+
+-- Memory ran out after reads that succeeded.
+pub starved : {A : Type 0} (s : ℕ) (first middle last : Rack) → ReadsTape s first None middle → ReadsTape s middle None last
+    → (let x : Result A ShelfFault = Err NoMemory in ReadsReel s x first last)
+starved s first middle last one two =
+    let so = reads_then s first middle last None one two in
+    to_err s first last NoMemory (record {
+      only = so.only;
+      no_tape = (λ is. absurd (let no : ⊥ = cc in no), λ is. absurd (let gave = so.no_tape.1 is in let no : ⊥ = cc in no));
+      not_mounted = (λ is. absurd (let no : ⊥ = cc in no), λ is. absurd (let gave = so.not_mounted.1 is in let no : ⊥ = cc in no));
+      kept = λ other. so.kept (λ is. let no : ⊥ = cc in no);
+      rose = λ is. absurd (let no : ⊥ = cc in no);
+    })
 
 -- ONE READ
 told_in : (o : Option Reel) (P : List (List ℕ) → Type 0) → ForSome o (λ r. ForSome r.blocks P) → ForSome (blocks_in o) P

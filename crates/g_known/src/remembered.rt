@@ -1,5 +1,6 @@
 //! A rack, and what is remembered of its reels.
 ghost use Rattle.std.specs.Prelude.{◌≡◌, Err, OnErr, OnOk, false, true};
+ghost use Rattle.g_tape.specs.Durable.{SecuresDurably, WritesDurably};
 ghost use Rattle.g_tape.specs.Rack.{Mounting, Reading, Securing, Writing, refuses_mount, refuses_unmount};
 ghost use Rattle.g_known.specs.ReelNotes.{AreKnown, Fills, HasForgotten, HasNone, HasWritten, noted};
 
@@ -90,6 +91,7 @@ impl<T: Tapes> Remembered<T> {
     pub(crate) fn secure(&mut self, serial: u32) -> Result<(), TapeFault>
         requires known { AreKnown (T.rack self.old.tapes) self.old.known.items }
         ensures securing { Securing serial (T.rack self.old.tapes) result (T.rack self.new.tapes) }
+        ensures durable { SecuresDurably serial (T.rack self.old.tapes) result (T.rack self.new.tapes) }
         ensures known { AreKnown (T.rack self.new.tapes) self.new.known.items }
         ensures same { self.new.known ≡ self.old.known }
     {
@@ -100,6 +102,7 @@ impl<T: Tapes> Remembered<T> {
     pub(crate) fn write(&mut self, serial: u32, k: u32, from: &Block) -> Result<(), TapeFault>
         requires known { AreKnown (T.rack self.old.tapes) self.old.known.items }
         ensures writes { Writing serial k from.now (T.rack self.old.tapes) result (T.rack self.new.tapes) }
+        ensures durable { WritesDurably serial k from.now (T.rack self.old.tapes) result (T.rack self.new.tapes) }
         ensures known { AreKnown (T.rack self.new.tapes) self.new.known.items }
         ensures written { HasWritten serial k self.old.known.items self.new.known.items }
     {

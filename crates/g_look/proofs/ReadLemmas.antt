@@ -15,7 +15,7 @@ use Rattle.g_tape.specs.declared.fault.TapeFault.TheVariants as tape
 use Rattle.g_tape.specs.Rack.{AreReels, Rack, reel, told_of}
 use Rattle.g_tape.specs.Reads.{HasRead, OnlyReads, unread}
 use Rattle.g_tape.specs.Reel.{IsReel, Reel}
-use Rattle.g_tape.proofs.ReadLemmas.{read_then, then_read}
+use Rattle.g_tape.proofs.ReadLemmas.{read_then, still_no_more, then_read}
 use Rattle.g_incr.specs.Layout.{Dump, content_at, ends}
 use Rattle.g_shelf.specs.CompletedDumps.{AreShelved, all_dumps}
 use Rattle.g_shelf.proofs.QuietLemmas.{within}
@@ -216,6 +216,7 @@ only_then old mid new a b =
       arms = b.arms ∙ a.arms;
       read_faults = omega (arith, faults_a, faults_b);
       times = λ s k. omega (arith, a.times s k, b.times s k);
+      durable = still_no_more old mid new a.durable b.durable;
     }
 
 pub compared_step : (P Q : Type 0) (disc mid now : DiscState) (old rmid rnew : Rack) (online : List (ℕ × DiscCopy)) (dumped files slice : List FileRec) (i : ℕ) (r : FileRec) → slice ≡ files → i < length slice → r ≡ get_or slice i r

@@ -6,7 +6,7 @@ use Rattle.std.proofs.lemmas.List.{length-append, take_all}
 use Rattle.g_tape.specs.Rack.{Rack, changed, reel, with_reel}
 use Rattle.g_tape.specs.Reads.{HasRead, OnlyReads, blocks_in, blocks_of, count_at, time_of, times_in, unread}
 use Rattle.g_tape.specs.Reel.{Reel, ending}
-use Rattle.g_tape.proofs.ReadLemmas.{blocks_after_reads, reel-with_reel, reel-with_reel_other, reel_after_reads, then_read}
+use Rattle.g_tape.proofs.ReadLemmas.{blocks_after_reads, reel-with_reel, reel-with_reel_other, reel_after_reads, same_risks, then_read}
 use Rattle.g_process.specs.Progress.{IsBeside, filled}
 
 -- one more block after the present ones
@@ -121,6 +121,7 @@ beside_none s rack = record {
   arms = refl;
   read_faults = omega arith;
   times = λ t k. subst (λ (o : Option (List ℕ)). count_at k o ≤ time_of t k rack) (sym (times_changed s t (filled []) (λ r. refl) (λ r. refl) rack.reels)) (omega arith);
+  durable = same_risks _ rack (ap (map unread) (sym (with_nothing s rack.reels))) refl;
 }
 
 pub beside_more : (old mid new : Rack) → IsBeside old mid → OnlyReads mid new → IsBeside old new
@@ -131,6 +132,7 @@ beside_more old mid new one two = record {
   arms = two.arms ∙ one.arms;
   read_faults = omega (arith, one.read_faults, two.read_faults);
   times = λ s k. omega (arith, one.times s k, two.times s k);
+  durable = same_risks (record old { fuse = new.fuse; risks = new.risks }) new (two.reels ∙ one.reels) refl;
 }
 
 -- a write after them
@@ -139,10 +141,11 @@ pub beside_changed : (s : ℕ) (f g h : Reel → Reel) (old mid new : Rack) → 
     → ((r : Reel) → (h r).serial ≡ r.serial) → ((r : Reel) → (h r).times_read ≡ r.times_read) → ((r : Reel) → f (g r) ≡ h r)
     → IsBeside (changed s g old) mid → new.reels ≡ with_reel s f mid.reels → new.write_faults ≡ mid.write_faults → new.arms ≡ mid.arms → new.read_faults ≡ mid.read_faults
     → IsBeside (changed s h old) new
-beside_changed s f g h old mid new f_serial f_times f_unread g_serial g_times h_serial h_times same so reels write_faults arms read_faults = record {
-  reels =
-      ap (map unread) reels ∙ unread_with s f f_unread mid.reels ∙ ap (with_reel s f) so.reels ∙ sym (unread_with s f f_unread (with_reel s g old.reels))
-      ∙ ap (map unread) (with_twice s f g h g_serial same old.reels);
+beside_changed s f g h old mid new f_serial f_times f_unread g_serial g_times h_serial h_times same so reels write_faults arms read_faults =
+    let still : map unread new.reels ≡ map unread (with_reel s h old.reels) =
+    ap (map unread) reels ∙ unread_with s f f_unread mid.reels ∙ ap (with_reel s f) so.reels ∙ sym (unread_with s f f_unread (with_reel s g old.reels))
+    ∙ ap (map unread) (with_twice s f g h g_serial same old.reels) in record {
+  reels = still;
   write_faults = write_faults ∙ so.write_faults;
   fuse = refl;
   arms = arms ∙ so.arms;
@@ -153,16 +156,17 @@ beside_changed s f g h old mid new f_serial f_times f_unread g_serial g_times h_
       let now : count_at k (times_in (reel t (with_reel s h old.reels))) ≡ count_at k (times_in (reel t (with_reel s g old.reels))) =
       ap (count_at k) (times_changed s t h h_serial h_times old.reels ∙ sym (times_changed s t g g_serial g_times old.reels)) in
       omega (arith, was, here, now);
+  durable = same_risks (record (changed s h old) { fuse = new.fuse; risks = new.risks }) new still refl;
 }
 
-pub beside_ending : (s k : ℕ) (w : List (List ℕ)) (b : List ℕ) (old mid new : Rack) → k ≡ length w → IsBeside (changed s (filled w) old) mid → new ≡ record (changed s (ending k b) mid) { fuse = new.fuse }
+pub beside_ending : (s k : ℕ) (w : List (List ℕ)) (b : List ℕ) (old mid new : Rack) → k ≡ length w → IsBeside (changed s (filled w) old) mid → new ≡ record (changed s (ending k b) mid) { fuse = new.fuse; risks = new.risks }
     → IsBeside (changed s (filled (w ++ b ∷ [])) old) new
 beside_ending s k w b old mid new long so is =
     beside_changed s (ending k b) (filled w) (filled (w ++ b ∷ [])) old mid new (λ r. refl) (λ r. refl) (λ r. refl) (filled_serial w) (filled_times w)
     (filled_serial (w ++ b ∷ [])) (filled_times (w ++ b ∷ [])) (λ r. ending_filled w k b r long) so
     (ap (λ (x : Rack). x.reels) is) (ap (λ (x : Rack). x.write_faults) is) (ap (λ (x : Rack). x.arms) is) (ap (λ (x : Rack). x.read_faults) is)
 
-pub times_ending : (s k : ℕ) (b : List ℕ) (mid new : Rack) → new ≡ record (changed s (ending k b) mid) { fuse = new.fuse } → (t n : ℕ) → time_of t n mid ≤ time_of t n new
+pub times_ending : (s k : ℕ) (b : List ℕ) (mid new : Rack) → new ≡ record (changed s (ending k b) mid) { fuse = new.fuse; risks = new.risks } → (t n : ℕ) → time_of t n mid ≤ time_of t n new
 times_ending s k b mid new is t n =
     let same : time_of t n new ≡ time_of t n mid =
     ap (λ (x : Rack). count_at n (times_in (reel t x.reels))) is ∙ ap (count_at n) (times_changed s t (ending k b) (λ r. refl) (λ r. refl) mid.reels) in
@@ -173,7 +177,7 @@ read_later s k old mid new has more = record { more = λ times is. let was = has
 
 pub read_beside : (s t k : ℕ) (w : List (List ℕ)) (old mid new : Rack) → IsBeside (changed s (filled w) old) mid → HasRead t k mid new → HasRead t k old new
 read_beside s t k w old mid new so has =
-    let other : HasRead t k (record (changed s (filled w) old) { fuse = mid.fuse }) new = then_read t k (record (changed s (filled w) old) { fuse = mid.fuse }) mid new so has in
+    let other : HasRead t k (record (changed s (filled w) old) { fuse = mid.fuse; risks = mid.risks }) new = then_read t k (record (changed s (filled w) old) { fuse = mid.fuse; risks = mid.risks }) mid new so has in
     let same : times_in (reel t (with_reel s (filled w) old.reels)) ≡ times_in (reel t old.reels) = times_changed s t (filled w) (filled_serial w) (filled_times w) old.reels in
     record {
       more = λ times is.
@@ -185,13 +189,13 @@ read_beside s t k w old mid new so has =
 -- another reel is unchanged except for its record of reads
 pub other_beside : (s t : ℕ) (w : List (List ℕ)) (old mid : Rack) → (s ≡ t → ⊥) → IsBeside (changed s (filled w) old) mid → option_map unread (reel t mid.reels) ≡ option_map unread (reel t old.reels)
 other_beside s t w old mid apart so =
-    reel_after_reads t (record (changed s (filled w) old) { fuse = mid.fuse }) mid so ∙ ap (option_map unread) (reel-with_reel_other s t (filled w) (filled_serial w) apart old.reels)
+    reel_after_reads t (record (changed s (filled w) old) { fuse = mid.fuse; risks = mid.risks }) mid so ∙ ap (option_map unread) (reel-with_reel_other s t (filled w) (filled_serial w) apart old.reels)
 
 pub blocks_beside : (s t : ℕ) (w : List (List ℕ)) (old mid : Rack) → (s ≡ t → ⊥) → IsBeside (changed s (filled w) old) mid → blocks_of t mid ≡ blocks_of t old
 blocks_beside s t w old mid apart so =
-    blocks_after_reads t (record (changed s (filled w) old) { fuse = mid.fuse }) mid so ∙ ap blocks_in (reel-with_reel_other s t (filled w) (filled_serial w) apart old.reels)
+    blocks_after_reads t (record (changed s (filled w) old) { fuse = mid.fuse; risks = mid.risks }) mid so ∙ ap blocks_in (reel-with_reel_other s t (filled w) (filled_serial w) apart old.reels)
 
 -- and this one is filled
 pub this_beside : (s : ℕ) (w : List (List ℕ)) (old mid : Rack) → IsBeside (changed s (filled w) old) mid → option_map unread (reel s mid.reels) ≡ option_map unread (option_map (filled w) (reel s old.reels))
 this_beside s w old mid so =
-    reel_after_reads s (record (changed s (filled w) old) { fuse = mid.fuse }) mid so ∙ ap (option_map unread) (reel-with_reel s (filled w) (filled_serial w) old.reels)
+    reel_after_reads s (record (changed s (filled w) old) { fuse = mid.fuse; risks = mid.risks }) mid so ∙ ap (option_map unread) (reel-with_reel s (filled w) (filled_serial w) old.reels)

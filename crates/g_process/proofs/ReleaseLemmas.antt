@@ -191,15 +191,15 @@ release_skips serial lists i l old mid at is so =
     subst (λ (ss : List ℕ). AreReleased ss old mid) (sym (ap (taken serial) (take_next i lists l at) ∙ taken_none serial (take i lists) l is)) so
 
 pub release_goes : (serial : ℕ) (lists : List Listed) (i : ℕ) (l : Listed) (old mid new : Rack) → AreApart old.reels → slice_get lists i ≡ Some l → is_taken serial l ≡ true
-    → AreReleased (taken serial (take i lists)) old mid → new ≡ record (changed l.serial (ending 0 zeros) mid) { fuse = new.fuse }
+    → AreReleased (taken serial (take i lists)) old mid → new ≡ record (changed l.serial (ending 0 zeros) mid) { fuse = new.fuse; risks = new.risks }
     → AreReleased (taken serial (take (i + 1) lists)) old new
 release_goes serial lists i l old mid new apart at is so wrote =
     let ss : List ℕ = taken serial (take i lists) in
     let reels : with_reel l.serial (ending 0 zeros) mid.reels ≡ map (released (ss ++ l.serial ∷ [])) old.reels =
     ap (λ (x : Rack). with_reel l.serial (ending 0 zeros) x.reels) so ∙ with_released l.serial ss old.reels apart in
     subst (λ (ns : List ℕ). AreReleased ns old new) (sym (ap (taken serial) (take_next i lists l at) ∙ taken_one serial (take i lists) l is))
-    (wrote ∙ ap (λ (x : Rack). let y : Rack = record x { reels = with_reel l.serial (ending 0 zeros) mid.reels; fuse = new.fuse } in y) so
-    ∙ ap (λ (rs : List Reel). let y : Rack = record old { reels = rs; fuse = new.fuse } in y) reels)
+    (wrote ∙ ap (λ (x : Rack). let y : Rack = record x { reels = with_reel l.serial (ending 0 zeros) mid.reels; fuse = new.fuse; risks = new.risks } in y) so
+    ∙ ap (λ (rs : List Reel). let y : Rack = record old { reels = rs; fuse = new.fuse; risks = new.risks } in y) reels)
 
 -- a reel of the lists can be written
 pub listed_free : (serial : ℕ) (lists : List Listed) (i : ℕ) (l : Listed) (old mid : Rack) → AreReels old.reels → All (λ r. r.mounted ≡ true) old.reels → map (λ (x : Listed). x.serial) lists ≡ serials old.reels
@@ -208,7 +208,7 @@ listed_free serial lists i l old mid are mounted listed at so =
     release_free l.serial (taken serial (take i lists)) old mid are mounted (subst (λ (ns : List ℕ). Contains ns l.serial) listed (mapped_there (λ (x : Listed). x.serial) lists l (element lists i l at))) so
 
 pub release_cuts : (serial : ℕ) (lists : List Listed) (i : ℕ) (l : Listed) (old mid new : Rack) → slice_get lists i ≡ Some l → is_taken serial l ≡ true → AreReleased (taken serial (take i lists)) old mid
-    → Rose mid.write_faults new.write_faults × ((how : Remains) × (new ≡ record (changed l.serial (left_by how 0) mid) { write_faults = new.write_faults; fuse = new.fuse }))
+    → Rose mid.write_faults new.write_faults × ((how : Remains) × (new ≡ record (changed l.serial (left_by how 0) mid) { write_faults = new.write_faults; fuse = new.fuse; risks = new.risks }))
     → IsCutAt serial lists old new
 release_cuts serial lists i l old mid new at is so (rose, (how, rack)) =
     record { place = i; list = l; at = at; taken_is = is; mid = mid; before = so; rose = rose; how = how; rack = rack }

@@ -60,9 +60,9 @@ read_fails s k old new tapes.NotMounted into free (refused, is) = absurd (let no
 read_fails s k old new tapes.End into free (refused, is) = absurd (let no : ⊥ = cc in no)
 
 pub write_fails : (s k : ℕ) (block : List ℕ) (old new : Rack) (fault : TapeFault) → refuses_write k (reel s old.reels) ≡ None → (let r : Result (Unit {0}) TapeFault = Err fault in Writing s k block old r new)
-    → Rose old.write_faults new.write_faults × ((how : Remains) × (new ≡ record (changed s (left_by how k) old) { write_faults = new.write_faults; fuse = new.fuse }))
+    → Rose old.write_faults new.write_faults × ((how : Remains) × (new ≡ record (changed s (left_by how k) old) { write_faults = new.write_faults; fuse = new.fuse; risks = new.risks }))
 write_fails s k block old new tapes.WriteFailed free (refused, rose, (how, is)) =
-    (rose, (how, is ∙ ap (λ (f : Option ℕ). let x : Rack = record (changed s (left_by how k) old) { write_faults = new.write_faults; fuse = f } in x) (sym (ap (λ (x : Rack). x.fuse) is))))
+    (rose, (how, is ∙ ap (λ (f : Option ℕ). let x : Rack = record (changed s (left_by how k) old) { write_faults = new.write_faults; fuse = f; risks = new.risks } in x) (sym (ap (λ (x : Rack). x.fuse) is))))
 write_fails s k block old new tapes.ReadFailed free writing = absurd writing
 write_fails s k block old new tapes.NoTape free (refused, is) = absurd (let no : ⊥ = cc in no)
 write_fails s k block old new tapes.NotMounted free (refused, is) = absurd (let no : ⊥ = cc in no)
@@ -179,9 +179,9 @@ filled_in serial p rs o rack k i part q (Ok u) block o' new are stands is (same,
 filled_in serial p rs o rack k i part q (Err fault) block o' new are stands is fails = fails
 
 -- a write that was made burnt the fuse, and did nothing else
-pub wrote : (s k : ℕ) (block : List ℕ) (old new : Rack) (u : Unit {0}) → (let r : Result (Unit {0}) TapeFault = Ok u in Writing s k block old r new) → new ≡ record (changed s (ending k block) old) { fuse = new.fuse }
+pub wrote : (s k : ℕ) (block : List ℕ) (old new : Rack) (u : Unit {0}) → (let r : Result (Unit {0}) TapeFault = Ok u in Writing s k block old r new) → new ≡ record (changed s (ending k block) old) { fuse = new.fuse; risks = new.risks }
 wrote s k block old new u (granted, unspent, is) =
-    is ∙ ap (λ (f : Option ℕ). let x : Rack = record (changed s (ending k block) old) { fuse = f } in x) (sym (ap (λ (x : Rack). x.fuse) is))
+    is ∙ ap (λ (f : Option ℕ). let x : Rack = record (changed s (ending k block) old) { fuse = f; risks = new.risks } in x) (sym (ap (λ (x : Rack). x.fuse) is))
 
 -- a reel that could be written can be after reads
 pub free_after : (s k : ℕ) (old new : Rack) → OnlyReads old new → refuses_write k (reel s old.reels) ≡ None → refuses_write k (reel s new.reels) ≡ None

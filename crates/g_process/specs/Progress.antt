@@ -23,7 +23,7 @@ filled (b ∷ bs) r = record r { len = length (b ∷ bs); blocks = option_map (�
 
 -- The rack had nothing but reads, apart from its fuse.
 abbrev pub IsBeside : Rack → Rack → Type 0
-IsBeside old new = OnlyReads (record old { fuse = new.fuse }) new
+IsBeside old new = OnlyReads (record old { fuse = new.fuse; risks = new.risks }) new
 
 -- A version's block is read from the disc if the file is there, otherwise from its copy on tape.
 pub record IsSource (o : OnlineFacts) (old new : Rack) (r : FileRec) (part : ℕ) (block : List ℕ) : Type 0 where
@@ -88,7 +88,7 @@ pub record FailedAt (serial k : ℕ) (old new : Rack) : Type 0 where
   pub kept : mid.read_faults ≡ old.read_faults
   pub rose : Rose mid.write_faults new.write_faults
   pub how : Remains
-  pub rack : new ≡ record (changed serial (left_by how k) mid) { write_faults = new.write_faults; fuse = new.fuse }
+  pub rack : new ≡ record (changed serial (left_by how k) mid) { write_faults = new.write_faults; fuse = new.fuse; risks = new.risks }
 
 -- The block was written.
 pub record WroteAt (serial : ℕ) (p : Plan) (rs : List FileRec) (o : OnlineFacts) (k : ℕ) (old new : Rack) : Type 0 where
@@ -97,7 +97,7 @@ pub record WroteAt (serial : ℕ) (p : Plan) (rs : List FileRec) (o : OnlineFact
   pub kept : mid.read_faults ≡ old.read_faults
   pub block : List ℕ
   pub block_is : IsBlockOf p rs o old mid k block
-  pub rack : new ≡ record (changed serial (ending k block) mid) { fuse = new.fuse }
+  pub rack : new ≡ record (changed serial (ending k block) mid) { fuse = new.fuse; risks = new.risks }
 
 -- Block k of the dump was written, or its write failed, or a read failed.
 abbrev pub WritesBlock : ℕ → Plan → List FileRec → ℕ → OnlineFacts → Rack → Result (Unit {0}) StoreFault → OnlineFacts → Rack → Type 0

@@ -25,7 +25,7 @@ released serials r = if has serials r.serial then ending 0 zeros r else r
 
 -- All reels with these serials are released, and nothing else has changed except the fuse.
 abbrev pub AreReleased : List ℕ → Rack → Rack → Type 0
-AreReleased serials old new = new ≡ record old { reels = map (released serials) old.reels; fuse = new.fuse }
+AreReleased serials old new = new ≡ record old { reels = map (released serials) old.reels; fuse = new.fuse; risks = new.risks }
 
 -- The release of one of them failed, after the previous ones were released.
 pub record IsCutAt (serial : ℕ) (lists : List Listed) (old new : Rack) : Type 0 where
@@ -37,4 +37,4 @@ pub record IsCutAt (serial : ℕ) (lists : List Listed) (old new : Rack) : Type 
   pub before : AreReleased (taken serial (take place lists)) old mid
   pub rose : Rose mid.write_faults new.write_faults
   pub how : Remains
-  pub rack : new ≡ record (changed list.serial (left_by how 0) mid) { write_faults = new.write_faults; fuse = new.fuse }
+  pub rack : new ≡ record (changed list.serial (left_by how 0) mid) { write_faults = new.write_faults; fuse = new.fuse; risks = new.risks }

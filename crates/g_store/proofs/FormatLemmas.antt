@@ -13,6 +13,7 @@ use Rattle.g_entry.specs.declared.head.Head.{Head}
 use Rattle.g_entry.specs.declared.user_rec.UserRec.{UserRec}
 use Rattle.g_tape.specs.Rack.{AreReels, Rack}
 use Rattle.g_tape.specs.Reel.{Reel}
+use Rattle.g_tape.proofs.ReadLemmas.{nothing_read}
 use Rattle.g_plain.specs.PlainTree.{formatted}
 use Rattle.g_plain.specs.PlainStep.{first_fault}
 use Rattle.g_plain.specs.declared.faults.StoreFault.{StoreFault}
@@ -113,7 +114,7 @@ module _ (disc : DiscState) (users : List UserRec) (files : List FileRec) (none 
           keeps = store_made o made.begun rack tied;
           causes = made.causes;
           durable = λ blocks was is_safe. made.durable;
-          tapes = record { reels = refl; write_faults = refl; fuse = refl; arms = refl; read_faults = omega arith; times = λ s k. omega arith };
+          tapes = nothing_read rack;
           tape_read = refl;
           wrote = made.wrote;
           told = λ told. told_back o.disc.held disc.held reels (sym made.told) told;
@@ -179,7 +180,7 @@ module _ (disc : DiscState) (users : List UserRec) (files : List FileRec) (none 
       cut_is = record {
         refuses = record {
           causes = Causes-for (λ no. absurd no) (λ is. (let no : ⊥ = cc in no)) (λ _. refl) (λ _. tt) causes;
-          tapes = record { reels = refl; write_faults = refl; fuse = refl; arms = refl; read_faults = omega arith; times = λ s k. omega arith };
+          tapes = nothing_read rack;
           tape_read = λ is. absurd (let no : ⊥ = cc in no);
           tape_read_only = λ _. refl;
           held = λ no. absurd (no refl);
@@ -203,7 +204,7 @@ module _ (disc now : DiscState) (rack : Rack) (held : now.held ≡ disc.held) (w
       → ((s : state.State) → DevicesStandFor disc.size disc.held on_tape s → StepsDown FormatStep s disc rack fault now rack) → Refuses (Unit {0}) FormatStep disc rack fault now rack
   quietly fault other causes steps = record {
     causes = causes;
-    tapes = record { reels = refl; write_faults = refl; fuse = refl; arms = refl; read_faults = omega arith; times = λ s k. omega arith };
+    tapes = nothing_read rack;
     tape_read = λ is. absurd (other is);
     tape_read_only = λ _. refl;
     held = λ _. held;

@@ -11,6 +11,7 @@ use Rattle.g_entry.specs.declared.file_rec.FileRec.{FileRec}
 use Rattle.g_entry.specs.declared.file_rec.TapeCopy.{TapeCopy}
 use Rattle.g_entry.specs.declared.user_rec.UserRec.{UserRec}
 use Rattle.g_tape.specs.Rack.{Rack}
+use Rattle.g_tape.proofs.ReadLemmas.{nothing_read}
 use Rattle.g_name.specs.declared.full.Full.{Full}
 use Rattle.g_name.specs.declared.path.Path.{Path}
 use Rattle.g_plain.specs.declared.faults.StoreFault.{StoreFault}
@@ -64,7 +65,7 @@ exact_none refusal t new r is others = record {
 no_cause : (t : StoreFacts) (fault : StoreFault) → fault ≢ DiscReadFault → fault ≢ TapeReadFault → fault ≢ Stopped → (let r : Result Full StoreFault = Err fault in HasCause t t r)
 no_cause t fault disc tape stop = record {
   disc = Causes-none t.online.disc (λ is. disc (let same : fault ≡ DiscReadFault = cc in same)) (λ is. stop (let same : fault ≡ Stopped = cc in same));
-  tapes = record { reels = refl; write_faults = refl; fuse = refl; arms = refl; read_faults = omega arith; times = λ s k. omega arith };
+  tapes = nothing_read t.rack;
   tape_read = λ is. absurd (tape (let same : fault ≡ TapeReadFault = cc in same));
   tape_read_only = λ _. refl;
   writes = λ f is other. refl;
@@ -251,7 +252,7 @@ module _ (path : Path) (t : StoreFacts) (unspent : t.spent ≡ false) (keeps : I
             };
             cause = record {
               disc = Causes-for (λ no. absurd no) (λ is. (let no : ⊥ = cc in no)) (λ no. absurd no) (λ is. (let no : ⊥ = cc in no)) causes;
-              tapes = record { reels = refl; write_faults = refl; fuse = refl; arms = refl; read_faults = omega arith; times = λ s k. omega arith };
+              tapes = nothing_read t.rack;
               tape_read = λ is. absurd (let no : ⊥ = cc in no);
               tape_read_only = λ _. refl;
               writes = λ fault is other. absurd (let no : ⊥ = cc in no);
@@ -323,7 +324,7 @@ module _ (path : Path) (t : StoreFacts) (unspent : t.spent ≡ false) (keeps : I
             };
             cause = record {
               disc = Causes-for (λ no. absurd no) (λ is. (let no : ⊥ = cc in no)) (λ _. refl) (λ _. tt) causes;
-              tapes = record { reels = refl; write_faults = refl; fuse = refl; arms = refl; read_faults = omega arith; times = λ s k. omega arith };
+              tapes = nothing_read t.rack;
               tape_read = λ is. absurd (let no : ⊥ = cc in no);
               tape_read_only = λ _. refl;
               writes = λ fault is other. absurd (other (let it : fault ≡ Stopped = cc in it));

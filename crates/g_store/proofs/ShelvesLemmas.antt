@@ -70,7 +70,7 @@ module _ (d : DumpFacts) (o : OnlineFacts) (old : Rack) (reels : AreReels old.re
   abbrev More : Rack → Type 0
   More new = AreShelved (with_dump made shelf) (told_reels new)
 
-  module _ (new : Rack) (how : Remains) (faults : ℕ) (at : new ≡ record (changed d.plan.serial (left_by how (d.plan.place + d.done)) old) { write_faults = faults; fuse = burnt old.fuse }) where
+  module _ (new : Rack) (how : Remains) (faults : ℕ) (at : new ≡ record (changed d.plan.serial (left_by how (d.plan.place + d.done)) old) { write_faults = faults; fuse = burnt old.fuse; risks = new.risks }) where
     serials_same : serials (told_reels new) ≡ serials (told_reels old)
     serials_same = told_serials new.reels ∙ same_reels d old new how faults at ∙ sym (told_serials old.reels)
 

@@ -235,7 +235,7 @@ module _ (d : DumpFacts) (o : OnlineFacts) (old : Rack) (reels : AreReels old.re
       (stands (up_with gone old None) end refl (record { view = v; is = view_is; opens = record { is = λ all qs some. tt }; state_is = refl }))
 
   -- THE REEL WAS WRITTEN, or a write of it failed
-  module _ (new : Rack) (how : Remains) (faults : ℕ) (written : new ≡ record (changed d.plan.serial (left_by how at) old) { write_faults = faults; fuse = burnt old.fuse }) where
+  module _ (new : Rack) (how : Remains) (faults : ℕ) (written : new ≡ record (changed d.plan.serial (left_by how at) old) { write_faults = faults; fuse = burnt old.fuse; risks = new.risks }) where
     reels_are : new.reels ≡ with_reel d.plan.serial (left_by how at) old.reels
     reels_are = ap (λ (r : Rack). r.reels) written
 

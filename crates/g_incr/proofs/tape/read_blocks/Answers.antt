@@ -1,7 +1,7 @@
 use Rattle.std.proofs.Common.{arith, sym, subst, ◌∙◌, ◌+◌, List, ℕ}
 use Rattle.g_tape.proofs.ReadLemmas.{read_then}
 use Rattle.g_incr.proofs.ListLemmas.{at_none, at_some}
-use Rattle.g_incr.proofs.TapeLemmas.{HaveRead, ends_at, from_err, from_ok, one_more_read, read_up_to, reads_then, to_err}
+use Rattle.g_incr.proofs.TapeLemmas.{HaveRead, ends_at, from_err, from_ok, one_more_read, read_up_to, reads_then, starved, to_err}
 use Rattle.g_incr.proofs.tape.read_blocks.Goals as goal
 
 pub returns-in-Ok-None-clause-found : goal.returns-in-Ok-None-clause-found
@@ -21,6 +21,9 @@ returns-in-Ok-None-clause-fewer g c = λ less.
 pub returns-in-Err-read_block-clause-reads : goal.returns-in-Err-read_block-clause-reads
 returns-in-Err-read_block-clause-reads g c =
     to_err c.args.serial _ _ _ (reads_then c.args.serial _ _ _ _ c.loop-k.invariant.reads (from_err c.args.serial _ _ _ c.in-Err-read_block.ensures.reads))
+
+pub returns-in-Err-push-clause-reads : goal.returns-in-Err-push-clause-reads
+returns-in-Err-push-clause-reads g c = starved c.args.serial _ _ _ c.loop-k.invariant.reads (from_ok c.args.serial _ _ _ c.in-Ok-Some.ensures.reads)
 
 pub loop-k-preserved : goal.loop-k-preserved
 loop-k-preserved g c =

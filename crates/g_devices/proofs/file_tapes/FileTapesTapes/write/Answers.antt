@@ -1,8 +1,10 @@
-use Rattle.std.proofs.Common.{◌≡◌, List, Some, true, subst, ap, ◌∙◌}
+use Rattle.std.proofs.Common.{◌≡◌, Err, List, Ok, Some, true, refl, subst, ap, ◌∙◌}
 use Rattle.g_base.proofs.FuseLemmas.{fused_failed, fused_well}
+use Rattle.g_tape.specs.declared.fault.TapeFault.TheVariants.{WriteFailed}
 use Rattle.g_tape.specs.Reel.{Reel}
 use Rattle.g_tape.specs.Rack.{refuses_write}
 use Rattle.g_tape.specs.Place.{IsPlaceOf}
+use Rattle.g_tape.proofs.DurableLemmas.{writes_durably}
 use Rattle.g_tape.proofs.RackLemmas.{AreReels-set, still-free}
 use Rattle.g_devices.proofs.FileRack.{rack_of, serial_left, write_done, write_failed}
 use Rattle.g_devices.proofs.ReelEnds.{done_any, left_any}
@@ -43,25 +45,28 @@ returns-then-burn c =
     let place = subst (λ (rs : List Reel). IsPlaceOf c.args.serial rs c.in-Some.place) c.deref.ensures.value c.in-Some.ensures in
     let free = still-free (refuses_write c.args.k) _ _ _ _ _ place.within c.index.ensures c.index_mut.ensures.value
     (c.refuses_write.ensures ∙ ap (λ (r : Reel). refuses_write c.args.k (Some r)) c.state.ensures) c.in_default-refuses_write.is in
-    write_failed c.args.serial c.args.k c.in-Some.place (rack_of c.args.self.now) c.index_mut.result.now place c.index_mut.ensures.value c.args.from.now
+    let written = write_failed c.args.serial c.args.k c.in-Some.place (rack_of c.args.self.now) c.index_mut.result.now place c.index_mut.ensures.value c.args.from.now
     c.burn.new.self c.raised-self.result c.end_with-left.new.self free
-    (left_any c.args.k _ _ _ c.end_with-left.ensures.done c.end_with-left.ensures.left) c.burn.ensures.left c.raised-self.ensures
+    (left_any c.args.k _ _ _ c.end_with-left.ensures.done c.end_with-left.ensures.left) c.burn.ensures.left c.raised-self.ensures in
+    record { written = written; durable = writes_durably _ _ _ _ _ refl refl c.args.self.now.well_formed (Err WriteFailed) written }
 
 pub returns-in-Ok : goal.returns-in-Ok
 returns-in-Ok c =
     let place = subst (λ (rs : List Reel). IsPlaceOf c.args.serial rs c.in-Some.place) c.deref.ensures.value c.in-Some.ensures in
     let free = still-free (refuses_write c.args.k) _ _ _ _ _ place.within c.index.ensures c.index_mut-2.ensures.value
     (c.refuses_write.ensures ∙ ap (λ (r : Reel). refuses_write c.args.k (Some r)) c.state.ensures) c.in_default-refuses_write.is in
-    write_done c.args.serial c.args.k c.in-Some.place (rack_of c.args.self.now) c.index_mut-2.result.now place c.index_mut-2.ensures.value c.args.from.now
+    let written = write_done c.args.serial c.args.k c.in-Some.place (rack_of c.args.self.now) c.index_mut-2.result.now place c.index_mut-2.ensures.value c.args.from.now
     c.burn.new.self c.end_with.new.self free
     (done_any c.args.k c.args.from.now c.index_mut-2.result.now c.end_with.new.self _ _ c.in-Ok.is c.end_with.ensures.done) c.burn.ensures.left
-    (λ armed. let fires : c.burn.result ≡ true = c.burn.ensures.fires.1 armed in cc)
+    (λ armed. let fires : c.burn.result ≡ true = c.burn.ensures.fires.1 armed in cc) in
+    record { written = written; durable = writes_durably _ _ _ _ _ refl refl c.args.self.now.well_formed (Ok tt) written }
 
 pub returns-in-Err : goal.returns-in-Err
 returns-in-Err c =
     let place = subst (λ (rs : List Reel). IsPlaceOf c.args.serial rs c.in-Some.place) c.deref.ensures.value c.in-Some.ensures in
     let free = still-free (refuses_write c.args.k) _ _ _ _ _ place.within c.index.ensures c.index_mut-2.ensures.value
     (c.refuses_write.ensures ∙ ap (λ (r : Reel). refuses_write c.args.k (Some r)) c.state.ensures) c.in_default-refuses_write.is in
-    write_failed c.args.serial c.args.k c.in-Some.place (rack_of c.args.self.now) c.index_mut-2.result.now place c.index_mut-2.ensures.value c.args.from.now
+    let written = write_failed c.args.serial c.args.k c.in-Some.place (rack_of c.args.self.now) c.index_mut-2.result.now place c.index_mut-2.ensures.value c.args.from.now
     c.burn.new.self c.raised-self-in-Err.result c.end_with.new.self free
-    (left_any c.args.k _ _ _ c.end_with.ensures.done c.end_with.ensures.left) c.burn.ensures.left c.raised-self-in-Err.ensures
+    (left_any c.args.k _ _ _ c.end_with.ensures.done c.end_with.ensures.left) c.burn.ensures.left c.raised-self-in-Err.ensures in
+    record { written = written; durable = writes_durably _ _ _ _ _ refl refl c.args.self.now.well_formed (Err WriteFailed) written }

@@ -25,7 +25,7 @@ lost_among-self-requires g c =
     let stands = standing-first c.args.serial (g.T.Tapes.rack c.args.self.now.first).reels c.args.self.now.standings c.in-Some.place c.get-standing.result first long c.get-standing.ensures in
     let same = c.set.ensures ∙ sym (changed-first c.args.serial (g.T.Tapes.rack c.args.self.now.first).reels c.args.self.now.standings c.in-Some.place c.secure_twins-secured.result.1 first long) in
     let done = pair_secures_as c.args.serial (pair_of c.args.self.now) c.get-standing.result c.secure_twins-secured.result.1 (g.T.Tapes.rack c.secure_twins-secured.new.first)
-    (g.T.Tapes.rack c.secure_twins-secured.new.second) c.secure_twins-secured.result.0 c.set.new.self _ c.args.self.now.paired stands c.secure_twins-secured.ensures same refl in
+    (g.T.Tapes.rack c.secure_twins-secured.new.second) c.secure_twins-secured.result.0 c.set.new.self _ c.args.self.now.paired stands c.secure_twins-secured.ensures.secured c.secure_twins-secured.ensures.durable c.secure_twins-secured.ensures.others same refl in
     long_standings c.set.new.self (g.T.Tapes.rack c.secure_twins-secured.new.first).reels (g.T.Tapes.rack c.secure_twins-secured.new.second).reels done.1
 
 pub invariant_of-self-2 : goal.invariant_of-self-2
@@ -35,7 +35,7 @@ invariant_of-self-2 g c =
     let stands = standing-first c.args.serial (g.T.Tapes.rack c.args.self.now.first).reels c.args.self.now.standings c.in-Some.place c.get-standing.result first long c.get-standing.ensures in
     let same = c.set.ensures ∙ sym (changed-first c.args.serial (g.T.Tapes.rack c.args.self.now.first).reels c.args.self.now.standings c.in-Some.place c.secure_twins-secured.result.1 first long) in
     let done = pair_secures_as c.args.serial (pair_of c.args.self.now) c.get-standing.result c.secure_twins-secured.result.1 (g.T.Tapes.rack c.secure_twins-secured.new.first)
-    (g.T.Tapes.rack c.secure_twins-secured.new.second) c.secure_twins-secured.result.0 c.set.new.self c.counted-self.result c.args.self.now.paired stands c.secure_twins-secured.ensures same
+    (g.T.Tapes.rack c.secure_twins-secured.new.second) c.secure_twins-secured.result.0 c.set.new.self c.counted-self.result c.args.self.now.paired stands c.secure_twins-secured.ensures.secured c.secure_twins-secured.ensures.durable c.secure_twins-secured.ensures.others same
     c.counted-self.ensures in
     record { paired = done.1; told = c.lost_among-self.ensures; fused = c.args.self.now.fused }
 
@@ -46,5 +46,5 @@ returns g c =
     let stands = standing-first c.args.serial (g.T.Tapes.rack c.args.self.now.first).reels c.args.self.now.standings c.in-Some.place c.get-standing.result first long c.get-standing.ensures in
     let same = c.set.ensures ∙ sym (changed-first c.args.serial (g.T.Tapes.rack c.args.self.now.first).reels c.args.self.now.standings c.in-Some.place c.secure_twins-secured.result.1 first long) in
     (pair_secures_as c.args.serial (pair_of c.args.self.now) c.get-standing.result c.secure_twins-secured.result.1 (g.T.Tapes.rack c.secure_twins-secured.new.first)
-    (g.T.Tapes.rack c.secure_twins-secured.new.second) c.secure_twins-secured.result.0 c.set.new.self c.counted-self.result c.args.self.now.paired stands c.secure_twins-secured.ensures same
+    (g.T.Tapes.rack c.secure_twins-secured.new.second) c.secure_twins-secured.result.0 c.set.new.self c.counted-self.result c.args.self.now.paired stands c.secure_twins-secured.ensures.secured c.secure_twins-secured.ensures.durable c.secure_twins-secured.ensures.others same
     c.counted-self.ensures).0

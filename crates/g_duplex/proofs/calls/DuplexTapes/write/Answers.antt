@@ -29,7 +29,8 @@ lost_among-self-requires g c =
     let same = c.set.ensures ∙ sym (changed-first c.args.serial (g.T.Tapes.rack c.args.self.now.first).reels c.args.self.now.standings c.in-Some.place c.write_twins-answer.result.1 first long) in
     let done = pair_writes_as c.args.serial c.args.k c.args.from.now (pair_of c.args.self.now) c.get-standing.result (g.T.Tapes.rack c.write_twins-answer.new.first) (g.T.Tapes.rack c.write_twins-answer.new.second)
     c.write_twins-answer.result.0 c.write_twins-answer.result.1 c.burn-fires.result c.set.new.self _ c.burn-fires.new.self (g.met.T.Tapes.well_formed c.args.self.now.first)
-    (g.met.T.Tapes.well_formed c.args.self.now.second) c.args.self.now.paired stands (sym c.refuses_write.ensures ∙ c.in_default-refuses_write.is) c.burn-fires.ensures.fires c.write_twins-answer.ensures
+    (g.met.T.Tapes.well_formed c.args.self.now.second) c.args.self.now.paired stands (sym c.refuses_write.ensures ∙ c.in_default-refuses_write.is) c.burn-fires.ensures.fires c.write_twins-answer.ensures.written
+    c.write_twins-answer.ensures.durable c.write_twins-answer.ensures.others
     same refl c.burn-fires.ensures.left in
     long_standings c.set.new.self (g.T.Tapes.rack c.write_twins-answer.new.first).reels (g.T.Tapes.rack c.write_twins-answer.new.second).reels done.1
 
@@ -41,7 +42,8 @@ invariant_of-self-2 g c =
     let same = c.set.ensures ∙ sym (changed-first c.args.serial (g.T.Tapes.rack c.args.self.now.first).reels c.args.self.now.standings c.in-Some.place c.write_twins-answer.result.1 first long) in
     let done = pair_writes_as c.args.serial c.args.k c.args.from.now (pair_of c.args.self.now) c.get-standing.result (g.T.Tapes.rack c.write_twins-answer.new.first) (g.T.Tapes.rack c.write_twins-answer.new.second)
     c.write_twins-answer.result.0 c.write_twins-answer.result.1 c.burn-fires.result c.set.new.self c.counted-self.result c.burn-fires.new.self (g.met.T.Tapes.well_formed c.args.self.now.first)
-    (g.met.T.Tapes.well_formed c.args.self.now.second) c.args.self.now.paired stands (sym c.refuses_write.ensures ∙ c.in_default-refuses_write.is) c.burn-fires.ensures.fires c.write_twins-answer.ensures
+    (g.met.T.Tapes.well_formed c.args.self.now.second) c.args.self.now.paired stands (sym c.refuses_write.ensures ∙ c.in_default-refuses_write.is) c.burn-fires.ensures.fires c.write_twins-answer.ensures.written
+    c.write_twins-answer.ensures.durable c.write_twins-answer.ensures.others
     same c.counted-self.ensures c.burn-fires.ensures.left in
     record {
       paired = done.1;
@@ -57,5 +59,6 @@ returns g c =
     let same = c.set.ensures ∙ sym (changed-first c.args.serial (g.T.Tapes.rack c.args.self.now.first).reels c.args.self.now.standings c.in-Some.place c.write_twins-answer.result.1 first long) in
     (pair_writes_as c.args.serial c.args.k c.args.from.now (pair_of c.args.self.now) c.get-standing.result (g.T.Tapes.rack c.write_twins-answer.new.first) (g.T.Tapes.rack c.write_twins-answer.new.second)
     c.write_twins-answer.result.0 c.write_twins-answer.result.1 c.burn-fires.result c.set.new.self c.counted-self.result c.burn-fires.new.self (g.met.T.Tapes.well_formed c.args.self.now.first)
-    (g.met.T.Tapes.well_formed c.args.self.now.second) c.args.self.now.paired stands (sym c.refuses_write.ensures ∙ c.in_default-refuses_write.is) c.burn-fires.ensures.fires c.write_twins-answer.ensures
+    (g.met.T.Tapes.well_formed c.args.self.now.second) c.args.self.now.paired stands (sym c.refuses_write.ensures ∙ c.in_default-refuses_write.is) c.burn-fires.ensures.fires c.write_twins-answer.ensures.written
+    c.write_twins-answer.ensures.durable c.write_twins-answer.ensures.others
     same c.counted-self.ensures c.burn-fires.ensures.left).0
