@@ -89,7 +89,7 @@ module _ (d : DumpFacts) (o : OnlineFacts) (old : Rack) (reels : AreReels old.re
       (shelved_then d old new (Torn wrote.block) old.write_faults wrote.rack (with_dump made base)
       (marked_shelf d o old reels told.each is text base on_base up content has last wrote.block (wrote.next.is is.pins is.pinned content has)))
 
-  torn : (new : Rack) → FailedWrite d old new → Same new ⊎ More new
+  torn : (new : Rack) → FailedWrite d o.pins old new → Same new ⊎ More new
   torn new failed = by_place (cases_order (d.done + 1) (needs d.plan))
     where
       by_cut : AreShelved base (map unread (with_reel d.plan.serial (left_by failed.how (d.plan.place + d.done)) old.reels))

@@ -424,7 +424,7 @@ module _ (d : DumpFacts) (o : OnlineFacts) (old : Rack) (reels : AreReels old.re
       leads (Err DiscReadFault) (up_with o' old None) (record s { open_dump = None }) DiscRead (given_up o' left.facts) left.rose (refl, writes_now left.version left.part left.content, refl) u here
 
   -- the write of the block failed
-  module _ (new : Rack) (failed : FailedWrite d old new) (u : state.State) (here : StandsForState before u) where
+  module _ (new : Rack) (failed : FailedWrite d o.pins old new) (u : state.State) (here : StandsForState before u) where
     leads_cut : (end : state.State) → StandsForState (spent_with o new) end
         → UsedByCut od (down s) end ⊎ ((od.done + 1 ≡ od.needs) × ((end ≡ uses true od (down (marked od s))) ⊎ (end ≡ uses true od (down (completed od k s)))))
         → LeadsBy IsStepOfDump u before (spent_with o new) (Err Stopped)

@@ -62,7 +62,7 @@ module _ (d d2 : DumpFacts) (o o2 : OnlineFacts) (r r2 : Rack) where
         tape_armed = ap (λ (x : Rack). x.arms) is;
       }
 
-  tape_cut : FailedWrite d r r2 → o2 ≡ o → DumpCounted Cut (both o r) (both o2 r2)
+  tape_cut : FailedWrite d o.pins r r2 → o2 ≡ o → DumpCounted Cut (both o r) (both o2 r2)
   tape_cut failed is =
       let reads = ap (λ (x : Rack). x.read_faults) failed.rack in
       record {
