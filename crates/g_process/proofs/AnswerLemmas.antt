@@ -15,7 +15,7 @@ use Rattle.g_entry.specs.declared.file_rec.FileRec.{FileRec}
 use Rattle.g_entry.specs.declared.file_rec.TapeCopy.{TapeCopy}
 use Rattle.g_entry.specs.declared.head.Intent.{Intent}
 use Rattle.g_tape.specs.Rack.{AreReels, Rack, reel}
-use Rattle.g_tape.specs.Reads.{HasRead, OnlyReads, blocks_in, blocks_of as blocks_at, time_of, unread}
+use Rattle.g_tape.specs.Reads.{HasRead, OnlyReads, blocks_in, blocks_of as blocks_at, is_syncable, time_of, unread}
 use Rattle.g_tape.specs.Reel.{IsReel, Reel, Remains, left_by}
 use Rattle.g_tape.proofs.ReadLemmas.{blocks_after_reads, is_reel, reel_after_reads, then_read}
 use Rattle.g_tape.proofs.PlaceLemmas.{reel-found}
@@ -29,10 +29,13 @@ use Rattle.g_incr.specs.Layout.{Dump}
 use Rattle.g_incr.specs.Plan.{IsAway, IsPlan, Plan, blocks_of, content_blocks, dump_of, first_content, needs, waiting}
 use Rattle.g_online.specs.ReadyCopies.{HasAdopted, adopted}
 use Rattle.g_shelf.specs.CompletedDumps.{AreCompleted, AreShelved}
+use Rattle.g_shelf.specs.Surviving.{CanSurvive, DumpsSurvive}
+use Rattle.g_shelf.proofs.SurvivingLemmas.{durable_dumps, survive_reads}
 use Rattle.g_store_meaning.specs.Answers.{Belongs, Told, WroteCommits}
 use Rattle.g_store_meaning.specs.Meaning.{told_reels}
 use Rattle.g_store_meaning.specs.Reading.{AllTold}
 use Rattle.g_store_meaning.specs.StoreInvariant.{IsUp, StoreFacts}
+use Rattle.g_store_meaning.specs.Surviving.{AreDumpsSafe}
 use Rattle.g_laws_store.specs.ForgottenCopies.{bare_rec}
 use Rattle.g_laws_store.proofs.ReleaseLemmas.{one_block_is_none}
 use Rattle.g_dumper.specs.Beginning.{intent_of}
@@ -48,7 +51,7 @@ use Rattle.g_process.specs.Preparation.{AtBlock, AtCopies, AtIntent, AtRelease, 
 use Rattle.g_process.specs.NamedCopies.{intended_by, moved_by, process_copies, process_intent}
 use Rattle.g_process.specs.Exits.{IsReadBy, Stops, StopsRelease}
 use Rattle.g_process.specs.Processing.{CutCopies, CutDump, CutIntent, CutRelease, StopLeaves, IsDumped, IsLeftBy, IsOther, IsReleased, HasReadFile, Processes, behind_process, process_refuses}
-use Rattle.g_process.specs.Releases.{AreReleased, is_taken, released, taken}
+use Rattle.g_process.specs.Releases.{AreReleased, is_taken, released, taken, zeros}
 use Rattle.g_process.specs.Progress.{AreReadable, FailedAt, FailsReading, HasWritten, IsBlockOf, IsSource, filled}
 use Rattle.g_process.proofs.BecomeLemmas.{Becomes, all_cons, apart_of, at_name, at_serial, becomes_filled, becomes_left, becomes_read, becomes_released, becomes_then, both_at, label_left, labels, left_name, released_name, times_left, labels_beside, labels_changed, labels_reads, labels_released, same_serials, same_told, zip_labels}
 use Rattle.g_process.proofs.ContentLemmas.{all_read, within_content, front_bare}
@@ -58,7 +61,9 @@ use Rattle.g_process.proofs.DoneLemmas.{IsHeldBy, at_this, has_taken, held_left,
 use Rattle.g_process.proofs.ListLemmas.{free_by_list, noted_at}
 use Rattle.g_process.proofs.PlanLemmas.{all_versions}
 use Rattle.g_process.proofs.ProcessLemmas.{none_refused, refuses_early, refuses_late, store_up}
-use Rattle.g_process.proofs.ReelLemmas.{filled_serial, read_later}
+use Rattle.g_process.proofs.DurableLemmas.{less_survive}
+use Rattle.g_process.proofs.SafeLemmas.{blocks_stay, can_failed, filled_blocks, first_ready, nothing_filled, partial_survives, safe_spent, safe_up, survive_beside, survive_mid, survive_released, whole_durable}
+use Rattle.g_process.proofs.ReelLemmas.{blocks_beside, filled_serial, read_later}
 use Rattle.g_process.proofs.ReleaseLemmas.{AreApart, times_released}
 use Rattle.g_process.proofs.WriteLemmas.{contained, get_map}
 
@@ -161,6 +166,7 @@ module _ (job : Job) (o : OnlineFacts) (old mid : Rack) (live : o.live ≡ true)
         (subst (λ (p : Plan). IsBlockOf p rs begun mid m j block) ready.plan (so.each j block is));
     rack = so.rack;
     kept = so.kept;
+    durably = so.durably;
   }
 
   files_at : (begun : OnlineFacts) → HasIntended (intent_of plan) o begun → begun.contents.files ≡ o.contents.files
@@ -168,6 +174,26 @@ module _ (job : Job) (o : OnlineFacts) (old mid : Rack) (live : o.live ≡ true)
 
   need_is : needs plan ≡ needs (process_plan serial o)
   need_is = ap needs ready.plan
+
+  -- THE DUMPS ARE SAFE: of the other reels, and of this one, which has none yet
+  beside_same : (begun : OnlineFacts) (k : ℕ) (m : Rack) → (so : HasWritten serial plan rs begun k mid m) → (n : ℕ) → (n ≡ serial → ⊥) → blocks_at n m ≡ blocks_at n mid
+  beside_same begun k m so n apart = blocks_beside serial n so.written mid m (λ e. apart (sym e)) so.rack
+
+  safe_mid : AreDumpsSafe (up_with o old None) → (n : ℕ) → DumpsSurvive n mid
+  safe_mid safe = survive_mid o old mid only safe
+
+  partial_dumps : (begun : OnlineFacts) (k : ℕ) (m : Rack) → k < needs plan → (so : HasWritten serial plan rs begun k mid m) → AreDumpsSafe (up_with o old None) → (n : ℕ) → DumpsSurvive n m
+  partial_dumps begun k m less so safe =
+      survive_beside serial so.written mid m so.durably (beside_same begun k m so) (safe_mid safe) (by so.written refl)
+    where
+      by : (w : List (List ℕ)) → so.written ≡ w → DumpsSurvive serial m
+      by [] is = less_survive serial mid m (so.durably.none (ap (λ (x : List (List ℕ)). length x) is)) (nothing_filled serial so.written mid m is so.rack) (safe_mid safe serial)
+      by (b ∷ bs) is =
+          let first : slice_get so.written 0 ≡ Some b = ap (λ (x : List (List ℕ)). slice_get x 0) is in
+          let some : 0 < length so.written = (let long = ap (λ (x : List (List ℕ)). length x) is in omega (arith, long)) in
+          partial_survives serial (process_plan serial o) m so.written b rules_are (process_away serial o) refl refl (so.durably.some some) (filled_blocks serial so.written mid m some so.rack) first
+          (first_ready (process_plan serial o) (versions o.contents) begun mid m b ((so_at begun k m so).each 0 b first))
+          (let long = so.long in let need = need_is in omega (arith, less, long, need))
 
   -- a read failed after the intent
   module _ (o' : OnlineFacts) (new : Rack) (tied' : IsTied o') (are_new : AreReels new.reels) where
@@ -215,6 +241,7 @@ module _ (job : Job) (o : OnlineFacts) (old mid : Rack) (live : o.live ≡ true)
           (ap (λ (x : OnlineFacts). x.live) is ∙ intended.live) (ap (λ (x : OnlineFacts). x.contents) is ∙ intended.contents ∙ begun_is) (ap (λ (x : OnlineFacts). x.changed) is ∙ intended.changed)
           (ap (λ (x : Rack). map unread x.reels) same);
       dump = λ _. refl;
+      dumps = λ told is_together safe. subst (λ (x : Rack). AreDumpsSafe (up_with o' x None)) (sym same) (safe_up o' m (partial_dumps begun k m less so safe));
     }
       where
         one_commit : (x begun : OnlineFacts) → HasIntended (intent_of plan) o begun → x.layout ≡ begun.layout → x.disc.writes ≡ begun.disc.writes → WroteCommits 1 was (up_with x new None)
@@ -269,6 +296,9 @@ module _ (job : Job) (o : OnlineFacts) (old mid : Rack) (live : o.live ≡ true)
           (ap (λ (x : OnlineFacts). x.live) is ∙ intended.live) (ap (λ (x : OnlineFacts). x.contents) is ∙ intended.contents ∙ begun_is) (ap (λ (x : OnlineFacts). x.changed) is ∙ intended.changed)
           (ap (λ (x : Rack). map unread x.reels) same));
       dump = λ _. refl;
+      dumps = λ told is_together safe.
+          let failed : Rack = record m { read_faults = new.read_faults } in
+          subst (λ (x : Rack). AreDumpsSafe (up_with o' x None)) (sym same) (safe_up o' failed (partial_dumps begun k m less so safe));
     }
 
     -- DONE
@@ -446,11 +476,30 @@ module _ (job : Job) (o : OnlineFacts) (old mid : Rack) (live : o.live ≡ true)
     abbrev TheStop : Type 0
     TheStop = let r : Result ℕ StoreFault = Err Stopped in Processes serial was r (spent_with o' new)
 
-    a_stop : (Told was → Belongs was → Belongs (spent_with o' new)) → (Told was → (text : ℕ → List ℕ) (shelf : ℕ → List Dump) → AreShelved shelf (told_reels old) → IsUp text shelf was → Stops text shelf serial was (spent_with o' new))
+    written_dumps : (begun : OnlineFacts) (k : ℕ) (m : Rack) → (so : HasWritten serial plan rs begun k mid m) → AreDumpsSafe was → (n : ℕ) → (n ≡ serial → ⊥) → DumpsSurvive n m
+    written_dumps begun k m so safe n apart = less_survive n mid m (so.durably.others n apart) (beside_same begun k m so n apart) (safe_mid safe n)
+
+    moved_dumps : (begun : OnlineFacts) (m : Rack) → HasWritten serial plan rs begun (needs plan) mid m → AreDumpsSafe was → (n : ℕ) → DumpsSurvive n m
+    moved_dumps begun m so safe =
+        survive_beside serial so.written mid m so.durably (beside_same begun (needs plan) m so) (safe_mid safe)
+        (durable_dumps serial m (whole_durable serial plan rs begun mid m (subst IsPlan (sym ready.plan) rules_are) (subst IsAway (sym ready.plan) (process_away serial o)) so))
+
+    begun_dumps : (begun : OnlineFacts) (k : ℕ) (m : Rack) → (so : HasWritten serial plan rs begun k mid m) → (k ≡ 0) ⊎ (is_syncable serial m ≡ true)
+    begun_dumps begun k m so = by k so.long
+      where
+        by : (i : ℕ) → length so.written ≡ i → (i ≡ 0) ⊎ (is_syncable serial m ≡ true)
+        by zero long = inl refl
+        by (suc i) long = inr (so.durably.some (omega (arith, long))).syncable
+
+    still_begun : (m x : Rack) → OnlyReads m x → {k : ℕ} → (k ≡ 0) ⊎ (is_syncable serial m ≡ true) → (k ≡ 0) ⊎ (is_syncable serial x ≡ true)
+    still_begun m x reads (inl none) = inl none
+    still_begun m x reads (inr is) = inr (reads.durable.syncable serial is)
+
+    a_stop : (Told was → Belongs was → Belongs (spent_with o' new)) → (AreDumpsSafe was → (n : ℕ) → CanSurvive n new) → (Told was → (text : ℕ → List ℕ) (shelf : ℕ → List Dump) → AreShelved shelf (told_reels old) → IsUp text shelf was → Stops text shelf serial was (spent_with o' new))
         → StopLeaves serial was (spent_with o' new) → labels new.reels ≡ labels old.reels → is_some o'.disc.held ≡ is_some o.disc.held → o'.disc.size ≡ o.disc.size → o.disc.writes ≤ o'.disc.writes → o'.disc.arms ≡ o.disc.arms
         → new.arms ≡ old.arms → o'.disc.read_faults ≡ o.disc.read_faults → new.read_faults ≡ old.read_faults
         → (Rose o.disc.write_faults o'.disc.write_faults × (new.write_faults ≡ old.write_faults)) ⊎ (Rose old.write_faults new.write_faults × (o'.disc.write_faults ≡ o.disc.write_faults)) → TheStop
-    a_stop together exits reels same told size later disc_arms tape_arms disc_reads tape_reads cut = record {
+    a_stop together can exits reels same told size later disc_arms tape_arms disc_reads tape_reads cut = record {
       refused = never_refused (Err Stopped) (spent_with o' new);
       granted = λ _. tt;
       same = λ early. absurd (early tt);
@@ -476,6 +525,7 @@ module _ (job : Job) (o : OnlineFacts) (old mid : Rack) (live : o.live ≡ true)
       told = told_by o' new told same;
       spent = (λ _. refl, λ _. refl);
       belongs = together;
+      dumps = λ told is_together safe. safe_spent o' new (can safe);
       exit = λ told text shelf shelved up unspent. exits told text shelf shelved up;
       dump = λ isnt. absurd (isnt refl);
     }
@@ -485,6 +535,7 @@ module _ (job : Job) (o : OnlineFacts) (old mid : Rack) (live : o.live ≡ true)
         a_stop (λ told is_together. let (text, shelf, shelved, up) = is_together.up refl in
         stopped_intent serial o old mid live tied are only rules_are free the_reel.0 the_reel.1 mounted_on room_on readable_are told text shelf shelved up o' new
         (ap (λ (x : Rack). map unread x.reels) same ∙ only.reels) (subst (λ (i : Intent). ForSome o'.disc.held (λ blocks. Holds blocks o.contents ⊎ Holds blocks (with_intent (Some i) o.contents))) intent_is stopped.holds))
+        (λ safe n. subst (CanSurvive n) (sym same) (inl (safe_mid safe n)))
         (λ told text shelf shelved up. exit_intent serial o old mid live tied are only rules_are free the_reel.0 the_reel.1 mounted_on room_on readable_are told text shelf shelved up (spent_with o' new)
         (ap (λ (x : Rack). map unread x.reels) same ∙ only.reels) (subst (λ (i : Intent). ForSome o'.disc.held (λ blocks. Holds blocks o.contents ⊎ Holds blocks (with_intent (Some i) o.contents))) intent_is stopped.holds))
         (CutIntent (subst (λ (i : Intent). ForSome o'.disc.held (λ blocks. Holds blocks o.contents ⊎ Holds blocks (with_intent (Some i) o.contents))) intent_is stopped.holds)
@@ -501,6 +552,8 @@ module _ (job : Job) (o : OnlineFacts) (old mid : Rack) (live : o.live ≡ true)
         let beside = both_at serial (filled so.written) (left_by failed.how k) old new (filled_serial so.written) all in
         a_stop (λ told is_together. let (text, shelf, shelved, up) = is_together.up refl in
         torn_belongs told text shelf shelved up k m so intended failed.how less beside (labels_failed k serial m new failed same_m))
+        (λ safe. can_failed serial k failed.block failed.mid new failed.how (still_begun m failed.mid failed.reads (begun_dumps o' k m so)) failed.free (left_name failed.how k) (ap (λ (x : Rack). x.reels) failed.rack) failed.durably
+        (λ n apart. inl (survive_reads n m failed.mid failed.reads.durable (blocks_after_reads n m failed.mid failed.reads) (written_dumps o' k m so safe n apart))))
         (λ told text shelf shelved up. torn_exits told text shelf shelved up k m so intended failed.how less beside (labels_failed k serial m new failed same_m))
         (CutDump intended.live (intended.contents ∙ begun_is)
         (reels_read serial (λ r. left_by failed.how k (filled so.written r)) old new (both_at serial (filled so.written) (left_by failed.how k) old new (filled_serial so.written) all)))
@@ -515,6 +568,7 @@ module _ (job : Job) (o : OnlineFacts) (old mid : Rack) (live : o.live ≡ true)
         a_stop (λ told is_together. let (text, shelf, shelved, up) = is_together.up refl in
         stopped_copies serial o old mid live tied are only rules_are free the_reel.0 the_reel.1 mounted_on room_on readable_are told text shelf shelved up begun (files_at begun intended) (needs plan) new (so_at begun (needs plan) new so)
         (let need = need_is in omega (arith, need)) (whole_by so.written held (labels_written begun (needs plan) new so) told) need_is o' (holds_either begun intended adopting.stopped.holds))
+        (λ safe n. inl (moved_dumps begun new so safe n))
         (λ told text shelf shelved up. exit_copies serial o old mid live tied are only rules_are free the_reel.0 the_reel.1 mounted_on room_on readable_are told text shelf shelved up begun (files_at begun intended) (needs plan) new (so_at begun (needs plan) new so)
         (let need = need_is in omega (arith, need)) (whole_by so.written held (labels_written begun (needs plan) new so) told) need_is o' (holds_either begun intended adopting.stopped.holds))
         (CutCopies (holds_either begun intended adopting.stopped.holds)
@@ -543,6 +597,9 @@ module _ (job : Job) (o : OnlineFacts) (old mid : Rack) (live : o.live ≡ true)
         cut_belongs serial o old mid live tied are only rules_are free the_reel.0 the_reel.1 mounted_on room_on readable_are told text shelf shelved up moved.begun (files_at moved.begun moved.intended) (needs plan) m (so_at moved.begun (needs plan) m so)
         (let need = need_is in omega (arith, need)) (whole_by so.written held same_new told) need_is (taken serial (take cut.place job.lists.items)) cut.list.serial cut.how cut.mid new cut.before third same_new
         (never_part cut.place) (cut_apart cut.place cut.list cut.at cut.taken_is) o' tied' put.live (put.contents ∙ moved_is moved.begun moved.intended) put.changed)
+        (λ safe. can_failed cut.list.serial 0 zeros cut.mid new cut.how (inl refl) cut.free (left_name cut.how 0) (ap (λ (x : Rack). x.reels) cut.rack) cut.failed
+        (λ n apart. inl (survive_released (taken serial (take cut.place job.lists.items)) m cut.mid cut.durably (λ x stays. blocks_stay (taken serial (take cut.place job.lists.items)) x m cut.mid cut.before stays)
+        (moved_dumps moved.begun m so safe) n)))
         (λ told text shelf shelved up. StopsRelease (exit_cut serial o old mid live tied are only rules_are free the_reel.0 the_reel.1 mounted_on room_on readable_are told text shelf shelved up moved.begun (files_at moved.begun moved.intended) (needs plan) m (so_at moved.begun (needs plan) m so)
         (let need = need_is in omega (arith, need)) (whole_by so.written held same_new told) need_is job.lists.items ready.listed (spent_with o' new) same_new put.live (put.contents ∙ moved_is moved.begun moved.intended) put.changed
         cut.place cut.list cut.at cut.taken_is cut.how cut.mid cut.before third))
@@ -567,7 +624,7 @@ module _ (job : Job) (o : OnlineFacts) (old mid : Rack) (live : o.live ≡ true)
         ))
 
     pub carried : (number : ℕ) → (let r : Result ℕ StoreFault = Ok number in CarriesOut job o mid r o' new) → (let r : Result ℕ StoreFault = Ok number in Processes serial was r (up_with o' new None))
-    carried number (named, m, moved, gone) =
+    carried number (named, m, moved, gone, durably) =
         let so = moved.written in
         let same_m = labels_written moved.begun (needs plan) m so in
         let same_new = labels_released (taken serial job.lists.items) m new gone ∙ same_m in
@@ -638,6 +695,8 @@ module _ (job : Job) (o : OnlineFacts) (old mid : Rack) (live : o.live ≡ true)
           );
           spent = (λ e. absurd (let no : ⊥ = cc in no), λ e. absurd (let no : ⊥ = cc in no));
           dump = λ _. refl;
+          dumps = λ told is_together safe.
+              safe_up o' new (survive_released (taken serial job.lists.items) m new durably (λ n stays. blocks_stay (taken serial job.lists.items) n m new gone stays) (moved_dumps moved.begun m so safe));
         }
 
     -- for any outcome of the job

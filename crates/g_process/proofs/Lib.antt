@@ -5,6 +5,7 @@ pub mod CarryLemmas
 pub mod ContentLemmas
 pub mod DoneLemmas
 pub mod DumpLemmas
+pub mod DurableLemmas
 pub mod EndLemmas
 pub mod ExitLemmas
 pub mod JobLemmas
@@ -15,6 +16,7 @@ pub mod PrepareLemmas
 pub mod ProcessLemmas
 pub mod ReelLemmas
 pub mod ReleaseLemmas
+pub mod SafeLemmas
 pub mod SourceLemmas
 pub mod TextLemmas
 pub mod WholeLemmas

@@ -32,6 +32,7 @@ use Rattle.g_incr.specs.Layout.{Dump}
 use Rattle.g_process.specs.Exits.{Exits, IsReadBy, Untouched}
 use Rattle.g_process.specs.Processing.{Does, IsLate, MayRefuse, Processes, Wrote, behind_process, process_refuses}
 use Rattle.g_process.proofs.BecomeLemmas.{becomes_read, labels_reads, zip_becomes, zip_labels}
+use Rattle.g_process.proofs.SafeLemmas.{safe_up, survive_mid}
 
 -- THE REFUSALS without a read
 abbrev pub IsEarly : StoreFault → Type 0
@@ -154,6 +155,7 @@ module _ (serial : ℕ) (o : OnlineFacts) (old new : Rack) (live : o.live ≡ tr
     keeps = store_up o new live pins tied;
     told = told_after o old new only.reels;
     belongs = λ told is. refused_belongs serial o o old new live tied tied only refl refl live is;
+    dumps = λ told is safe. safe_up o new (survive_mid o old new only safe);
     exit = λ told text shelf shelved up unspent. leaves_all text shelf serial fault before (up_with o new None) never (refl, only.reels);
     spent = (λ is. absurd (let no : ⊥ = cc in no), λ is. absurd (isnt Stopped tt is));
     dump = λ _. refl;
@@ -237,6 +239,7 @@ module _ (serial : ℕ) (o : OnlineFacts) (old new : Rack) (live : o.live ≡ tr
       keeps = store_up o new live pins tied;
       told = told_after o old new only.reels;
       belongs = λ told is. refused_belongs serial o o old new live tied tied only refl refl live is;
+      dumps = λ told is safe. safe_up o new (survive_mid o old new only safe);
       exit = λ told text shelf shelved up unspent. inl (refl, only.reels);
       spent = (λ is. absurd (let no : ⊥ = cc in no), λ is. absurd (let no : ⊥ = cc in no));
       dump = λ _. refl;

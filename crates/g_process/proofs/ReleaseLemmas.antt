@@ -1,12 +1,14 @@
 -- The reels are released one after another, in rising serial.
 -- serves: release (cut), AnswerLemmas, BecomeLemmas, ExitLemmas, JobLemmas, PlanLemmas, crates above
-use Rattle.std.proofs.Common.{◌≡◌, ℕ, zero, suc, ◌+◌, ◌≤◌, ◌==◌, Bool, true, false, List, [], ◌∷◌, ◌++◌, map, take, Option, Some, None, refl, sym, ◌∙◌, ap, arith, subst, inl, inr, option_map, if◌then◌else◌, slice_get, eq-eqb}
+use Rattle.std.proofs.Common.{◌≡◌, ℕ, zero, suc, ◌+◌, ◌≤◌, ◌==◌, Bool, true, false, List, [], ◌∷◌, ◌++◌, map, take, Option, Some, None, Ok, Err, refl, sym, ◌∙◌, ap, arith, subst, inl, inr, option_map, if◌then◌else◌, slice_get, eq-eqb}
 use Rattle.std.specs.Prelude.{◌⊎◌, ◌||◌, All, Contains, filter}
 use Rattle.std.proofs.lemmas.Bool.{cases_Bool, cond-false, cond-true, ne_eqb}
 use Rattle.std.proofs.lemmas.Bool.Decides.{eqb_tells}
 use Rattle.std.proofs.lemmas.Option.{same_Some}
 use Rattle.std.proofs.lemmas.List.Elements.{All-contains}
 use Rattle.g_base.specs.Counts.{Rose}
+use Rattle.g_tape.specs.declared.fault.TapeFault.TheVariants.{WriteFailed}
+use Rattle.g_tape.specs.Durable.{WritesDurably}
 use Rattle.g_tape.specs.Rack.{AreReels, Rack, changed, reel, refuses_write, with_reel}
 use Rattle.g_tape.specs.Reads.{count_at, time_of, times_in}
 use Rattle.g_tape.specs.Reel.{Reel, Remains, ending, left_by}
@@ -15,7 +17,8 @@ use Rattle.g_tape.proofs.PlaceLemmas.{reel-found}
 use Rattle.g_disc_contents.specs.Contents.{has}
 use Rattle.g_shelf.specs.declared.rack.Listed.{Listed}
 use Rattle.g_laws_store.proofs.WaitingLemmas.{mapped_there}
-use Rattle.g_process.specs.Releases.{AreReleased, IsCutAt, is_taken, released, taken, zeros}
+use Rattle.g_process.specs.Releases.{AreReleased, AreReleasedDurably, IsCutAt, is_taken, released, taken, zeros}
+use Rattle.g_process.proofs.DurableLemmas.{none_released_durably, one_released_durably}
 use Rattle.g_process.proofs.WriteLemmas.{free_there, element}
 
 -- the serials so far
@@ -208,10 +211,27 @@ listed_free serial lists i l old mid are mounted listed at so =
     release_free l.serial (taken serial (take i lists)) old mid are mounted (subst (λ (ns : List ℕ). Contains ns l.serial) listed (mapped_there (λ (x : Listed). x.serial) lists l (element lists i l at))) so
 
 pub release_cuts : (serial : ℕ) (lists : List Listed) (i : ℕ) (l : Listed) (old mid new : Rack) → slice_get lists i ≡ Some l → is_taken serial l ≡ true → AreReleased (taken serial (take i lists)) old mid
+    → AreReleasedDurably (taken serial (take i lists)) old mid → refuses_write 0 (reel l.serial mid.reels) ≡ None → WritesDurably l.serial 0 zeros mid (Err WriteFailed) new
     → Rose mid.write_faults new.write_faults × ((how : Remains) × (new ≡ record (changed l.serial (left_by how 0) mid) { write_faults = new.write_faults; fuse = new.fuse; risks = new.risks }))
     → IsCutAt serial lists old new
-release_cuts serial lists i l old mid new at is so (rose, (how, rack)) =
-    record { place = i; list = l; at = at; taken_is = is; mid = mid; before = so; rose = rose; how = how; rack = rack }
+release_cuts serial lists i l old mid new at is so durably free failed (rose, (how, rack)) =
+    record { place = i; list = l; at = at; taken_is = is; mid = mid; before = so; durably = durably; rose = rose; how = how; rack = rack; free = free; failed = failed }
+
+-- what a power loss may leave after each step
+pub durably_none : (serial : ℕ) (rack : Rack) → AreReleasedDurably (taken serial []) rack rack
+durably_none serial rack = none_released_durably rack
+
+pub durably_skips : (serial : ℕ) (lists : List Listed) (i : ℕ) (l : Listed) (old mid : Rack) → slice_get lists i ≡ Some l → is_taken serial l ≡ false
+    → AreReleasedDurably (taken serial (take i lists)) old mid → AreReleasedDurably (taken serial (take (i + 1) lists)) old mid
+durably_skips serial lists i l old mid at is so =
+    subst (λ (ss : List ℕ). AreReleasedDurably ss old mid) (sym (ap (taken serial) (take_next i lists l at) ∙ taken_none serial (take i lists) l is)) so
+
+pub durably_goes : (serial : ℕ) (lists : List Listed) (i : ℕ) (l : Listed) (old mid new : Rack) → slice_get lists i ≡ Some l → is_taken serial l ≡ true
+    → AreReleasedDurably (taken serial (take i lists)) old mid → new ≡ record (changed l.serial (ending 0 zeros) mid) { fuse = new.fuse; risks = new.risks } → WritesDurably l.serial 0 zeros mid (Ok tt) new
+    → AreReleasedDurably (taken serial (take (i + 1) lists)) old new
+durably_goes serial lists i l old mid new at is so wrote durably =
+    subst (λ (ss : List ℕ). AreReleasedDurably ss old new) (sym (ap (taken serial) (take_next i lists l at) ∙ taken_one serial (take i lists) l is))
+    (one_released_durably (taken serial (take i lists)) l.serial old mid new so (ap (λ (x : Rack). x.reels) wrote) durably)
 
 -- reads are counted as before
 times_kept : (ss : List ℕ) (o : Option Reel) → times_in (option_map (released ss) o) ≡ times_in o

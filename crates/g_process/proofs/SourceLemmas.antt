@@ -14,6 +14,7 @@ use Rattle.g_entry.specs.declared.file_rec.FileRec.{FileRec}
 use Rattle.g_entry.specs.declared.file_rec.TapeCopy.{TapeCopy}
 use Rattle.g_tape.specs.declared.fault.TapeFault.{TapeFault}
 use Rattle.g_tape.specs.declared.fault.TapeFault.TheVariants as tapes
+use Rattle.g_tape.specs.Durable.{WritesDurably}
 use Rattle.g_tape.specs.Rack.{AreReels, Rack, Reading, Writing, changed, reel, refuses_read, refuses_write}
 use Rattle.g_tape.specs.Reads.{HasRead, OnlyReads, blocks_in, blocks_of, unread}
 use Rattle.g_tape.specs.Reel.{Reel, Remains, ending, left_by}
@@ -24,7 +25,7 @@ use Rattle.g_disc_contents.specs.Facts.{OnlineFacts}
 use Rattle.g_disc_contents.specs.Parts.{IsPart}
 use Rattle.g_incr.specs.Plan.{IsContentAt, Plan}
 use Rattle.g_laws_store.specs.ForgottenCopies.{bare_rec}
-use Rattle.g_process.specs.Progress.{AreReadable, FailedAt, Fills, IsReadable, ReadsSource}
+use Rattle.g_process.specs.Progress.{AreReadable, FailedAt, Fills, IsBlockOf, IsReadable, ReadsSource, WroteAt}
 use Rattle.g_process.proofs.WriteLemmas.{element, element_below, placed}
 
 -- a disc after reads is unchanged, except for its count of failed reads
@@ -193,8 +194,34 @@ free_after s k old new only is = by_reels (reel s new.reels) (reel s old.reels) 
     by_reels (Some q) None same granted = absurd (let no : ⊥ = cc in no)
     by_reels (Some q) (Some r) same granted = ap (λ (x : Reel). refuses_write k (Some x)) (same_Some (unread q) (unread r) same) ∙ granted
 
+-- a write that isn't refused fails by the device only
+pub it_failed : (s k : ℕ) (block : List ℕ) (old new : Rack) (fault : TapeFault) → refuses_write k (reel s old.reels) ≡ None → (let r : Result (Unit {0}) TapeFault = Err fault in Writing s k block old r new)
+    → (let r : Result (Unit {0}) TapeFault = Err fault in WritesDurably s k block old r new) → WritesDurably s k block old (Err tapes.WriteFailed) new
+it_failed s k block old new tapes.WriteFailed free writing durably = durably
+it_failed s k block old new tapes.ReadFailed free writing durably = absurd writing
+it_failed s k block old new tapes.NoTape free (refused, is) durably = absurd (let no : ⊥ = cc in no)
+it_failed s k block old new tapes.NotMounted free (refused, is) durably = absurd (let no : ⊥ = cc in no)
+it_failed s k block old new tapes.End free (refused, is) durably = absurd (let no : ⊥ = cc in no)
+
 pub failed_at : (serial k : ℕ) (block : List ℕ) (old mid new : Rack) (fault : TapeFault) → refuses_write k (reel serial old.reels) ≡ None → OnlyReads old mid → mid.read_faults ≡ old.read_faults
-    → (let r : Result (Unit {0}) TapeFault = Err fault in Writing serial k block mid r new) → FailedAt serial k old new
-failed_at serial k block old mid new fault granted only kept writing =
-    let (rose, (how, is)) = write_fails serial k block mid new fault (free_after serial k old mid only granted) writing in
-    record { mid = mid; reads = only; kept = kept; rose = rose; how = how; rack = is }
+    → (let r : Result (Unit {0}) TapeFault = Err fault in Writing serial k block mid r new) → (let r : Result (Unit {0}) TapeFault = Err fault in WritesDurably serial k block mid r new) → FailedAt serial k old new
+failed_at serial k block old mid new fault granted only kept writing durably =
+    let free = free_after serial k old mid only granted in
+    let (rose, (how, is)) = write_fails serial k block mid new fault free writing in
+    record {
+      mid = mid;
+      reads = only;
+      kept = kept;
+      rose = rose;
+      how = how;
+      rack = is;
+      free = free;
+      block = block;
+      durably = it_failed serial k block mid new fault free writing durably;
+    }
+
+-- block k was written after reads
+pub wrote_at : (serial : ℕ) (p : Plan) (rs : List FileRec) (o : OnlineFacts) (k : ℕ) (block : List ℕ) (old mid new : Rack) → OnlyReads old mid → mid.read_faults ≡ old.read_faults → IsBlockOf p rs o old mid k block
+    → Writing serial k block mid (Ok tt) new → WritesDurably serial k block mid (Ok tt) new → WroteAt serial p rs o k old new
+wrote_at serial p rs o k block old mid new only kept is writing durably =
+    record { mid = mid; reads = only; kept = kept; block = block; block_is = is; rack = wrote serial k block mid new tt writing; free = writing.0; durably = durably }

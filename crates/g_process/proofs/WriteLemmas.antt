@@ -18,6 +18,7 @@ use Rattle.g_incr.specs.Plan.{Plan, needs}
 use Rattle.g_incr.proofs.ListLemmas.{get_push}
 use Rattle.g_dumper.proofs.BeginLemmas.{after_reads}
 use Rattle.g_process.specs.Progress.{AreReadable, HasWritten, IsBeside, IsBlockOf, IsReadable, IsSource, MayWrite, WroteAt, filled}
+use Rattle.g_process.proofs.DurableLemmas.{durably_more, durably_one, none_durably}
 use Rattle.g_process.proofs.ReelLemmas.{beside_ending, beside_more, beside_none, blocks_beside, filled_capacity, filled_mounted, other_beside, read_beside, read_later, this_beside, times_ending}
 
 -- an element of a list is in it
@@ -108,6 +109,7 @@ nothing_written serial p rs o rack = record {
   each = λ j block is. absurd (let no : ⊥ = cc in no);
   rack = beside_none serial rack;
   kept = refl;
+  durably = none_durably serial rack;
 }
 
 -- reads after it
@@ -119,6 +121,7 @@ written_more serial p rs o k old mid new so only kept = record {
   each = λ j block is. block_later p rs o old mid new j block (λ s n. only.times s n) (so.each j block is);
   rack = beside_more (changed serial (filled so.written) old) mid new so.rack only;
   kept = kept ∙ so.kept;
+  durably = durably_more serial so.written old mid new so.durably only;
 }
 
 -- ONE MORE BLOCK
@@ -137,6 +140,7 @@ wrote_one serial p rs o k old mid new are so wrote =
       each = λ j block is. by_place j block same_times (get_push w wrote.block j block is);
       rack = rack;
       kept = ap (λ (x : Rack). x.read_faults) wrote.rack ∙ behind.kept;
+      durably = durably_one serial k w wrote.block old wrote.mid new so.long behind.durably wrote.free (ap (λ (x : Rack). x.reels) wrote.rack) wrote.durably;
     }
   where
     by_place : (j : ℕ) (block : List ℕ) → ((s n : ℕ) → time_of s n wrote.mid ≤ time_of s n new) → (slice_get so.written j ≡ Some block) ⊎ ((j ≡ length so.written) × (block ≡ wrote.block))

@@ -24,7 +24,7 @@ use Rattle.g_process.specs.declared.job.Job.{Job}
 use Rattle.g_process.specs.Lists.{notes_at}
 use Rattle.g_process.specs.ProcessPlan.{IsFirstLost, IsFree, IsTaken, copies_from, process_plan, versions}
 use Rattle.g_process.specs.Processing.{process_refuses}
-use Rattle.g_process.specs.Releases.{AreReleased, IsCutAt, taken}
+use Rattle.g_process.specs.Releases.{AreReleased, AreReleasedDurably, IsCutAt, taken}
 use Rattle.g_process.specs.Progress.{HasWritten, FailedAt, FailsReading, MayWrite}
 
 -- No refusal that needs no read applies.
@@ -151,6 +151,6 @@ pub record FailsCarrying (job : Job) (o : OnlineFacts) (old : Rack) (fault : Sto
 
 -- What is done with a job.
 abbrev pub CarriesOut : Job → OnlineFacts → Rack → Result ℕ StoreFault → OnlineFacts → Rack → Type 0
-CarriesOut job o old (Ok number) o' new = (number ≡ job.number) × (mid : Rack) × HasMoved job o old o' mid × AreReleased (taken job.serial job.lists.items) mid new
+CarriesOut job o old (Ok number) o' new = (number ≡ job.number) × (mid : Rack) × HasMoved job o old o' mid × AreReleased (taken job.serial job.lists.items) mid new × AreReleasedDurably (taken job.serial job.lists.items) mid new
 CarriesOut job o old (Err Stopped) o' new = StopsAt job o old o' new
 CarriesOut job o old (Err fault) o' new = FailsCarrying job o old fault o' new

@@ -25,6 +25,7 @@ use Rattle.g_store_model.specs.Rising.{fault_from}
 use Rattle.g_store_meaning.specs.Answers.{Belongs, IsStore, Told, WroteCommits}
 use Rattle.g_store_meaning.specs.Meaning.{told_reels}
 use Rattle.g_store_meaning.specs.StoreInvariant.{DumpFacts, IsUp, StoreFacts}
+use Rattle.g_store_meaning.specs.Surviving.{AreDumpsSafe}
 use Rattle.g_dumper.specs.Invariant.{spent_with, up_with}
 use Rattle.g_process.specs.Exits.{Exits, IsReadBy}
 use Rattle.g_process.specs.NamedCopies.{intended_by, moved_by}
@@ -186,6 +187,7 @@ pub record Processes (serial : ℕ) (old : StoreFacts) (answer : Result ℕ Stor
   pub keeps : IsStore new
   pub told : Told old → Told new
   pub belongs : Told old → Belongs old → Belongs new
+  pub dumps : Told old → Belongs old → AreDumpsSafe old → AreDumpsSafe new
   -- where it ended, in terms of the bytes and the dumps that the store had
   pub exit : Told old → (text : ℕ → List ℕ) (shelf : ℕ → List Dump) → AreShelved shelf (told_reels old.rack) → IsUp text shelf old → old.spent ≡ false → Exits text shelf serial old answer new
   pub spent : (new.spent ≡ true) ↔ (answer ≡ Err Stopped)

@@ -1,12 +1,16 @@
 -- How far the dump is written: which blocks are on the reel, and where those of versions were read.
-use Rattle.std.specs.Prelude.{◌≡◌, ◌≢◌, ◌⊎◌, ℕ, ◌+◌, ◌<◌, ◌≤◌, true, false, List, [], ◌∷◌, length, map, All, Contains, Some, Result, Ok, Err, option_map, slice_get}
+use Rattle.std.specs.Prelude.{◌≡◌, ◌≢◌, ◌⊎◌, ℕ, ◌+◌, ◌<◌, ◌≤◌, true, false, List, [], ◌∷◌, length, map, All, Contains, Some, None, Result, Ok, Err, option_map, slice_get}
 use Rattle.std.specs.Option.{ForSome}
 use Rattle.g_base.specs.Block.{blocks_for}
 use Rattle.g_base.specs.Counts.{Rose}
 use Rattle.g_entry.specs.declared.file_rec.FileRec.{FileRec}
 use Rattle.g_entry.specs.declared.file_rec.TapeCopy.{TapeCopy}
-use Rattle.g_tape.specs.Rack.{Rack, changed, reel}
-use Rattle.g_tape.specs.Reads.{HasRead, OnlyReads, blocks_of}
+use Rattle.g_tape.specs.declared.fault.TapeFault.TheVariants.{WriteFailed}
+use Rattle.g_tape.specs.Durable.{IsDurable, WritesDurably}
+use Rattle.g_tape.specs.Rack.{Rack, changed, reel, refuses_write}
+use Rattle.g_tape.specs.Reads.{HasRead, MayLeave, OnlyReads, blocks_of, is_syncable}
+use Rattle.g_tape.specs.Risk.{IsSynced}
+use Rattle.g_shelf.specs.Surviving.{IsBegunDurably}
 use Rattle.g_tape.specs.Reel.{Reel, Remains, ending, left_by}
 use Rattle.g_plain.specs.declared.faults.StoreFault.{StoreFault}
 use Rattle.g_plain.specs.declared.faults.StoreFault.TheVariants.{DiscReadFault, Stopped, TapeReadFault}
@@ -24,6 +28,18 @@ filled (b ∷ bs) r = record r { len = length (b ∷ bs); blocks = option_map (�
 -- The rack had nothing but reads, apart from its fuse.
 abbrev pub IsBeside : Rack → Rack → Type 0
 IsBeside old new = OnlyReads (record old { fuse = new.fuse; risks = new.risks }) new
+
+-- Nothing more may be left of this reel by a power loss, and it stays syncable.
+abbrev pub LeavesNoMoreOf : ℕ → Rack → Rack → Type 0
+LeavesNoMoreOf t old new = ((left : List (List ℕ)) → MayLeave t new left → MayLeave t old left) × (is_syncable t old ≡ true → is_syncable t new ≡ true)
+
+-- What a power loss may leave once these blocks were written: of the other reels what it could have left before, and of this one too if
+-- nothing was written. A dump that begins with them is begun durably; and if the last one was synced, the reel is durable.
+pub record IsWrittenDurably (serial : ℕ) (written : List (List ℕ)) (old new : Rack) : Type 0 where
+  pub others : (t : ℕ) → (t ≡ serial → ⊥) → LeavesNoMoreOf t old new
+  pub none : length written ≡ 0 → LeavesNoMoreOf serial old new
+  pub some : 0 < length written → IsBegunDurably serial 0 (length written) new
+  pub last : (j : ℕ) (block : List ℕ) → slice_get written j ≡ Some block → j + 1 ≡ length written → IsSynced j block → IsDurable serial new
 
 -- A version's block is read from the disc if the file is there, otherwise from its copy on tape.
 pub record IsSource (o : OnlineFacts) (old new : Rack) (r : FileRec) (part : ℕ) (block : List ℕ) : Type 0 where
@@ -43,6 +59,7 @@ pub record HasWritten (serial : ℕ) (p : Plan) (rs : List FileRec) (o : OnlineF
   pub each : (j : ℕ) (block : List ℕ) → slice_get written j ≡ Some block → IsBlockOf p rs o old new j block
   pub rack : IsBeside (changed serial (filled written) old) new
   pub kept : new.read_faults ≡ old.read_faults
+  pub durably : IsWrittenDurably serial written old new
 
 -- The version can be read. If it isn't on the disc, its copy is on a mounted reel other than the one that is written.
 pub record IsReadable (serial : ℕ) (o : OnlineFacts) (rack : Rack) (r : FileRec) : Type 0 where
@@ -89,6 +106,9 @@ pub record FailedAt (serial k : ℕ) (old new : Rack) : Type 0 where
   pub rose : Rose mid.write_faults new.write_faults
   pub how : Remains
   pub rack : new ≡ record (changed serial (left_by how k) mid) { write_faults = new.write_faults; fuse = new.fuse; risks = new.risks }
+  pub free : refuses_write k (reel serial mid.reels) ≡ None
+  pub block : List ℕ
+  pub durably : WritesDurably serial k block mid (Err WriteFailed) new
 
 -- The block was written.
 pub record WroteAt (serial : ℕ) (p : Plan) (rs : List FileRec) (o : OnlineFacts) (k : ℕ) (old new : Rack) : Type 0 where
@@ -98,6 +118,8 @@ pub record WroteAt (serial : ℕ) (p : Plan) (rs : List FileRec) (o : OnlineFact
   pub block : List ℕ
   pub block_is : IsBlockOf p rs o old mid k block
   pub rack : new ≡ record (changed serial (ending k block) mid) { fuse = new.fuse; risks = new.risks }
+  pub free : refuses_write k (reel serial mid.reels) ≡ None
+  pub durably : WritesDurably serial k block mid (Ok tt) new
 
 -- Block k of the dump was written, or its write failed, or a read failed.
 abbrev pub WritesBlock : ℕ → Plan → List FileRec → ℕ → OnlineFacts → Rack → Result (Unit {0}) StoreFault → OnlineFacts → Rack → Type 0

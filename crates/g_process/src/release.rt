@@ -1,5 +1,6 @@
 //! The reels whose dumps are no longer needed.
 ghost use Rattle.std.specs.Prelude.{◌≡◌, All, OnErr, OnOk, map, true};
+ghost use Rattle.g_tape.specs.Durable.{WritesDurably};
 ghost use Rattle.g_tape.specs.Rack.{Writing};
 ghost use Rattle.g_process.specs.Releases as releases;
 
@@ -17,6 +18,7 @@ pub(crate) fn release<T: Tapes>(
     requires mounted { All (λ r. r.mounted ≡ true) (T.rack tapes.old).reels }
     requires listed { map (λ l. l.serial) lists.now ≡ map (λ r. r.serial) (T.rack tapes.old).reels }
     ensures ok { OnOk result (releases.AreReleased (releases.taken serial lists.now) (T.rack tapes.old) (T.rack tapes.new)) }
+    ensures durable { OnOk result (releases.AreReleasedDurably (releases.taken serial lists.now) (T.rack tapes.old) (T.rack tapes.new)) }
     ensures cut { OnErr result (releases.IsCutAt serial lists.now (T.rack tapes.old) (T.rack tapes.new)) }
 {
     for list in lists {
@@ -32,7 +34,8 @@ pub(crate) fn release<T: Tapes>(
 
 /// Writes a block of zeros to the reel, which becomes its only block.
 fn blank<T: Tapes>(tapes: &mut T, serial: u32) -> Result<(), TapeFault>
-    ensures { Writing serial 0 releases.zeros (T.rack tapes.old) result (T.rack tapes.new) }
+    ensures written { Writing serial 0 releases.zeros (T.rack tapes.old) result (T.rack tapes.new) }
+    ensures durable { WritesDurably serial 0 releases.zeros (T.rack tapes.old) result (T.rack tapes.new) }
 {
     let zeros = [0; 512];
     tapes.write(serial, 0, &zeros)

@@ -1,7 +1,7 @@
 use Rattle.std.proofs.Common.{◌∙◌, List, ap, map, refl, subst}
 use Rattle.g_shelf.specs.declared.rack.Listed.{Listed}
 use Rattle.g_process.specs.Preparation.{AtRelease, copies_of}
-use Rattle.g_process.specs.Releases.{AreReleased, IsCutAt, taken}
+use Rattle.g_process.specs.Releases.{AreReleased, AreReleasedDurably, IsCutAt, taken}
 use Rattle.g_process.proofs.CarryLemmas.{begin_fails, begun_by, blocks_fail, copies_fail, has_moved, may_begin, may_still, ready_still, still_listed, still_mounted}
 use Rattle.g_process.proofs.event.carry_out.Goals as goal
 
@@ -69,6 +69,7 @@ returns-in-Ok-release-clause-carried g c =
       has_moved c.args.job c.args.online.now (g.T.Tapes.rack c.args.tapes.now) c.set_intent.new.self c.write_blocks.new.online c.adopt_ready.new.self (g.T.Tapes.rack c.write_blocks.new.tapes) c.in-Ok-adopt_ready.field-0 begun same so
           (c.in-Ok-adopt_ready.ensures (copies_of c.args.job c.args.online.now) ready),
       subst (λ (ls : List Listed). AreReleased (taken c.args.job.serial ls) (g.T.Tapes.rack c.write_blocks.new.tapes) (g.T.Tapes.rack c.release.new.tapes)) c.as_slice.ensures.value c.in-Ok-release.ensures.ok,
+      subst (λ (ls : List Listed). AreReleasedDurably (taken c.args.job.serial ls) (g.T.Tapes.rack c.write_blocks.new.tapes) (g.T.Tapes.rack c.release.new.tapes)) c.as_slice.ensures.value c.in-Ok-release.ensures.durable,
     )
 
 pub returns-in-Ok-release-clause-tied : goal.returns-in-Ok-release-clause-tied

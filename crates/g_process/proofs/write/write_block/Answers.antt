@@ -6,5 +6,5 @@ returns-in-Err-write-clause-writes g c =
     let (same, is, only, kept) = c.in-Ok.ensures.fills in (
       same,
       failed_at c.args.job.now.serial c.args.k c.fill.new.into (g.T.Tapes.rack c.args.tapes.now) (g.T.Tapes.rack c.fill.new.tapes) (g.T.Tapes.rack c.write.new.self) c.in-Err-write.field-0
-          c.requires.free only kept c.in-Err-write.ensures.written,
+          c.requires.free only kept c.in-Err-write.ensures.written c.in-Err-write.ensures.durable,
     )
