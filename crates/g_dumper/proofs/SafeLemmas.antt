@@ -174,4 +174,4 @@ module _ (d : DumpFacts) (o : OnlineFacts) (old : Rack) (reels : AreReels old.re
       left_at_mark = each_reel (λ n. AfterPowerLoss n new (λ left. AreCompleted n left (shelf n) ⊎ AreCompleted n left (with_dump made shelf n)))
           (subst (λ (ds : List Dump). AfterPowerLoss serial new (λ left. AreCompleted serial left (shelf serial) ⊎ AreCompleted serial left ds)) (sym (this_reel d o old reels tell is text shelf shelved up content has)) mark_failed.0)
           (λ n apart blocks at left leaves.
-            inl (dumps_beside n apart blocks at (shelf n) (shelved_at n old shelf blocks shelved (sym (ap blocks_in (other_reel_same n serial (left_by failed.how at_block) (left_serial failed.how at_block) apart old new reels_then)) ∙ at)) blocks at left leaves))
+          inl (dumps_beside n apart blocks at (shelf n) (shelved_at n old shelf blocks shelved (sym (ap blocks_in (other_reel_same n serial (left_by failed.how at_block) (left_serial failed.how at_block) apart old new reels_then)) ∙ at)) blocks at left leaves))

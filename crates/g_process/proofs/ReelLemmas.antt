@@ -145,19 +145,19 @@ beside_changed s f g h old mid new f_serial f_times f_unread g_serial g_times h_
     let still : map unread new.reels ≡ map unread (with_reel s h old.reels) =
     ap (map unread) reels ∙ unread_with s f f_unread mid.reels ∙ ap (with_reel s f) so.reels ∙ sym (unread_with s f f_unread (with_reel s g old.reels))
     ∙ ap (map unread) (with_twice s f g h g_serial same old.reels) in record {
-  reels = still;
-  write_faults = write_faults ∙ so.write_faults;
-  fuse = refl;
-  arms = arms ∙ so.arms;
-  read_faults = omega (arith, so.read_faults, read_faults);
-  times = λ t k.
-      let was = so.times t k in
-      let here : time_of t k new ≡ time_of t k mid = ap (λ (rs : List Reel). count_at k (times_in (reel t rs))) reels ∙ ap (count_at k) (times_changed s t f f_serial f_times mid.reels) in
-      let now : count_at k (times_in (reel t (with_reel s h old.reels))) ≡ count_at k (times_in (reel t (with_reel s g old.reels))) =
-      ap (count_at k) (times_changed s t h h_serial h_times old.reels ∙ sym (times_changed s t g g_serial g_times old.reels)) in
-      omega (arith, was, here, now);
-  durable = same_risks (record (changed s h old) { fuse = new.fuse; risks = new.risks }) new still refl;
-}
+      reels = still;
+      write_faults = write_faults ∙ so.write_faults;
+      fuse = refl;
+      arms = arms ∙ so.arms;
+      read_faults = omega (arith, so.read_faults, read_faults);
+      times = λ t k.
+          let was = so.times t k in
+          let here : time_of t k new ≡ time_of t k mid = ap (λ (rs : List Reel). count_at k (times_in (reel t rs))) reels ∙ ap (count_at k) (times_changed s t f f_serial f_times mid.reels) in
+          let now : count_at k (times_in (reel t (with_reel s h old.reels))) ≡ count_at k (times_in (reel t (with_reel s g old.reels))) =
+          ap (count_at k) (times_changed s t h h_serial h_times old.reels ∙ sym (times_changed s t g g_serial g_times old.reels)) in
+          omega (arith, was, here, now);
+      durable = same_risks (record (changed s h old) { fuse = new.fuse; risks = new.risks }) new still refl;
+    }
 
 pub beside_ending : (s k : ℕ) (w : List (List ℕ)) (b : List ℕ) (old mid new : Rack) → k ≡ length w → IsBeside (changed s (filled w) old) mid → new ≡ record (changed s (ending k b) mid) { fuse = new.fuse; risks = new.risks }
     → IsBeside (changed s (filled (w ++ b ∷ [])) old) new

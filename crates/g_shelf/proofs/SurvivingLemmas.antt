@@ -44,9 +44,9 @@ pub one_block_completes_nothing : (serial : ℕ) (blocks left : List (List ℕ))
 one_block_completes_nothing serial blocks left ds all front short = record {
   are = still_next serial blocks left (end_of ds) 0 0 ds front (omega arith)
       (λ e next.
-        let long = within left e next.stands in
-        let place = next.place in
-        let no : ⊥ = omega (arith, long, place, short) in no) all.are;
+      let long = within left e next.stands in
+      let place = next.place in
+      let no : ⊥ = omega (arith, long, place, short) in no) all.are;
 }
 
 -- and the header of a dump with no block in its mark's place
@@ -66,15 +66,15 @@ begun_completes_nothing serial j blocks left ds d all begun some front short =
     record {
       are = still_next serial blocks left (end_of ds) 0 0 ds (shorter_front (end_of ds) (d.place + 1) left blocks end front) (omega arith)
           (λ e next.
-            let place : e.place ≡ d.place = next.place ∙ sym begun.place in
-            let here : take 1 (drop d.place left) ≡ take 1 (drop d.place blocks) = sym (drop-take d.place 1 left) ∙ ap (drop d.place) front ∙ drop-take d.place 1 blocks in
-            let same : header_block e ≡ header_block d =
-            sym (first_of_dump e)
-            ∙ ap first (sym next.stands.blocks ∙ ap (λ (n : ℕ). take (size_of e) (drop n left)) place)
-            ∙ first_any (size_of e) (drop d.place left) (omega arith) ∙ ap first here ∙ header_of serial j blocks ds d begun some in
-            let count = same_count e d next.stands.rules begun.rules same in
-            let long = within left e next.stands in
-            let no : ⊥ = omega (arith, count, long, place, short) in no) all.are;
+          let place : e.place ≡ d.place = next.place ∙ sym begun.place in
+          let here : take 1 (drop d.place left) ≡ take 1 (drop d.place blocks) = sym (drop-take d.place 1 left) ∙ ap (drop d.place) front ∙ drop-take d.place 1 blocks in
+          let same : header_block e ≡ header_block d =
+          sym (first_of_dump e)
+          ∙ ap first (sym next.stands.blocks ∙ ap (λ (n : ℕ). take (size_of e) (drop n left)) place)
+          ∙ first_any (size_of e) (drop d.place left) (omega arith) ∙ ap first here ∙ header_of serial j blocks ds d begun some in
+          let count = same_count e d next.stands.rules begun.rules same in
+          let long = within left e next.stands in
+          let no : ⊥ = omega (arith, count, long, place, short) in no) all.are;
     }
 
 -- ALL OF A DUMP BUT ITS MARK, with or without a block in the mark's place, completes none but this dump.

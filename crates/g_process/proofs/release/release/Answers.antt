@@ -1,4 +1,6 @@
-use Rattle.std.proofs.Common.{◌∙◌, ◌+◌, subst, sym, take}
+use Rattle.std.proofs.Common.{◌∙◌, ◌+◌, ◌≤◌, List, arith, subst, sym, take}
+use Rattle.std.proofs.lemmas.List.{take_all}
+use Rattle.g_shelf.specs.declared.rack.Listed.{Listed}
 use Rattle.g_process.specs.Releases.{AreReleased, AreReleasedDurably, taken, zeros}
 use Rattle.g_process.proofs.BecomeLemmas.{apart_of}
 use Rattle.g_process.proofs.ReleaseLemmas.{durably_goes, durably_none, durably_skips, listed_free, none_released, release_cuts, release_goes, release_skips}
@@ -44,3 +46,8 @@ loop-list-preserved g c =
                 (sym c.is_taken.ensures ∙ w.if-is_taken.false) c.loop-list.invariant.durably);
           }
     ]
+
+pub returns-clause-durable : goal.returns-clause-durable
+returns-clause-durable g c =
+    subst (λ (ls : List Listed). AreReleasedDurably (taken c.args.serial ls) (g.T.Tapes.rack c.args.tapes.now) (g.T.Tapes.rack c.loop-list.tapes))
+    (take_all c.loop-list.list-index c.args.lists.now (omega arith)) c.loop-list.invariant.durably
