@@ -166,9 +166,9 @@ led_mounted twin is s ts rs risks =
     filter_same (λ r. leads twin (standing r.serial (with_reel s (with_mounted is) rs) ts) (blocks_in (reel r.serial (with_reel s (with_mounted is) rs))))
     (λ r. leads twin (standing r.serial rs ts) (blocks_in (reel r.serial rs)))
     (λ r.
-      ap (λ (o : Option Standing). leads twin o (blocks_in (reel r.serial (with_reel s (with_mounted is) rs))))
-          (standing_labels r.serial rs (with_reel s (with_mounted is) rs) ts (labels_kept s (with_mounted is) (λ x. refl) rs))
-          ∙ ap (leads twin (standing r.serial rs ts)) (blocks_with s r.serial (with_mounted is) (λ x. refl) (λ x. refl) rs)) risks
+    ap (λ (o : Option Standing). leads twin o (blocks_in (reel r.serial (with_reel s (with_mounted is) rs))))
+    (standing_labels r.serial rs (with_reel s (with_mounted is) rs) ts (labels_kept s (with_mounted is) (λ x. refl) rs))
+    ∙ ap (leads twin (standing r.serial rs ts)) (blocks_with s r.serial (with_mounted is) (λ x. refl) (λ x. refl) rs)) risks
 
 pub risks_mounted : (is : Bool) (s : ℕ) (ts : List Standing) (rs : List Reel) (ps qs : List Risk)
     → pair_risks ts (with_reel s (with_mounted is) rs) ps qs ≡ pair_risks ts rs ps qs
