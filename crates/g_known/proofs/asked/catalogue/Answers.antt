@@ -1,5 +1,6 @@
 use Rattle.std.proofs.Common.{◌<◌, ◌∙◌, Err, ap, arith, inl, inr, length, refl}
 use Rattle.std.proofs.lemmas.Result.{err_from_is_err_and}
+use Rattle.g_tape.proofs.ReadLemmas.{more_reads}
 use Rattle.g_shelf.proofs.LastLemmas.{only_these}
 use Rattle.g_shelf.proofs.RackLemmas.{many_after_reads, none_refused}
 use Rattle.g_known.proofs.KnownLemmas.{all_listed, none_listed, one_listed}
@@ -16,6 +17,9 @@ loop-i-preserved g c =
     let within : c.loop-i.i < length (g.T.Tapes.rack c.args.tapes.now).reels = omega arith in
     one_listed _ _ _ _ _ _ _ (g.met.T.Tapes.well_formed _) c.loop-i.invariant within c.serial-serial.ensures c.in_ok-notes.ensures.noted c.in_ok-notes.ensures.reads.only
     (c.in_ok-notes.ensures.reads.kept (λ wrong. let no : ⊥ = cc in no)) c.in-Ok.ensures.items
+
+pub returns-in-Err-clause-only : goal.returns-in-Err-clause-only
+returns-in-Err-clause-only g c = more_reads _ _ _ c.loop-i.invariant.only c.in_ok-notes.ensures.reads.only
 
 pub returns-in_err-notes-clause-faults : goal.returns-in_err-notes-clause-faults
 returns-in_err-notes-clause-faults g c =

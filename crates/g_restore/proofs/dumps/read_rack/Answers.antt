@@ -1,4 +1,5 @@
 use Rattle.std.proofs.Common.{◌<◌, Err, ap, arith, inl, inr, length}
+use Rattle.g_tape.proofs.ReadLemmas.{more_reads}
 use Rattle.g_shelf.proofs.LastLemmas.{only_these}
 use Rattle.g_shelf.proofs.RackLemmas.{many_after_reads, none_refused}
 use Rattle.g_restore.proofs.ReelLemmas.{all_reels, none_read, one_reel}
@@ -15,6 +16,9 @@ loop-i-preserved g c =
     let within : c.loop-i.i < length (g.T.Tapes.rack c.args.tapes.now).reels = omega arith in
     one_reel _ _ _ _ _ _ _ (g.met.T.Tapes.well_formed _) c.loop-i.invariant within c.serial-serial.ensures c.in-Ok.ensures.more c.in-Ok.ensures.reads.only
     (c.in-Ok.ensures.reads.kept (λ wrong. let no : ⊥ = cc in no))
+
+pub returns-in-Err-clause-only : goal.returns-in-Err-clause-only
+returns-in-Err-clause-only g c = more_reads _ _ _ c.loop-i.invariant.only c.in-Err.ensures.reads.only
 
 pub returns-in-Err-clause-faults : goal.returns-in-Err-clause-faults
 returns-in-Err-clause-faults g c =
