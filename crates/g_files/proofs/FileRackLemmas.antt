@@ -41,7 +41,7 @@ unread k r untold =
 
 -- a rack of these reels
 abbrev pub rack : ℕ → ℕ → Option ℕ → Arms → List Reel → Rack
-rack reads writes fuse arms reels = record { reels = reels; read_faults = reads; write_faults = writes; fuse = fuse; arms = arms }
+rack reads writes fuse arms reels = record { reels = reels; read_faults = reads; write_faults = writes; fuse = fuse; arms = arms; risks = [] }
 
 module _ {A : Type 0} (f : A → Reel) (s k i : ℕ) (items : List A) (was now : A) (place : IsPlaceOf s (map f items) i) (is : was ≡ get_or items i was) where
   within : i < length items

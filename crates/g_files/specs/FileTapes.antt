@@ -1,5 +1,5 @@
 -- A rack of reels in files.
-use Rattle.std.specs.Prelude.{List, None}
+use Rattle.std.specs.Prelude.{List, [], None}
 use Rattle.g_base.specs.Fuse.{never}
 use Rattle.g_tape.specs.Reel.{Reel}
 use Rattle.g_tape.specs.Rack.{Rack}
@@ -20,8 +20,9 @@ rack_of t = record {
   write_faults = t.write_faults;
   fuse = t.fuse;
   arms = t.arms;
+  risks = [];
 }
 
 -- a rack of these reels that was just opened
 abbrev pub opened : List Reel → Rack
-opened reels = record { reels = reels; read_faults = 0; write_faults = 0; fuse = None; arms = never }
+opened reels = record { reels = reels; read_faults = 0; write_faults = 0; fuse = None; arms = never; risks = [] }

@@ -1,4 +1,4 @@
-use Rattle.std.proofs.Common.{◌≡◌, ℕ, ◌*◌, ◌-◌, take, map, subst, sym, ap, ◌∙◌, arith}
+use Rattle.std.proofs.Common.{◌≡◌, ℕ, ◌*◌, ◌-◌, take, map, Ok, Err, refl, subst, sym, ap, ◌∙◌, arith}
 use Rattle.g_files.specs.FileReel.{reel_file, reel_of}
 use Rattle.g_files.specs.Ahead.{IsFresh, IsPartOf, owner_of, window_of}
 use Rattle.g_files.specs.Window.{Window, window}
@@ -8,6 +8,12 @@ use Rattle.g_tape.specs.Place.{IsPlaceOf}
 use Rattle.g_tape.specs.Reel.{Reel}
 use Rattle.g_files.proofs.FileRackLemmas.{fresh_set, reels_set, secure_done, secure_failed, written_fresh}
 use Rattle.std.specs.Option.{ForSome}
+use Rattle.g_tape.proofs.DurableLemmas.{secures_durably}
+use Rattle.g_tape.proofs.ReadLemmas.{same_risks}
+use Rattle.g_tape.specs.Rack.{Rack}
+use Rattle.g_tape.specs.Reads.{unread}
+use Rattle.g_files.specs.FileTapes.{rack_of}
+use Rattle.g_tape.specs.declared.fault.TapeFault.TheVariants.{ReadFailed}
 use Rattle.g_files.proofs.file_tapes.FileTapesTapes.secure.Goals as goal
 
 pub invariant_of-self-then-is_err : goal.invariant_of-self-then-is_err
@@ -57,13 +63,19 @@ returns-then-is_err g c =
     let t = c.args.self.now in
     let i = c.in-Some.place in
     let place = subst (λ rs. IsPlaceOf c.args.serial (map reel_of rs) i) c.deref.ensures.value c.in-Some.ensures in
-    secure_failed reel_of c.args.serial 0 i t.reels.items c.index_mut.result.now c.secure.new.self place c.index_mut.ensures.value t.read_faults t.write_faults
-    t.fuse t.arms c.raised-self.result c.secure.ensures.same c.raised-self.ensures
+    let secured = secure_failed reel_of c.args.serial 0 i t.reels.items c.index_mut.result.now c.secure.new.self place c.index_mut.ensures.value t.read_faults t.write_faults
+    t.fuse t.arms c.raised-self.result c.secure.ensures.same c.raised-self.ensures in record {
+      secured = secured;
+      durable = secures_durably c.args.serial (rack_of t) _ refl refl (same_risks (rack_of t) _ (ap (λ (r : Rack). map unread r.reels) secured.1.1) refl) (Err ReadFailed);
+    }
 
 pub returns : goal.returns
 returns g c =
     let t = c.args.self.now in
     let i = c.in-Some.place in
     let place = subst (λ rs. IsPlaceOf c.args.serial (map reel_of rs) i) c.deref.ensures.value c.in-Some.ensures in
-    secure_done reel_of c.args.serial 0 i t.reels.items c.index_mut.result.now c.secure.new.self place c.index_mut.ensures.value t.read_faults t.write_faults
-    t.fuse t.arms c.secure.ensures.same
+    let secured = secure_done reel_of c.args.serial 0 i t.reels.items c.index_mut.result.now c.secure.new.self place c.index_mut.ensures.value t.read_faults t.write_faults
+    t.fuse t.arms c.secure.ensures.same in record {
+      secured = secured;
+      durable = secures_durably c.args.serial (rack_of t) _ refl refl (same_risks (rack_of t) _ (ap (λ (r : Rack). map unread r.reels) secured.1) refl) (Ok tt);
+    }

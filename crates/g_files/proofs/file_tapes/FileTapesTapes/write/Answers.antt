@@ -1,4 +1,4 @@
-use Rattle.std.proofs.Common.{◌≡◌, ℕ, ◌*◌, ◌≤◌, List, Some, true, length, map, subst, sym, ap, ◌∙◌, arith}
+use Rattle.std.proofs.Common.{◌≡◌, ℕ, ◌*◌, ◌≤◌, List, Some, Ok, Err, true, length, map, refl, subst, sym, ap, ◌∙◌, arith}
 use Rattle.g_files.specs.FileReel.{reel_file, reel_of}
 use Rattle.g_files.specs.Ahead.{IsFresh, IsPartOf, owner_of, window_of}
 use Rattle.g_files.specs.FileTapes.{rack_of}
@@ -12,6 +12,8 @@ use Rattle.g_base.proofs.FuseLemmas.{fused_failed, fused_well}
 use Rattle.g_files.proofs.FileRackLemmas.{free_at, fresh_set, left_any, reels_set, refused_at, serial_left, window_cut, write_done, write_failed, write_refused, written_fresh}
 use Rattle.g_tape.specs.Rack.{refuses_write}
 use Rattle.g_tape.proofs.ReelLemmas.{allowed-write}
+use Rattle.g_tape.proofs.DurableLemmas.{writes_durably}
+use Rattle.g_tape.specs.declared.fault.TapeFault.TheVariants.{WriteFailed}
 use Rattle.g_files.proofs.file_tapes.FileTapesTapes.write.Goals as goal
 
 pub invariant_of-self : goal.invariant_of-self
@@ -97,10 +99,13 @@ returns-then-burn g c =
     let free = free_at reel_of c.args.serial 0 i t.reels.items was was place c.index_mut.ensures.value (refuses_write k) c.index.result.now
     c.refuses_write.result c.index.ensures (c.refuses_write.ensures ∙ ap (λ (r : Reel). refuses_write k (Some r)) c.state.ensures.value)
     c.in_default-refuses_write.is in
-    write_failed reel_of c.args.serial k i t.reels.items was c.end_with-left.new.self place c.index_mut.ensures.value t.read_faults t.write_faults t.fuse t.arms
+    let written = write_failed reel_of c.args.serial k i t.reels.items was c.end_with-left.new.self place c.index_mut.ensures.value t.read_faults t.write_faults t.fuse t.arms
     c.args.from.now c.burn.new.self c.raised-self.result free
     (left_any k _ (reel_of was) (reel_of c.end_with-left.new.self) c.end_with-left.result c.end_with-left.ensures.done c.end_with-left.ensures.left)
-    c.burn.ensures.left c.raised-self.ensures
+    c.burn.ensures.left c.raised-self.ensures in record {
+      written = written;
+      durable = writes_durably c.args.serial k c.args.from.now (rack_of t) _ refl refl t.well_formed (Err WriteFailed) written;
+    }
 
 pub returns-then-is_err : goal.returns-then-is_err
 returns-then-is_err g c =
@@ -112,10 +117,13 @@ returns-then-is_err g c =
     let free = free_at reel_of c.args.serial 0 i t.reels.items was was place c.index_mut-2.ensures.value (refuses_write k) c.index.result.now
     c.refuses_write.result c.index.ensures (c.refuses_write.ensures ∙ ap (λ (r : Reel). refuses_write k (Some r)) c.state.ensures.value)
     c.in_default-refuses_write.is in
-    write_failed reel_of c.args.serial k i t.reels.items was c.end_with.new.self place c.index_mut-2.ensures.value t.read_faults t.write_faults t.fuse t.arms
+    let written = write_failed reel_of c.args.serial k i t.reels.items was c.end_with.new.self place c.index_mut-2.ensures.value t.read_faults t.write_faults t.fuse t.arms
     c.args.from.now c.burn.new.self c.raised-self-then-is_err.result free
     (left_any k _ (reel_of was) (reel_of c.end_with.new.self) c.end_with.result c.end_with.ensures.done c.end_with.ensures.left)
-    c.burn.ensures.left c.raised-self-then-is_err.ensures
+    c.burn.ensures.left c.raised-self-then-is_err.ensures in record {
+      written = written;
+      durable = writes_durably c.args.serial k c.args.from.now (rack_of t) _ refl refl t.well_formed (Err WriteFailed) written;
+    }
 
 pub returns : goal.returns
 returns g c =
@@ -127,9 +135,12 @@ returns g c =
     let free = free_at reel_of c.args.serial 0 i t.reels.items was was place c.index_mut-2.ensures.value (refuses_write k) c.index.result.now
     c.refuses_write.result c.index.ensures (c.refuses_write.ensures ∙ ap (λ (r : Reel). refuses_write k (Some r)) c.state.ensures.value)
     c.in_default-refuses_write.is in
-    write_done reel_of c.args.serial k i t.reels.items was c.end_with.new.self place c.index_mut-2.ensures.value t.read_faults t.write_faults t.fuse t.arms
+    let written = write_done reel_of c.args.serial k i t.reels.items was c.end_with.new.self place c.index_mut-2.ensures.value t.read_faults t.write_faults t.fuse t.arms
     c.args.from.now c.burn.new.self free (on_ok_at c.end_with.result (sym c.is_err.ensures.value ∙ c.if-is_err.false) c.end_with.ensures.done)
-    c.burn.ensures.left (λ armed. let fires : c.burn.result ≡ true = c.burn.ensures.fires.1 armed in cc)
+    c.burn.ensures.left (λ armed. let fires : c.burn.result ≡ true = c.burn.ensures.fires.1 armed in cc) in record {
+      written = written;
+      durable = writes_durably c.args.serial k c.args.from.now (rack_of t) _ refl refl t.well_formed (Ok tt) written;
+    }
 
 pub returns-in-Some-refuses_write : goal.returns-in-Some-refuses_write
 returns-in-Some-refuses_write g c =
@@ -140,4 +151,7 @@ returns-in-Some-refuses_write g c =
     let here = c.index.result.now in
     let refused = refused_at reel_of c.args.serial 0 i t.reels.items here here place c.index.ensures (refuses_write k) c.refuses_write.result
     c.in-Some-refuses_write.fault (c.refuses_write.ensures ∙ ap (λ (r : Reel). refuses_write k (Some r)) c.state.ensures.value) c.in-Some-refuses_write.is in
-    write_refused c.args.serial k c.args.from.now (rack_of t) c.in-Some-refuses_write.fault refused
+    let written = write_refused c.args.serial k c.args.from.now (rack_of t) c.in-Some-refuses_write.fault refused in record {
+      written = written;
+      durable = writes_durably c.args.serial k c.args.from.now (rack_of t) _ refl refl t.well_formed (Err c.in-Some-refuses_write.fault) written;
+    }
