@@ -1,9 +1,8 @@
-use Rattle.std.proofs.Common.{◌≡◌, ◌<◌, List, get_or, length, map, subst, arith, sym, ap, ◌∙◌}
-use Rattle.std.proofs.lemmas.List.{get_or-map, length-map, take_all}
+use Rattle.std.proofs.Common.{◌≡◌, ◌<◌, get_or, length, map, subst, arith, sym, ap, ◌∙◌}
+use Rattle.std.proofs.lemmas.List.{get_or-map, length-map}
 use Rattle.g_tape.specs.Reel.{Reel}
-use Rattle.g_duplex.specs.Pair.{ArePaired}
 use Rattle.g_duplex.specs.Twins.{AreTwins}
-use Rattle.g_duplex.specs.Places.{standing_by, standings_by}
+use Rattle.g_duplex.specs.Places.{standing_by}
 use Rattle.g_files.specs.FileReel.{reel_of}
 use Rattle.g_devices.proofs.AlikeReels.{paired_more}
 use Rattle.g_devices.proofs.alike.are_alike.Goals as goal
