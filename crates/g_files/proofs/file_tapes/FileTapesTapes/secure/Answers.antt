@@ -66,7 +66,7 @@ returns-then-is_err g c =
     let secured = secure_failed reel_of c.args.serial 0 i t.reels.items c.index_mut.result.now c.secure.new.self place c.index_mut.ensures.value t.read_faults t.write_faults
     t.fuse t.arms c.raised-self.result c.secure.ensures.same c.raised-self.ensures in record {
       secured = secured;
-      durable = secures_durably c.args.serial (rack_of t) _ refl refl (same_risks (rack_of t) _ (ap (λ (r : Rack). map unread r.reels) secured.1.1) refl) (Err ReadFailed);
+      durable = secures_durably c.args.serial (rack_of t) _ refl refl (same_risks (rack_of t) _ (ap (λ (r : Rack). map unread r.reels) secured.2) refl) (Err ReadFailed);
     }
 
 pub returns : goal.returns
