@@ -16,6 +16,8 @@ mod files;
 #[cfg(test)]
 mod pools;
 #[cfg(test)]
+mod reels;
+#[cfg(test)]
 mod streams;
 #[cfg(test)]
 mod tapes;

@@ -1,4 +1,2 @@
 mod AlikeReels
 mod ConsoleLemmas
-mod FileRack
-mod ReelEnds

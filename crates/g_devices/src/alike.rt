@@ -1,15 +1,16 @@
 //! Whether the reels of two folders can be a pair.
-ghost use Rattle.std.specs.Prelude.{◌≡◌, true};
+ghost use Rattle.std.specs.Prelude.{◌≡◌, map, true};
 ghost use Rattle.g_duplex.specs.Pair.{ArePaired};
 ghost use Rattle.g_duplex.specs.Places.{standing_by, standings_by};
 ghost use Rattle.g_duplex.specs.Twins.{AreTwins};
+ghost use Rattle.g_files.specs.FileReel.{reel_of};
 
-use crate::file_reel::FileReel;
+use crate::rack::HostReel;
 use g_duplex::{Twin, standing_by};
 
 /// Whether they are the same reels, as long where neither is lost.
-pub(crate) fn are_alike(reels: &[FileReel], beside: &[FileReel], lost: &[(u32, Twin)]) -> bool
-    ensures { result ≡ true → ArePaired (standings_by lost.now reels.now) reels.now beside.now }
+pub(crate) fn are_alike(reels: &[HostReel], beside: &[HostReel], lost: &[(u32, Twin)]) -> bool
+    ensures { result ≡ true → ArePaired (standings_by lost.now (map reel_of reels.now)) (map reel_of reels.now) (map reel_of beside.now) }
 {
     if reels.len() != beside.len() {
         return false;
@@ -22,11 +23,10 @@ pub(crate) fn are_alike(reels: &[FileReel], beside: &[FileReel], lost: &[(u32, T
     true
 }
 
-/// Whether two reels have one label, and are as long where neither is lost.
-fn is_alike(reel: &FileReel, other: &FileReel, lost: &[(u32, Twin)]) -> bool
-    ensures { result ≡ true → AreTwins (standing_by reel.now.serial lost.now) reel.now other.now }
+/// Whether two reels have one label, and are as long where neither is lost. Their blocks aren't observable.
+fn is_alike(reel: &HostReel, other: &HostReel, lost: &[(u32, Twin)]) -> bool
+    ensures { result ≡ true → AreTwins (standing_by (reel_of reel.now).serial lost.now) (reel_of reel.now) (reel_of other.now) }
 {
-    reel.tells_nothing();
     let standing = standing_by(reel.state().serial(), lost);
     reel.state().serial() == other.state().serial()
         && reel.state().capacity() == other.state().capacity()

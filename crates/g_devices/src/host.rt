@@ -4,6 +4,7 @@
 ghost use Rattle.std.specs.Prelude.{None};
 ghost use Rattle.g_files.specs.Durability.{all_durable};
 
+use crate::names::{FileId, id_of};
 use g_files::{RawFile, RawInput, RawOutput};
 use std::fs::File;
 use std::io::{self, Error, ErrorKind, Read, Write};
@@ -23,6 +24,11 @@ impl HostFile {
     /// Waits until the file and what the system notes of it have reached the device.
     pub(crate) fn sync_all(&self) -> io::Result<()> {
         self.file.sync_all()
+    }
+
+    /// Which file it is.
+    pub(crate) fn id(&self) -> io::Result<FileId> {
+        id_of(&self.file)
     }
 }
 

@@ -2,34 +2,27 @@
 //! and output as source and sink, and the words of the command line.
 #![tactic(auto)]
 
-mod ahead;
 mod alike;
-mod blocks;
 mod claim;
 mod console;
-mod file_reel;
-mod file_tapes;
 mod host;
 mod image;
 mod looking;
 mod names;
-mod neighbours;
 mod new_rack;
 mod pair;
 mod pair_fault;
 mod rack;
-mod reach;
 mod streams;
 mod words;
 
 pub use console::{StdConsole, are_terminals};
-pub use file_tapes::FileTapes;
 pub use host::{HostFile, HostInput, HostOutput};
 pub use image::open_image;
 pub use looking::look_at;
 pub use names::is_there;
 pub use pair::open_duplex;
 pub use pair_fault::PairFault;
-pub use rack::open_rack;
+pub use rack::{HostTapes, open_rack};
 pub use streams::placeholders;
 pub use words::{texts_of, words_of};

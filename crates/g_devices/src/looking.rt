@@ -2,12 +2,12 @@
 ghost use Rattle.std.specs.Prelude.{◌<◌, ◌≤◌, IfOk};
 ghost use Rattle.g_files.specs.FileDisc.{disc_size};
 
-use crate::file_tapes::FileTapes;
 use crate::host::HostFile;
 use crate::image::look_at_image;
 use crate::names::FileId;
-use crate::rack::look_at_rack;
+use crate::rack::{HostTapes, look_at_rack};
 use g_files::FileDisc;
+use std::alloc::Global;
 use std::io::{self, Error, ErrorKind};
 
 /// Opens image and rack to be read, and locks them shared: other looks may go at once, and no run. No reel is mounted.
@@ -18,16 +18,25 @@ pub fn look_at(
     rt: &HostRuntime,
     path: &str,
     folder: &str,
-) -> io::Result<(FileDisc<HostFile>, FileTapes)>
+) -> io::Result<(FileDisc<HostFile>, HostTapes)>
     ensures { IfOk result (λ devices. (2177 < disc_size devices.0) × (disc_size devices.0 ≤ 1048576)) }
 {
     let (disc, id) = look_at_image(rt, path)?;
     let tapes = look_at_rack(rt, folder)?;
-    let reels = tapes.ids(rt.alloc())?;
+    let reels = ids_of(rt.alloc(), &tapes)?;
     if reels.contains(&id) || !are_apart(&reels) {
         return Err(Error::from(ErrorKind::WouldBlock));
     }
     Ok((disc, tapes))
+}
+
+/// Which files the reels of the rack are in.
+fn ids_of(alloc: Global, tapes: &HostTapes) -> io::Result<Vec<FileId>> {
+    let mut ids = Vec::new(alloc);
+    for reel in tapes.each() {
+        ids.push(reel.file().id()?)?;
+    }
+    Ok(ids)
 }
 
 /// Whether no two of them are one file.

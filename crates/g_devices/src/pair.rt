@@ -1,18 +1,17 @@
 //! Two racks in two folders as one: a reel that is missing or differs in one of them is rebuilt from the other's.
-ghost use Rattle.std.specs.Prelude.{IfOk};
+ghost use Rattle.std.specs.Prelude.{IfOk, map};
+ghost use Rattle.g_files.specs.FileReel.{reel_of};
 ghost use Rattle.g_tape.specs.Rack.{AreReels};
-ghost use Rattle.g_tape.specs.Reel.{IsReel};
 
-use crate::ahead::ReadAhead;
 use crate::alike::are_alike;
 use crate::claim::{Access, claim, claim_folder};
-use crate::file_reel::FileReel;
-use crate::file_tapes::FileTapes;
+use crate::host::HostFile;
 use crate::names::{is_link, is_there, open_folder, open_unready, sync_folder_of, target_of};
 use crate::pair_fault::PairFault;
-use crate::rack::{CAPACITY, Serial, open_or_make, open_reel, put_behind, serials_in};
+use crate::rack::{CAPACITY, HostReel, HostTapes, Serial, open_or_make, open_reel, serials_in};
 use g_base::MAX_REELS;
 use g_duplex::{Duplex, DuplexFault, Standing, Twin};
+use g_files::{FileReel, FileTapes, ReadAhead, push_reel};
 use g_tape::Tapes;
 use std::fs::{self, File};
 use std::io::{self, Error, ErrorKind};
@@ -23,8 +22,8 @@ const BLOCK_BYTES: u64 = 512;
 /// The reels of two folders, in rising serial, and those that have to be rebuilt.
 #[derive(Drop)]
 struct Reels {
-    first: Vec<FileReel>,
-    second: Vec<FileReel>,
+    first: Vec<HostReel>,
+    second: Vec<HostReel>,
     lost: Vec<(u32, Twin)>,
 }
 
@@ -56,7 +55,7 @@ pub fn open_duplex(
     rt: &HostRuntime,
     first: &str,
     second: &str,
-) -> Result<(Duplex<FileTapes>, Vec<(u32, Twin)>), PairFault> {
+) -> Result<(Duplex<HostTapes>, Vec<(u32, Twin)>), PairFault> {
     let one = open_or_make(rt, first)?;
     claim_folder(&one, Access::Run)?;
     let other = open_folder(rt, second)?;
@@ -82,16 +81,16 @@ pub fn open_duplex(
 
 /// Opens the reels of both folders, two of each serial.
 fn open_reels(rt: &HostRuntime, first: &str, second: &str) -> Result<Reels, PairFault>
-    ensures first { IfOk result (λ reels. AreReels reels.first.items) }
-    ensures second { IfOk result (λ reels. AreReels reels.second.items) }
+    ensures first { IfOk result (λ reels. AreReels (map reel_of reels.first.items)) }
+    ensures second { IfOk result (λ reels. AreReels (map reel_of reels.second.items)) }
 {
     let mut reels = Vec::new(rt.alloc());
     let mut beside = Vec::new(rt.alloc());
     let mut lost = Vec::new(rt.alloc());
     for serial in serials_of_both(rt, first, second)? {
         let (reel, other, twin) = open_twins(rt, first, second, serial)?;
-        put_behind(&mut reels, reel)?;
-        put_behind(&mut beside, other)?;
+        push_reel(&mut reels, reel)?;
+        push_reel(&mut beside, other)?;
         if let Some(twin) = twin {
             note(&mut lost, serial, twin)?;
         }
@@ -131,24 +130,21 @@ fn open_twins(
     first: &str,
     second: &str,
     serial: Serial,
-) -> Result<(FileReel, FileReel, Option<Twin>), PairFault>
-    ensures first { IfOk result (λ twins. IsReel twins.0) }
-    ensures second { IfOk result (λ twins. IsReel twins.1) }
-{
+) -> Result<(HostReel, HostReel, Option<Twin>), PairFault> {
     if !has_reel(rt, first, serial)? {
         let other = open_twin(rt, second, serial, Twin::Second, false)?;
         let reel = open_again(rt, first, serial, Twin::First)?;
         return Ok((reel, other, Some(Twin::First)));
     }
     let has_other = holds_blocks(rt, second, serial.number)?;
-    let reel = open_twin(rt, first, serial, Twin::First, has_other)?;
+    let mut reel = open_twin(rt, first, serial, Twin::First, has_other)?;
     if !has_reel(rt, second, serial)? {
         let other = open_again(rt, second, serial, Twin::Second)?;
         return Ok((reel, other, Some(Twin::Second)));
     }
     let has_other = reel.state().len() > 0;
-    let other = open_twin(rt, second, serial, Twin::Second, has_other)?;
-    if hold_same(rt, &reel, &other)? {
+    let mut other = open_twin(rt, second, serial, Twin::Second, has_other)?;
+    if hold_same(rt, &mut reel, &mut other)? {
         return Ok((reel, other, None));
     }
     if !has_other {
@@ -167,9 +163,7 @@ fn open_twin(
     serial: Serial,
     twin: Twin,
     has_other: bool,
-) -> Result<FileReel, PairFault>
-    ensures { IfOk result IsReel }
-{
+) -> Result<HostReel, PairFault> {
     match open_linked(rt, folder, serial) {
         Ok(reel) => Ok(reel),
         Err(error) => Err(PairFault::in_reel(serial.number, twin, has_other, error)),
@@ -178,9 +172,7 @@ fn open_twin(
 
 /// Opens the reel of a serial. If that is a link, makes the name of the file durable that it leads to: an earlier run may have been
 /// killed after it rebuilt that.
-fn open_linked(rt: &HostRuntime, folder: &str, serial: Serial) -> io::Result<FileReel>
-    ensures { IfOk result IsReel }
-{
+fn open_linked(rt: &HostRuntime, folder: &str, serial: Serial) -> io::Result<HostReel> {
     let reel = open_reel(rt, folder, serial, Access::Run)?;
     let number = serial.number;
     let path = format!(in rt.alloc(); "{folder}/{number}.tape")?;
@@ -212,9 +204,7 @@ fn open_again(
     folder: &str,
     serial: Serial,
     twin: Twin,
-) -> Result<FileReel, PairFault>
-    ensures { IfOk result IsReel }
-{
+) -> Result<HostReel, PairFault> {
     match open_waiting(rt, folder, serial) {
         Ok(reel) => Ok(reel),
         Err(error) => Err(PairFault::not_rebuilt(serial.number, twin, error)),
@@ -223,9 +213,7 @@ fn open_again(
 
 /// Opens an empty file that gets the name of the reel when it is whole. If that name is a link, the new file lies beside the one that
 /// it leads to.
-fn open_waiting(rt: &HostRuntime, folder: &str, serial: Serial) -> io::Result<FileReel>
-    ensures { IfOk result IsReel }
-{
+fn open_waiting(rt: &HostRuntime, folder: &str, serial: Serial) -> io::Result<HostReel> {
     let number = serial.number;
     let path = format!(in rt.alloc(); "{folder}/{number}.tape")?;
     let target = target_of(rt, path.as_str())?;
@@ -233,11 +221,15 @@ fn open_waiting(rt: &HostRuntime, folder: &str, serial: Serial) -> io::Result<Fi
     let file = open_unready(rt, unready.as_str())?;
     claim(&file, Access::Run)?;
     file.set_len(0)?;
-    Ok(FileReel::new(file, number, CAPACITY, 0))
+    FileReel::open(HostFile::new(file), number, CAPACITY)
 }
 
 /// Whether two reels hold the same blocks. A fault names the one that can't be read.
-fn hold_same(rt: &HostRuntime, reel: &FileReel, other: &FileReel) -> Result<bool, PairFault> {
+fn hold_same(
+    rt: &HostRuntime,
+    reel: &mut HostReel,
+    other: &mut HostReel,
+) -> Result<bool, PairFault> {
     if reel.state().len() != other.state().len() {
         return Ok(false);
     }
@@ -247,10 +239,10 @@ fn hold_same(rt: &HostRuntime, reel: &FileReel, other: &FileReel) -> Result<bool
     for k in 0..reel.state().len() {
         let mut block = [0; 512];
         let mut beside = [0; 512];
-        if let Err(error) = reel.read(&mut ahead, k, &mut block) {
+        if let Err(error) = reel.read(&mut ahead, 0, k, &mut block) {
             return Err(PairFault::in_reel(serial, Twin::First, true, error));
         }
-        if let Err(error) = other.read(&mut ahead_beside, k, &mut beside) {
+        if let Err(error) = other.read(&mut ahead_beside, 0, k, &mut beside) {
             return Err(PairFault::in_reel(serial, Twin::Second, true, error));
         }
         if block != beside {
@@ -264,7 +256,7 @@ fn hold_same(rt: &HostRuntime, reel: &FileReel, other: &FileReel) -> Result<bool
 fn rebuild(
     rt: &HostRuntime,
     folders: Folders,
-    pair: &mut Duplex<FileTapes>,
+    pair: &mut Duplex<HostTapes>,
     serial: u32,
 ) -> Result<(), PairFault> {
     let _mounted = pair.mount(serial);

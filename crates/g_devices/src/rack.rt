@@ -1,21 +1,23 @@
 //! A rack in a folder: a file `SERIAL.tape` for each reel.
-ghost use Rattle.std.specs.Prelude.{◌≡◌, ◌<◌, ◌≤◌, ◌↔◌, ◌++◌, [], ◌∷◌, All, IfOk, IsTrue, OnOk};
-ghost use Rattle.g_tape.specs.Rack.{AreReels};
-ghost use Rattle.g_tape.specs.Reel.{IsReel};
+ghost use Rattle.std.specs.Prelude.{◌≡◌, ◌≤◌};
 
-use crate::ahead::ReadAhead;
-use crate::blocks::blocks_in;
 use crate::claim::{Access, claim, claim_folder};
-use crate::file_reel::FileReel;
-use crate::file_tapes::FileTapes;
+use crate::host::HostFile;
 use crate::names::{open_folder, open_plain};
 use crate::new_rack::make_folder;
-use g_base::{MAX_REELS, MAX_SERIAL};
+use g_base::MAX_SERIAL;
+use g_files::{FileReel, FileTapes, ReadAhead, push_reel};
 use std::fs::{self, File};
-use std::io::{self, Error, ErrorKind};
+use std::io::{self, ErrorKind};
 
 /// How many blocks each reel can hold.
 pub(crate) const CAPACITY: u32 = 8_192;
+
+/// A reel in a file of the system.
+pub(crate) type HostReel = FileReel<HostFile>;
+
+/// A rack in a folder of the system, which is locked as long as the rack lives.
+pub type HostTapes = FileTapes<HostFile, File>;
 
 /// The number of a reel.
 #[derive(Clone, Copy)]
@@ -32,7 +34,7 @@ pub(crate) struct Serial {
 /// the image of this run; `NotADirectory` if the name isn't a folder's, and `InvalidInput` if a reel is no plain file; `InvalidData`
 /// if there are more than 16 reels, or one has more than 8,192 blocks; `AlreadyExists` if the name is a link to nowhere, or if the
 /// name under which a rack is made is taken by something else; otherwise it is the system's. What was there is unchanged.
-pub fn open_rack(rt: &HostRuntime, folder: &str) -> io::Result<FileTapes> {
+pub fn open_rack(rt: &HostRuntime, folder: &str) -> io::Result<HostTapes> {
     let opened = open_or_make(rt, folder)?;
     reels_in(rt, folder, opened, Access::Run)
 }
@@ -40,20 +42,20 @@ pub fn open_rack(rt: &HostRuntime, folder: &str) -> io::Result<FileTapes> {
 /// Opens an existing rack for a look: its reels can't be written, and are locked so that no run takes them.
 ///
 /// The error is `NotFound` if there is none, `WouldBlock` if a run has it; otherwise it is one of `open_rack`.
-pub(crate) fn look_at_rack(rt: &HostRuntime, folder: &str) -> io::Result<FileTapes> {
+pub(crate) fn look_at_rack(rt: &HostRuntime, folder: &str) -> io::Result<HostTapes> {
     let opened = open_folder(rt, folder)?;
     reels_in(rt, folder, opened, Access::Look)
 }
 
 /// The rack of the reels in an open folder.
-fn reels_in(rt: &HostRuntime, folder: &str, opened: File, access: Access) -> io::Result<FileTapes> {
+fn reels_in(rt: &HostRuntime, folder: &str, opened: File, access: Access) -> io::Result<HostTapes> {
     claim_folder(&opened, access)?;
     let mut serials = serials_in(rt, folder)?;
     serials.sort_by_key(|serial| serial.number)?;
     let mut reels = Vec::new(rt.alloc());
     for serial in serials {
         let reel = open_reel(rt, folder, serial, access)?;
-        put_behind(&mut reels, reel)?;
+        push_reel(&mut reels, reel)?;
     }
     Ok(FileTapes::new(opened, reels, ReadAhead::new(rt.alloc())?))
 }
@@ -106,37 +108,10 @@ pub(crate) fn open_reel(
     folder: &str,
     serial: Serial,
     access: Access,
-) -> io::Result<FileReel>
-    ensures { IfOk result IsReel }
-{
+) -> io::Result<HostReel> {
     let number = serial.number;
     let path = format!(in rt.alloc(); "{folder}/{number}.tape")?;
     let file = open_plain(rt, path.as_str(), access)?;
     claim(&file, access)?;
-    let len = blocks_in(&file)?;
-    if len > CAPACITY {
-        return Err(Error::from(ErrorKind::InvalidData));
-    }
-    Ok(FileReel::new(file, number, CAPACITY, len))
-}
-
-/// Puts a reel behind the others of a rack, or `InvalidData` where there are 16 already or one has a serial as great.
-pub(crate) fn put_behind(reels: &mut Vec<FileReel>, reel: FileReel) -> io::Result<()>
-    requires rack { AreReels reels.old.items }
-    requires reel { IsReel reel }
-    ensures rack { OnOk result (AreReels reels.new.items) }
-    ensures behind { OnOk result (reels.new.items ≡ reels.old.items ++ reel ∷ []) }
-{
-    if reels.len() >= MAX_REELS || !is_above(reel.state().serial(), reels) {
-        return Err(Error::from(ErrorKind::InvalidData));
-    }
-    reels.push(reel)?;
-    Ok(())
-}
-
-/// Whether the serial is above those of all these reels.
-fn is_above(serial: u32, reels: &[FileReel]) -> bool
-    ensures { IsTrue result ↔ All (λ reel. reel.serial < serial) reels.now }
-{
-    reels.iter().all(|reel| reel.state().serial() < serial)
+    FileReel::open(HostFile::new(file), number, CAPACITY)
 }

@@ -1,11 +1,10 @@
 -- What flushes, writes and syncs do to durable and syncable bytes and blocks.
 -- serves: flush (durability, gate), size (syncable), write (durability), write_at (gate), write_block (durability), write_through (durability)
-use Rattle.std.proofs.Common.{◌≡◌, ◌⊎◌, ℕ, ◌+◌, ◌-◌, ◌*◌, ◌<◌, ◌≤◌, Bool, true, false, List, [], length, Result, Ok, Err, is_err, OnErr, OnOk, ltb, leb, refl, sym, ap, subst, ◌∙◌, inl, inr, arith}
-use Rattle.std.specs.Prelude.{◌≢◌, ◌/◌, Option, not, ◌&&◌, ◌||◌}
-use Rattle.std.proofs.lemmas.Bool.{and_from, and_left, and_parts, and_right, cases_lt, le-leb, leb-true, lt-leb, lt-ltb, le-ltb, ltb-true, ltb-false, leb-false, not-true, not_from_false, or_cases, or_left, or_right, and_cases}
+use Rattle.std.proofs.Common.{◌≡◌, ◌⊎◌, ℕ, ◌+◌, ◌-◌, ◌*◌, ◌<◌, ◌≤◌, true, false, List, length, Result, Ok, Err, is_err, OnOk, ltb, leb, sym, ap, subst, ◌∙◌, inl, inr, arith}
+use Rattle.std.specs.Prelude.{◌≢◌, ◌/◌, Option, not}
+use Rattle.std.proofs.lemmas.Bool.{and_from, and_left, and_parts, and_right, cases_lt, leb-true, lt-leb, le-ltb, ltb-true, ltb-false, leb-false, not-true, not_from_false, or_cases, or_right, and_cases}
 use Rattle.std.proofs.lemmas.Nat.{div-mul-add}
-use Rattle.g_files.specs.Bytes.{part}
-use Rattle.g_files.specs.Durability.{Durability, AreSynced, DurableAreSyncable, GateFailed, HasDurable, HasSyncable, HasSynced, IsApart, IsSettled, KeepsDurability, StayDurable, StaySyncable, SyncsDurability, WritesBlock, WritesDurability, is_within, overlaid}
+use Rattle.g_files.specs.Durability.{Durability, DurableAreSyncable, HasDurable, HasSyncable, IsApart, KeepsDurability, StaySyncable, WritesBlock, WritesDurability, is_within, overlaid}
 
 -- WITHIN A RANGE OR OUTSIDE
 
@@ -22,9 +21,6 @@ outside_is : (at n j : ℕ) → IsOutside at n j → not (is_within at n j) ≡ 
 outside_is at n j (inl below) = not_from_false (is_within at n j) (and_left (leb at j) (ltb j (at + n)) (lt-leb at j below))
 outside_is at n j (inr past) = not_from_false (is_within at n j) (and_right (leb at j) (ltb j (at + n)) (le-ltb j (at + n) past))
 
-within_is : (at n j : ℕ) → at ≤ j → j < at + n → is_within at n j ≡ true
-within_is at n j from below = and_from (leb at j) (ltb j (at + n)) (le-leb at j from) (lt-ltb j (at + n) below)
-
 durable_parts : (at n j : ℕ) (d : Durability) → (overlaid at n d).durable j ≡ true → (d.durable j ≡ true) × IsOutside at n j
 durable_parts at n j d is = let p = and_parts (d.durable j) (not (is_within at n j)) is in (p.0, outside at n j p.1)
 
@@ -33,9 +29,6 @@ durable_from at n j d is out = and_from (d.durable j) (not (is_within at n j)) i
 
 syncable_file : (at n j : ℕ) (d : Durability) → d.syncable j ≡ true → (overlaid at n d).syncable j ≡ true
 syncable_file at n j d is = or_right (is_within at n j) (d.syncable j) is
-
-syncable_within : (at n j : ℕ) (d : Durability) → at ≤ j → j < at + n → (overlaid at n d).syncable j ≡ true
-syncable_within at n j d from below = or_left (is_within at n j) (d.syncable j) (within_is at n j from below)
 
 syncable_cases : (at n j : ℕ) (d : Durability) → (overlaid at n d).syncable j ≡ true → ((at ≤ j) × (j < at + n)) ⊎ (d.syncable j ≡ true)
 syncable_cases at n j d is = elim (or_cases (is_within at n j) (d.syncable j) is) [
@@ -131,28 +124,11 @@ pub gate_beside : {E : Type 0} (k : ℕ) (p : List ℕ) (x : Option (List ℕ)) 
 gate_beside k p x d d' r other few w was i below =
     w.apart (0 + i) (other_block k (length p) 0 i few (λ same. omega (arith, same, other)) below) (was i below)
 
--- the gate is durable, and no byte of it is buffered
-pub gate_seen : (at n : ℕ) (d : Durability) → (0 < n → 512 ≤ at) → HasDurable 0 512 d → HasDurable 0 512 (overlaid at n d)
-gate_seen at n d behind was i below = durable_from at n (0 + i) d (was i below) (elim (cases_lt 0 n) [
-  | inl some ↦ let far = behind some in inl (omega (arith, below, far))
-  | inr none ↦ elim (cases_lt i at) [
-    | inl before ↦ inl (omega (arith, before))
-    | inr from ↦ inr (omega (arith, from, none))
-  ]
-])
-
 -- a buffered byte is syncable, and the others as in the file
 pub seen_sound : (at n : ℕ) (d : Durability) → DurableAreSyncable d → DurableAreSyncable (overlaid at n d)
 seen_sound at n d sound j is = syncable_file at n j d (sound j (file_durable at n j d is))
 
 -- CALLS THAT CHANGE NO BYTE
-
-pub keeps_same : {T E : Type 0} (r : Result T E) (d : Durability) → KeepsDurability d d r
-keeps_same (Ok x) d = record { durable = λ k was. was; kept = λ j was. was }
-keeps_same (Err e) d = record { durable = λ k was. was; kept = tt }
-
-pub keeps_err : {T E E' : Type 0} {a b : Durability} {r : Result T E} (e : E') → KeepsDurability a b r → KeepsDurability {T = T} a b (Err e)
-keeps_err e keeps = record { durable = keeps.durable; kept = tt }
 
 ok_kept : {T E : Type 0} {a b : Durability} (r : Result T E) → is_err r ≡ false → KeepsDurability a b r → StaySyncable a b
 ok_kept (Ok x) ok keeps = keeps.kept
@@ -165,18 +141,6 @@ keeps_then r (Ok x) ok first second = record {
   kept = λ j was. second.kept j (ok_kept r ok first j was);
 }
 keeps_then r (Err e) ok first second = record { durable = λ k was. second.durable k (first.durable k was); kept = tt }
-
--- what is known of the file, if nothing is buffered
-pub keeps_bytes : {T E : Type 0} (at n to m : ℕ) (d d' : Durability) (r : Result T E) → n ≡ 0 → m ≡ 0 → StayDurable d d' → OnOk r (StaySyncable d d')
-    → KeepsDurability (overlaid at n d) (overlaid to m d') r
-keeps_bytes at n to m d d' (Ok x) none none' durable kept = record {
-  durable = λ k was i below. empty_durable to m (512 * k + i) d' none' (durable (512 * k + i) (file_durable at n (512 * k + i) d (was i below)));
-  kept = λ j was. syncable_file to m j d' (kept j (empty_syncable at n j d none was));
-}
-keeps_bytes at n to m d d' (Err e) none none' durable kept = record {
-  durable = λ k was i below. empty_durable to m (512 * k + i) d' none' (durable (512 * k + i) (file_durable at n (512 * k + i) d (was i below)));
-  kept = tt;
-}
 
 -- WRITES OF BLOCKS
 
@@ -242,82 +206,3 @@ written_block at n to m k from o x y d d' (Err e) none none' few some w here = r
   gate = λ is. tt;
   gate_failed = λ is. absurd (omega (arith, is, some));
 }
-
--- one more block is buffered
-pub buffered_block : {E : Type 0} (at n to m k : ℕ) (from : List ℕ) (x y : Option (List ℕ)) (d : Durability) → length from ≡ 512 → 0 < k
-    → to ≡ at → m ≡ n + 512 → 512 * k ≡ at + n
-    → WritesBlock {T = Unit {0}} {E = E} k from x y (overlaid at n d) (overlaid to m d) (Ok tt)
-buffered_block at n to m k from x y d size some same more next = record {
-  durable = λ j other was i below.
-      let p = durable_parts at n (512 * j + i) d (was i below) in
-      durable_from to m (512 * j + i) d p.0 (elim p.1 [
-        | inl before ↦ inl (omega (arith, before, same))
-        | inr past ↦ elim (cases_lt j k) [
-          | inl low ↦ absurd (omega (arith, low, past, next, below))
-          | inr high ↦ inr (omega (arith, high, other, past, next, below, same, more))
-        ]
-      ]);
-  kept = λ j was. elim (syncable_cases at n j d was) [
-    | inl inside ↦
-        let low = inside.0 in
-        let high = inside.1 in
-        syncable_within to m j d (omega (arith, low, same)) (omega (arith, high, same, more))
-    | inr file ↦ syncable_file to m j d file
-  ];
-  here = λ i below. syncable_within to m (512 * k + i) d (omega (arith, same, next)) (omega (arith, same, next, more, below, size));
-  gate = λ is. absurd (omega (arith, is, some));
-  gate_failed = λ is. tt;
-}
-
--- THE GATE
-
-synced_durable : {E : Type 0} (at n : ℕ) (a b c : Durability) (k : ℕ) (p : List ℕ) (x : Option (List ℕ)) (r : Result (Unit {0}) E) → n ≡ 0 → length p ≤ 512
-    → StaySyncable a b → AreSynced b → WritesDurability (512 * 0) p x b c r → k ≢ 0 → HasSyncable (512 * k) 512 (overlaid at n a) → HasDurable (512 * k) 512 c
-synced_durable at n a b c k p x r none few kept synced w other was i below =
-    w.apart (512 * k + i) (other_block 0 (length p) k i few other below)
-    (synced (512 * k + i) (kept (512 * k + i) (empty_syncable at n (512 * k + i) a none (was i below))))
-
--- the sync before it failed
-pub gate_unsynced : {E : Type 0} (at n to m : ℕ) (from : List ℕ) (x y : Option (List ℕ)) (a b : Durability) (e : E) → n ≡ 0 → m ≡ 0 → y ≡ x → StayDurable a b
-    → WritesBlock {T = Unit {0}} 0 from x y (overlaid at n a) (overlaid to m b) (Err e)
-gate_unsynced {E = E} at n to m from x y a b e none none' same durable =
-    failed_keeps 0 from x y e same (keeps_bytes {T = Unit {0}} {E = E} at n to m a b (Err e) none none' durable tt)
-
--- the write failed, or the sync after it
-pub gate_unwritten : {E E' : Type 0} (at n to m : ℕ) (from : List ℕ) (o x y : Option (List ℕ)) (a b c d : Durability) (r : Result (Unit {0}) E) (e : E')
-    → n ≡ 0 → m ≡ 0 → length from ≤ 512
-    → StayDurable a b → StaySyncable a b → AreSynced b → WritesDurability (512 * 0) from o b c r → StayDurable c d
-    → WritesBlock {T = Unit {0}} 0 from x y (overlaid at n a) (overlaid to m d) (Err e)
-gate_unwritten at n to m from o x y a b c d r e none none' few durable kept synced w still = record {
-  durable = λ j other was i below. empty_durable to m (512 * j + i) d none' (still (512 * j + i) (w.apart (512 * j + i)
-      (other_block 0 (length from) j i few other below) (durable (512 * j + i) (file_durable at n (512 * j + i) a (was i below)))));
-  kept = tt;
-  here = tt;
-  gate = λ is. tt;
-  gate_failed = λ is. inr (λ k other was i below. empty_durable to m (512 * k + i) d none' (still (512 * k + i)
-      (synced_durable at n a b c k from o r none few kept synced w other was i below)));
-}
-
--- all three succeeded
-pub gate_done : {E E' : Type 0} (at n to m : ℕ) (from : List ℕ) (o x y : Option (List ℕ)) (a b c d : Durability)
-    → n ≡ 0 → m ≡ 0 → length from ≤ 512 → HasDurable 0 512 a
-    → SyncsDurability {T = Unit {0}} {E = E} a b (Ok tt) → WritesDurability {T = Unit {0}} {E = E} (512 * 0) from o b c (Ok tt)
-    → HasSyncable (512 * 0) (length from) c → SyncsDurability {T = Unit {0}} {E = E} c d (Ok tt)
-    → HasDurable 0 512 d × WritesBlock {T = Unit {0}} {E = E'} 0 from x y (overlaid at n a) (overlaid to m d) (Ok tt)
-gate_done {E = E} at n to m from o x y a b c d none none' few was before w here after =
-    let gate : HasDurable 0 512 d = λ i below. after.synced (0 + i) (after.kept (0 + i) (w.kept (0 + i) (before.sound (0 + i)
-    (before.durable (0 + i) (was i below))))) in (
-      gate,
-      record {
-        durable = λ j other was i below. empty_durable to m (512 * j + i) d none' (after.durable (512 * j + i) (w.apart (512 * j + i)
-            (other_block 0 (length from) j i few other below) (before.durable (512 * j + i) (file_durable at n (512 * j + i) a (was i below)))));
-        kept = λ j was. syncable_file to m j d (after.kept j (w.kept j (before.kept j (empty_syncable at n j a none was))));
-        here = λ i below. syncable_file to m (512 * 0 + i) d (after.kept (512 * 0 + i) (here i below));
-        gate = λ is. (
-          λ k other was i below. empty_durable to m (512 * k + i) d none' (after.durable (512 * k + i)
-              (synced_durable {E = E} at n a b c k from o (Ok tt) none few before.kept before.synced w other was i below)),
-          λ i below. empty_durable to m (0 + i) d none' (gate i below),
-        );
-        gate_failed = λ is. tt;
-      },
-    )

@@ -1,13 +1,13 @@
 -- Which blocks of a disc on a file are durable, from the durable bytes of the file.
 -- serves: blocks_are_their_bytes, finish (durable, syncable, synced), open (opened), read, secure, size (syncable), write
-use Rattle.std.proofs.Common.{◌≡◌, ℕ, zero, suc, ◌+◌, ◌*◌, ◌<◌, ◌≤◌, Bool, true, false, List, None, length, eqb, leb, ltb, Result, Ok, Err, OnErr, OnOk, refl, sym, ap, subst, ◌∙◌, inl, inr, arith}
+use Rattle.std.proofs.Common.{◌≡◌, ℕ, zero, suc, ◌+◌, ◌*◌, ◌<◌, ◌≤◌, Bool, true, false, List, None, length, eqb, leb, ltb, Result, Ok, Err, OnErr, OnOk, refl, sym, ap, ◌∙◌, inl, inr, arith}
 use Rattle.std.specs.Prelude.{◌≢◌, ◌⊎◌, Option, not, ◌&&◌, ◌||◌, option_map}
 use Rattle.std.specs.List.{list_any}
 use Rattle.std.proofs.lemmas.Bool.{and_from, and_parts, and_right, cases_Bool, cases_eq, cases_lt, eq-eqb, le-ltb, ne_eqb, not-true, not_from_false, not_from_true, or_from, or_left}
 use Rattle.std.proofs.Math.Bool.{and-true}
 use Rattle.g_base.specs.Fuse.{Arms, never}
 use Rattle.g_files.specs.Bytes.{blocks_of}
-use Rattle.g_files.specs.Durability.{Durability, AreSynced, DurableAreSyncable, GateFailed, HasDurable, HasSyncable, HasSynced, KeepsDurability, StaySyncable, WritesBlock, is_within, overlaid}
+use Rattle.g_files.specs.Durability.{Durability, AreSynced, DurableAreSyncable, HasDurable, HasSyncable, HasSynced, KeepsDurability, StaySyncable, WritesBlock, is_within, overlaid}
 use Rattle.g_files.specs.FileDisc.{BlocksAreTheirBytes, all_from, dropped_of, failing, opened, volatile_of}
 use Rattle.g_files.proofs.DiscLemmas.{same_blocks}
 
@@ -26,7 +26,8 @@ all_from_at test at (suc n) i is below =
 pub all_from_is : (test : ℕ → Bool) (at n : ℕ) → ((i : ℕ) → i < n → test (at + i) ≡ true) → all_from test at n ≡ true
 unfolding all_from
 all_from_is test at zero each = refl
-all_from_is test at (suc n) each = and_from (test (at + n)) (all_from test at n) (each n (omega arith)) (all_from_is test at n (λ i below. each i (omega (arith, below))))
+all_from_is test at (suc n) each =
+    and_from (test (at + n)) (all_from test at n) (each n (omega arith)) (all_from_is test at n (λ i below. each i (omega (arith, below))))
 
 failing_more : (test : ℕ → Bool) (n : ℕ) → test n ≡ true → failing test (suc n) ≡ failing test n
 unfolding failing
@@ -110,13 +111,15 @@ blocks_synced n k d synced is = durable_is n k d (λ below i inside. synced (512
 
 -- CALLS
 
-pub keeps_durable : {T E : Type 0} (n m : ℕ) (d d' : Durability) (r : Result T E) → m ≡ n → KeepsDurability d d' r → (k : ℕ) → DurableIn n d k → DurableIn m d' k
+pub keeps_durable : {T E : Type 0} (n m : ℕ) (d d' : Durability) (r : Result T E) → m ≡ n → KeepsDurability d d' r
+    → (k : ℕ) → DurableIn n d k → DurableIn m d' k
 keeps_durable n m d d' r same keeps k was = durable_is m k d' (λ below. keeps.durable k (durable_at n k d (omega (arith, below, same)) was))
 
 pub keeps_syncable : {T E : Type 0} (n m : ℕ) (d d' : Durability) (r : Result T E) → m ≡ n → OnOk r (StaySyncable d d')
     → OnOk r ((k : ℕ) → SyncableIn n d k → SyncableIn m d' k)
 keeps_syncable n m d d' (Err e) same kept = tt
-keeps_syncable n m d d' (Ok x) same kept = λ k was. syncable_is m k d' (λ below i inside. kept (512 * k + i) (syncable_at n k d (omega (arith, below, same)) was i inside))
+keeps_syncable n m d d' (Ok x) same kept =
+    λ k was. syncable_is m k d' (λ below i inside. kept (512 * k + i) (syncable_at n k d (omega (arith, below, same)) was i inside))
 
 pub gate_durable : {T E : Type 0} (n : ℕ) (d : Durability) (r : Result T E) → OnOk r (HasDurable 0 512 d) → OnOk r (DurableIn n d 0)
 gate_durable n d (Ok x) gate = durable_is n 0 d (λ some i inside. gate i inside)

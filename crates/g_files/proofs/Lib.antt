@@ -1,10 +1,14 @@
 pub mod BlankLemmas
+pub mod BlockFileLemmas
 pub mod BlockLemmas
 pub mod BytesLemmas
 pub mod CallLemmas
 pub mod DiscLemmas
 pub mod DurabilityLemmas
 pub mod DurableBlocksLemmas
+pub mod FileRackLemmas
+pub mod FileReelLemmas
+pub mod FrontLemmas
 pub mod ImageLemmas
 pub mod MemoryLemmas
 pub mod StreamLemmas

@@ -1,6 +1,6 @@
 -- Durable and syncable bytes over the calls of one whole write.
 -- serves: write_at (durability), write_whole (durability)
-use Rattle.std.proofs.Common.{◌≡◌, ℕ, ◌+◌, ◌-◌, ◌<◌, ◌≤◌, true, List, length, take, drop, false, Result, Ok, Err, is_err, Some, refl, sym, ap, subst, ◌∙◌, inl, inr, arith, length-drop, length-take}
+use Rattle.std.proofs.Common.{◌≡◌, ℕ, ◌+◌, ◌-◌, ◌≤◌, true, List, length, take, drop, false, Result, Ok, Err, is_err, sym, ap, subst, ◌∙◌, inl, inr, arith, length-drop, length-take}
 use Rattle.std.specs.Prelude.{◌/◌, Option}
 use Rattle.std.specs.Option.{ForSome}
 use Rattle.std.proofs.lemmas.Bool.{cases_lt}
@@ -8,10 +8,11 @@ use Rattle.std.proofs.lemmas.List.{take-take, take_rest}
 use Rattle.g_base.specs.ToldContent.{Changes}
 use Rattle.g_base.proofs.ToldLemmas.{Changes-back}
 use Rattle.g_files.specs.Bytes.{part, put}
-use Rattle.g_files.specs.Durability.{Durability, DurableAreSyncable, HasSyncable, IsApart, StayDurable, WritesDurability}
+use Rattle.g_files.specs.Durability.{Durability, HasSyncable, IsApart, WritesDurability}
 use Rattle.g_files.proofs.BytesLemmas.{part-part, put-part}
 
-apart_rest : (at done j : ℕ) (from piece : List ℕ) → done ≤ length from → piece ≡ drop done from → IsApart at (length from) j → IsApart (at + done) (length piece) j
+apart_rest : (at done j : ℕ) (from piece : List ℕ) → done ≤ length from → piece ≡ drop done from → IsApart at (length from) j
+    → IsApart (at + done) (length piece) j
 apart_rest at done j from piece few same apart i below is =
     let long : length piece ≡ length from - done = ap length same ∙ length-drop done from in
     apart (done + i) (omega (arith, below, long, few)) (is ∙ ap (λ (m : ℕ). m / 512) (omega arith))
@@ -41,7 +42,7 @@ more_ok at done n from piece x y a b c start few same told first second = record
   syncable_apart = λ j apart was. second.syncable_apart j (apart_rest at done j from piece few same apart) (first.syncable_apart j apart was);
   unchanged = λ there j was. second.unchanged (rest_there at done from piece x y start few same told there) j (first.unchanged there j was);
   kept = λ j was. second.kept j (first.kept j was);
-  sound = second.sound;
+  sound = λ was. second.sound (first.sound was);
 }
 
 pub more_syncable : {E : Type 0} (at done n : ℕ) (piece : List ℕ) (y : Option (List ℕ)) (b c : Durability)
@@ -64,18 +65,7 @@ more_err at done from piece r e x y a b c start few same told first second = rec
   syncable_apart = λ j apart was. second.syncable_apart j (apart_rest at done j from piece few same apart) (first.syncable_apart j apart was);
   unchanged = λ there j was. second.unchanged (rest_there at done from piece x y start few same told there) j (first.unchanged there j was);
   kept = tt;
-  sound = second.sound;
-}
-
--- no call yet
-pub no_call : {E : Type 0} (at : ℕ) (from : List ℕ) (x : Option (List ℕ)) (a : Durability) → DurableAreSyncable a
-    → WritesDurability {T = Unit {0}} {E = E} at from x a a (Ok tt)
-no_call at from x a sound = record {
-  apart = λ j apart was. was;
-  syncable_apart = λ j apart was. was;
-  unchanged = λ there j was. was;
-  kept = λ j was. was;
-  sound = sound;
+  sound = λ was. second.sound (first.sound was);
 }
 
 -- the same, if the caller reports a failure

@@ -48,14 +48,14 @@ pub record WritesDurability {T E : Type 0} (at : ℕ) (from : List ℕ) (content
   pub syncable_apart : (j : ℕ) → IsApart at (length from) j → old.syncable j ≡ true → new.syncable j ≡ true
   pub unchanged : ForSome content (λ bytes. from ≡ part at (length from) bytes) → StayDurable old new
   pub kept : OnOk result (StaySyncable old new)
-  pub sound : DurableAreSyncable new
+  pub sound : DurableAreSyncable old → DurableAreSyncable new
 
 -- What a sync does: if it succeeds, all syncable bytes are durable. If it fails, those that aren't durable may not be syncable any more.
 pub record SyncsDurability {T E : Type 0} (old new : Durability) (result : Result T E) : Type 0 where
   pub durable : StayDurable old new
   pub kept : OnOk result (StaySyncable old new)
   pub synced : OnOk result (AreSynced new)
-  pub sound : DurableAreSyncable new
+  pub sound : DurableAreSyncable old → DurableAreSyncable new
 
 -- BYTES THAT ARE NOT WRITTEN TO THE FILE YET
 

@@ -1,7 +1,13 @@
+pub mod Ahead
+pub mod BlockFile
 pub mod Bytes
 pub mod Calls
 pub mod Durability
 pub mod FileDisc
+pub mod FileReel
+pub mod FileTapes
+pub mod Front
 pub mod Image
 pub mod MemoryFile
+pub mod Reels
 pub mod Window

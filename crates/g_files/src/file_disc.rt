@@ -59,10 +59,12 @@ impl<F: RawFile + Drop> FileDisc<F> {
     /// commit doesn't depend on it: everything committed is already on the device.
     pub fn finish(&mut self) -> Result<(), WriteFailed>
         ensures saved { OnOk result (ForSome (disc_file self.new) (λ bytes. (disc_state self.old).held ≡ Some (blocks_of (disc_size self.old) bytes))) }
-        ensures same { disc_state self.new ≡ record (disc_state self.old) { volatile = (disc_state self.new).volatile; dropped = (disc_state self.new).dropped } }
+        ensures same { disc_state self.new
+            ≡ record (disc_state self.old) { volatile = (disc_state self.new).volatile; dropped = (disc_state self.new).dropped } }
         ensures durable { StayDurable (disc_state self.old) (disc_state self.new) }
         ensures syncable { OnOk result (StaySyncable (disc_state self.old) (disc_state self.new)) }
-        ensures synced { OnOk result (is_secured self.old ≡ true → (k : ℕ) → is_syncable (disc_state self.new) k ≡ true → is_durable (disc_state self.new) k ≡ true) }
+        ensures synced { OnOk result (is_secured self.old ≡ true
+            → (k : ℕ) → is_syncable (disc_state self.new) k ≡ true → is_durable (disc_state self.new) k ≡ true) }
     {
         self.image.finish()
     }

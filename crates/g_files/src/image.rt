@@ -6,7 +6,8 @@ ghost use Rattle.std.specs.Option.{ForSome};
 ghost use Rattle.g_base.specs.ToldContent.{Changes};
 ghost use Rattle.g_files.specs.Bytes.{AreBytes, part};
 ghost use Rattle.g_files.specs.Calls.{HasWrittenAll};
-ghost use Rattle.g_files.specs.Durability.{AreSynced, DurableAreSyncable, HasDurable, HasSyncable, IsSettled, KeepsDurability, StayDurable, StaySyncable, SyncsDurability, WritesBlock, WritesDurability, overlaid};
+ghost use Rattle.g_files.specs.Durability.{AreSynced, DurableAreSyncable, HasDurable, HasSyncable, IsSettled, StayDurable, StaySyncable, overlaid};
+ghost use Rattle.g_files.specs.Durability.{KeepsDurability, SyncsDurability, WritesBlock, WritesDurability};
 
 use crate::raw::RawFile;
 use crate::whole::{read_whole, write_whole};

@@ -50,7 +50,7 @@ pub trait RawFile {
         ensures cut { Changes (HasCut len result) (content self.old) (content self.new) }
         ensures durable { (j : ℕ) → j < len → (durability self.old).durable j ≡ true → (durability self.new).durable j ≡ true }
         ensures syncable { (j : ℕ) → j < len → (durability self.old).syncable j ≡ true → (durability self.new).syncable j ≡ true }
-        ensures sound { DurableAreSyncable (durability self.new) };
+        ensures sound { DurableAreSyncable (durability self.old) → DurableAreSyncable (durability self.new) };
 
     /// Waits until all writes have reached the device.
     fn sync(&mut self) -> io::Result<()>

@@ -5,7 +5,7 @@ ghost use Rattle.std.specs.IoError.{error_kind};
 ghost use Rattle.g_base.specs.ToldContent.{Changes};
 ghost use Rattle.g_files.specs.Bytes.{AreBytes, part};
 ghost use Rattle.g_files.specs.Calls.{HasWrittenAll};
-ghost use Rattle.g_files.specs.Durability.{DurableAreSyncable, HasSyncable, WritesDurability};
+ghost use Rattle.g_files.specs.Durability.{HasSyncable, WritesDurability};
 
 use crate::raw::RawFile;
 use std::io::{self, Error, ErrorKind};
@@ -39,7 +39,6 @@ pub(crate) fn write_whole<F: RawFile>(file: &mut F, from: &[u8], at: u64) -> io:
     requires fits { at + length from.now < 2 ^ 63 }
     requires within { ForSome (F.content file.old) (λ bytes. at ≤ length bytes) }
     requires bytes { AreBytes from.now }
-    requires sound { DurableAreSyncable (F.durability file.old) }
     ensures written { Changes (HasWrittenAll at from.now result) (F.content file.old) (F.content file.new) }
     ensures durability { WritesDurability at from.now (F.content file.old) (F.durability file.old) (F.durability file.new) result }
     ensures syncable { OnOk result (HasSyncable at (length from.now) (F.durability file.new)) }

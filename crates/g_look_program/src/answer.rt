@@ -16,7 +16,7 @@ use crate::mount::mount_all;
 use crate::tell::{put, tell, tell_bytes, tell_check, tell_restorable, tell_seal};
 use crate::twins::tell_twins;
 use crate::{Asked, Status, asked_by};
-use g_devices::{FileTapes, HostOutput, is_there, look_at};
+use g_devices::{HostOutput, HostTapes, is_there, look_at};
 use g_disc::Disc;
 use g_files::StdSink;
 use g_io::Sink;
@@ -83,7 +83,7 @@ fn on_files<K: Sink>(rt: &HostRuntime, asked: &Asked, out: &mut K) -> u8
 }
 
 /// The second rack, if there is one. The error is the exit status: 7 if the rack can't be used, or that of memory that ran out.
-pub(crate) fn second_rack(rt: &HostRuntime) -> Result<Option<KnownReels<FileTapes>>, u8>
+pub(crate) fn second_rack(rt: &HostRuntime) -> Result<Option<KnownReels<HostTapes>>, u8>
     ensures { IfErr result (λ code. (code ≡ 7) ⊎ IsExit IsOfLook code) }
 {
     match is_there(rt, SECOND) {

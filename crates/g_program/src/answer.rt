@@ -15,7 +15,7 @@ use crate::telling::{tell_lost, tell_missing, tell_rebuilt, tell_unusable, tell_
 use g_base::NoMemory;
 use g_demo::{Asked, asked_by};
 use g_devices::{
-    FileTapes, HostFile, HostInput, HostOutput, PairFault, is_there, open_duplex, open_image,
+    HostFile, HostInput, HostOutput, HostTapes, PairFault, is_there, open_duplex, open_image,
     open_rack,
 };
 use g_disc::{Disc, MemoryDisc};
@@ -117,19 +117,20 @@ fn run_on_files(rt: &HostRuntime, words: &[&str]) -> Result<u8, PairFault>
 }
 
 /// Syncs image and rack, and returns the exit status of the run.
-pub(crate) fn closed(finish: Finish<FileDisc<HostFile>, FileTapes>) -> u8
+pub(crate) fn closed(finish: Finish<FileDisc<HostFile>, HostTapes>) -> u8
     ensures { result ≡ code_of finish.status }
 {
     let mut disc = finish.disc;
     let _saved = disc.finish();
-    let _finished = finish.tapes.finish();
+    let mut tapes = finish.tapes;
+    let _finished = tapes.finish();
     finish.status.code()
 }
 
 /// Syncs image and both racks, reports which reels were lost in the run, and returns its exit status.
 pub(crate) fn closed_pair(
     rt: &HostRuntime,
-    finish: Finish<FileDisc<HostFile>, Duplex<FileTapes>>,
+    finish: Finish<FileDisc<HostFile>, Duplex<HostTapes>>,
 ) -> u8
     ensures { result ≡ code_of finish.status }
 {
@@ -137,7 +138,7 @@ pub(crate) fn closed_pair(
     let _saved = disc.finish();
     tell_lost(rt, finish.tapes.lost());
     let code = finish.status.code();
-    let (first, second) = finish.tapes.into_racks();
+    let (mut first, mut second) = finish.tapes.into_racks();
     let _finished = first.finish();
     let _finished_too = second.finish();
     code

@@ -36,7 +36,8 @@ returns g c =
       fuse = refl;
       arms = refl;
       durable = keeps_durable i.size new.size (durability_seen i) (durability_seen new) c.secure.result e.size e.durability;
-      syncable = on_ok_at c.secure.result ok (keeps_syncable i.size new.size (durability_seen i) (durability_seen new) c.secure.result e.size e.durability.kept);
+      syncable = on_ok_at c.secure.result ok (keeps_syncable i.size new.size (durability_seen i) (durability_seen new) c.secure.result e.size
+          e.durability.kept);
       gate = on_ok_at c.secure.result ok (gate_durable new.size (durability_seen new) c.secure.result e.gate);
       kept = refl;
       rose = tt;

@@ -1,0 +1,9 @@
+use Rattle.std.proofs.Common.{◌*◌}
+use Rattle.g_files.proofs.BlockFileLemmas.{cut_front, made_same}
+use Rattle.g_files.proofs.block_file.BlockFile.cut_tail.Goals as goal
+
+pub returns-clause-same : goal.returns-clause-same
+returns-clause-same g c =
+    let f = c.args.self.now in
+    let content = g.F.RawFile.content in
+    made_same f.len (content f.file) (content c.cut_at.new.file) (cut_front (512 * f.len) (content f.file) (content c.cut_at.new.file) c.cut_at.ensures.cut)

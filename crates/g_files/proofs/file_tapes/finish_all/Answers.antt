@@ -1,0 +1,19 @@
+use Rattle.std.proofs.Common.{◌∙◌, ◌<◌, ap, arith, length, sym, length-set}
+use Rattle.g_files.specs.FileReel.{IsSaved, reel_file, reel_of}
+use Rattle.g_files.specs.declared.file_reel.FileReel.{FileReel}
+use Rattle.g_files.proofs.FileRackLemmas.{finished_same, saved_more}
+use Rattle.g_files.proofs.file_tapes.finish_all.Goals as goal
+
+pub loop-i-preserved : goal.loop-i-preserved
+loop-i-preserved g c =
+    let reels = c.loop-i.reels in
+    let i = c.loop-i.i in
+    let now = c.finish.new.self in
+    let same = c.loop-i.invariant.1 in
+    let within : i < length reels = omega (arith, c.loop-i-test.true, same) in (
+      finished_same reel_of reels i c.index-reels-i.result now c.index-reels-i.is (c.finish.ensures.same ∙ ap reel_of (sym c.index-reels-i.is))
+          ∙ c.loop-i.invariant.0,
+      length-set reels i now ∙ same,
+      rw c.and-finished.ensures (saved_more (λ (r : FileReel g.row.F.Denot g.F.RawFile). IsSaved (reel_of r) (reel_file r)) reels i now
+          c.loop-i.finished c.finish.result within c.loop-i.invariant.2 c.finish.ensures.saved),
+    )

@@ -1,0 +1,21 @@
+-- Several reels in files.
+use Rattle.std.specs.Prelude.{◌<◌, List, All, length, map, slice_index_or}
+use Rattle.std.specs.Option.{ForSome}
+use Rattle.g_tape.specs.Reel.{Reel}
+use Rattle.g_files.specs.Ahead.{IsFresh, owner_of}
+use Rattle.g_files.specs.FileReel.{IsSaved, reel_file, reel_of}
+use Rattle.g_files.specs.declared.ahead.ReadAhead.{ReadAhead}
+use Rattle.g_files.specs.declared.file_reel.FileReel.{FileReel}
+use Rattle.g_files.specs.declared.raw.RawFile.{Ghosts}
+
+-- the reels in their files
+abbrev pub reels_of : {F : Type 0} {g : Ghosts F} → List (FileReel F g) → List Reel
+reels_of reels = map reel_of reels
+
+-- what was read ahead is what the file of its reel has there
+abbrev pub AreFresh : {F : Type 0} {g : Ghosts F} → ReadAhead → List (FileReel F g) → Type 0
+AreFresh {F = F} {g = g} ahead reels = (d : FileReel F g) → owner_of ahead < length reels → ForSome (reel_file (slice_index_or reels (owner_of ahead) d)) (IsFresh ahead)
+
+-- each file has exactly the blocks of its reel
+abbrev pub AreSaved : {F : Type 0} {g : Ghosts F} → List (FileReel F g) → Type 0
+AreSaved reels = All (λ r. IsSaved (reel_of r) (reel_file r)) reels

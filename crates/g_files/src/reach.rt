@@ -1,0 +1,14 @@
+//! Whether the blocks of a file are durable.
+
+/// How far the blocks of a reel are known to have come.
+#[derive(Clone, Copy, PartialEq, Eq)]
+pub(crate) enum Reach {
+    /// Nothing is known. What an earlier run wrote may not be on the device, and a sync that failed then may have dropped it.
+    Unknown,
+    /// This run wrote something, and the next sync makes all of it durable.
+    Behind,
+    /// A write, a cut or a sync failed. The system may have dropped what it didn't bring to the device, and then no later sync does.
+    Failed,
+    /// Everything is durable.
+    There,
+}
