@@ -4,7 +4,9 @@ use Rattle.std.proofs.Common.{◌≡◌, ◌⊎◌, ◌↔◌, inl, inr, ℕ, Li
 use Rattle.std.specs.Option.{ForSome}
 use Rattle.g_dirs.specs.Directory.{Directory}
 use Rattle.g_dirs.specs.Image.{StandsFor}
+use Rattle.g_tape.specs.Rack.{AreReels, Rack}
 use Rattle.g_tape.specs.Reel.{Reel}
+use Rattle.g_store_meaning.specs.Meaning.{told_reels}
 use Rattle.g_store_meaning.specs.Reading.{AllTold}
 use Rattle.g_look.specs.declared.checking.Checked.{Checked}
 use Rattle.g_look.specs.declared.fault.LookFault.{LookFault}
@@ -12,8 +14,11 @@ use Rattle.g_look.specs.declared.fault.LookFault.TheVariants as fault
 use Rattle.g_look.specs.Text.{IsChecked}
 use Rattle.g_seal.specs.declared.entries.SealedDump.{SealedDump}
 use Rattle.g_seal.specs.declared.entries.SealedFile.{SealedFile}
+use Rattle.g_seal.specs.Entries.{AreEntries}
 use Rattle.g_seal.specs.Rotten.{IsReport}
-use Rattle.g_seal.specs.Sealing.{IsOfReport}
+use Rattle.g_seal.specs.SealText.{sealed_text}
+use Rattle.g_seal.specs.Sealing.{IsOfReport, IsSealed}
+use Rattle.g_seal.proofs.OwnTextLemmas.{own_is_quiet}
 use Rattle.g_look_program.specs.declared.status.Status.{Status}
 use Rattle.g_look_program.specs.declared.status.Status.TheVariants as status
 use Rattle.g_look_program.specs.Telling.{EndsCheck, EndsReport, IsFailed, TellsCheck, TellsFault, TellsReport, Written}
@@ -65,3 +70,10 @@ pub report_mid : (held now : Option (List (List ℕ))) (reels after : List Reel)
     → (AllTold now after → IsReport now after dumps files text) → IsReport held reels dumps files text
 report_mid held now reels after dumps files text same left told is =
     subst (λ (h : Option (List (List ℕ))). AllTold h reels → IsReport h reels dumps files text) same (subst (λ (rs : List Reel). AllTold now rs → IsReport now rs dumps files text) left is) told
+
+-- a check against the text of the own seal
+pub report_own : (size : ℕ) (held : Option (List (List ℕ))) (rack : Rack) (dumps : List SealedDump) (files : List SealedFile) (ended : Status) (w : Written) → AreReels rack.reels → AllTold held (told_reels rack) → AreEntries dumps files
+    → IsSealed held (told_reels rack) (sealed_text dumps files) → EndsReport ended size held (told_reels rack) dumps files w → EndsCheck ended size held (told_reels rack) w
+report_own size held rack dumps files ended w are told entries sealed (inl check) = check.0
+report_own size held rack dumps files ended w are told entries sealed (inr (text, compared, puts)) =
+    absurd (compared.some (own_is_quiet held rack dumps files compared.report are told entries sealed compared.reported))

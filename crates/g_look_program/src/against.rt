@@ -2,6 +2,9 @@
 ghost use Rattle.std.specs.Prelude.{◌≡◌, ◌⊎◌, ◌<◌, All, true};
 ghost use Rattle.g_store_meaning.specs.Meaning.{told_reels};
 ghost use Rattle.g_store_meaning.specs.Reading.{AllTold};
+ghost use Rattle.g_seal.specs.Entries.{AreEntries};
+ghost use Rattle.g_seal.specs.SealText.{sealed_text};
+ghost use Rattle.g_seal.specs.Sealing.{IsSealed};
 ghost use Rattle.g_look_program.specs.Exit.{IsExit, IsOfLook};
 ghost use Rattle.g_look_program.specs.Telling as told;
 
@@ -91,6 +94,12 @@ pub fn look_against<K: Sink, D: Disc, T: Tapes>(
     requires mounted { All (λ r. r.mounted ≡ true) (T.rack tapes.old).reels }
     ensures report { AllTold (D.state disc.old).held (told_reels (T.rack tapes.old)) → told.EndsReport result
         (D.state disc.old).size (D.state disc.old).held (told_reels (T.rack tapes.old)) seal.now.dumps.items seal.now.files.items
+        (record { before = K.written out.old; after = K.written out.new; faults_before = K.faults out.old; faults_after = K.faults out.new }) }
+
+    // Against the text of their own seal, disc and rack get what a check prints, and its status.
+    ensures own { AllTold (D.state disc.old).held (told_reels (T.rack tapes.old)) → AreEntries seal.now.dumps.items seal.now.files.items
+        → IsSealed (D.state disc.old).held (told_reels (T.rack tapes.old)) (sealed_text seal.now.dumps.items seal.now.files.items)
+        → told.EndsCheck result (D.state disc.old).size (D.state disc.old).held (told_reels (T.rack tapes.old))
         (record { before = K.written out.old; after = K.written out.new; faults_before = K.faults out.old; faults_after = K.faults out.new }) }
     ensures look { IsOfLook result }
     ensures sink { told.SinkCause result

@@ -1,6 +1,9 @@
 mod DiscLemmas
+mod EntryLemmas
+mod FieldLemmas
 mod LineLemmas
 mod OwnLemmas
+pub mod OwnTextLemmas
 mod ParseLemmas
 mod ReelLemmas
 mod ReportLemmas

@@ -1,3 +1,4 @@
+pub mod Entries
 pub mod InMemory
 pub mod Rotten
 pub mod Sealing

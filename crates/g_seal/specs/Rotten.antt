@@ -11,7 +11,9 @@ use Rattle.g_entry.specs.declared.file_rec.TapeCopy.{TapeCopy}
 use Rattle.g_entry.specs.declared.format.Format.{Format}
 use Rattle.g_entry.specs.declared.user_rec.UserRec.{UserRec}
 use Rattle.g_name.specs.Order.{same_text}
-use Rattle.g_tape.specs.Rack.{reel}
+use Rattle.g_store_meaning.specs.Meaning.{told_reels}
+use Rattle.g_store_meaning.specs.Reading.{AllTold}
+use Rattle.g_tape.specs.Rack.{AreReels, Rack, reel}
 use Rattle.g_tape.specs.Reads.{blocks_in}
 use Rattle.g_tape.specs.Reel.{Reel}
 use Rattle.g_tree.specs.Records.{full_of}
@@ -26,8 +28,9 @@ use Rattle.g_seal.specs.declared.entries.SealedFile.{SealedFile}
 use Rattle.g_seal.specs.declared.versions.CopyState.{CopyState}
 use Rattle.g_seal.specs.declared.versions.CopyState.TheVariants.{Sealed, Other, Absent}
 use Rattle.g_seal.specs.declared.versions.FoundVersion.{FoundVersion}
-use Rattle.g_seal.specs.SealText.{online_text}
-use Rattle.g_seal.specs.Sealing.{bytes_on, sealed_dump, sealed_files}
+use Rattle.g_seal.specs.Entries.{AreEntries}
+use Rattle.g_seal.specs.SealText.{online_text, sealed_text}
+use Rattle.g_seal.specs.Sealing.{IsSealed, bytes_on, sealed_dump, sealed_files}
 
 -- A sum is the sealed one, or another.
 abbrev pub sum_state : List ℕ → List ℕ → CopyState
@@ -194,3 +197,9 @@ pub record IsSealing (held : Option (List (List ℕ))) (reels : List Reel) (dump
   pub found_is : IsFoundOn blocks found
   pub dumps_are : dumps ≡ map (sealed_dump reels) (all_dumps shelf reels)
   pub files_are : files ≡ sealed_files blocks reels found
+
+-- A STORE THAT HASN'T CHANGED has nothing to report against the text of its own seal.
+abbrev pub OwnIsQuiet : Type 0
+OwnIsQuiet =
+    (held : Option (List (List ℕ))) (rack : Rack) (dumps : List SealedDump) (files : List SealedFile) (text : List ℕ) → AreReels rack.reels → AllTold held (told_reels rack)
+    → AreEntries dumps files → IsSealed held (told_reels rack) (sealed_text dumps files) → IsReport held (told_reels rack) dumps files text → text ≡ []

@@ -20,7 +20,21 @@ mod rotten_line;
 mod sealing;
 mod versions;
 
+ghost use Rattle.g_seal.specs.Entries.{TextIsOne};
+ghost use Rattle.g_seal.specs.Rotten.{OwnIsQuiet};
+
 pub use entries::{SealedDump, SealedFile};
 pub use parse::{Seal, SealFault, parse_seal};
 pub use reporting::{rotten, rotten_twins};
 pub use sealing::{Sealed, seal};
+
+/// The text of a seal determines its dumps and files.
+#[tactic(auto, using(crate::proofs::EntryLemmas::text_is_one))]
+pub fn one_seal()
+    ensures one { TextIsOne }
+{}
+
+/// A store that hasn't changed has nothing to report against the text of its own seal.
+pub fn own_seal()
+    ensures quiet { OwnIsQuiet }
+{}

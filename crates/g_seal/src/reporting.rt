@@ -6,8 +6,10 @@ ghost use Rattle.g_lines.specs.Lines.{text_of};
 ghost use Rattle.g_store_meaning.specs.Meaning.{told_reels};
 ghost use Rattle.g_store_meaning.specs.Reading.{AllTold, ReelsTold};
 ghost use Rattle.g_look.specs.Looks.{ReadsRackByCause};
+ghost use Rattle.g_seal.specs.Entries.{AreEntries};
 ghost use Rattle.g_seal.specs.Rotten.{IsReport, IsSealing, twin_lines};
-ghost use Rattle.g_seal.specs.Sealing.{IsOfReport, sealed_dump};
+ghost use Rattle.g_seal.specs.SealText.{sealed_text};
+ghost use Rattle.g_seal.specs.Sealing.{IsOfReport, IsSealed, sealed_dump};
 
 use crate::Seal;
 use crate::rotten_dumps::{push_rotten_dumps, rotten_dumps};
@@ -35,6 +37,11 @@ pub fn rotten<D: Disc, T: Tapes>(
     // A store that hasn't changed since it was sealed has nothing to report.
     ensures unchanged { AllTold (D.state disc.old).held (told_reels (T.rack tapes.old))
         → IsSealing (D.state disc.old).held (told_reels (T.rack tapes.old)) seal.now.dumps.items seal.now.files.items → IfOk result (λ text. text ≡ []) }
+
+    // The same if the seal's text is that of these devices.
+    ensures own { AllTold (D.state disc.old).held (told_reels (T.rack tapes.old)) → AreEntries seal.now.dumps.items seal.now.files.items
+        → IsSealed (D.state disc.old).held (told_reels (T.rack tapes.old)) (sealed_text seal.now.dumps.items seal.now.files.items)
+        → IfOk result (λ text. text ≡ []) }
     ensures disc { ReadsByCause (result ≡ Err LookFault.DiscUnread) (D.state disc.old) (D.state disc.new) }
     ensures tapes { ReadsRackByCause (result ≡ Err LookFault.TapeUnread) (T.rack tapes.old) (T.rack tapes.new) }
     ensures faults { IfErr result IsOfReport }

@@ -1,6 +1,9 @@
-use Rattle.std.proofs.lemmas.Bool.{eqb-true}
-use Rattle.g_seal.proofs.ParseLemmas.{whole_is}
+use Rattle.g_lines.proofs.DocumentLemmas.{some_text}
+use Rattle.g_seal.proofs.ParseLemmas.{ended_whole, whole_ended}
 use Rattle.g_seal.proofs.parse.is_whole.Goals as goal
 
-pub returns-in-Some : goal.returns-in-Some
-returns-in-Some c = λ ends. whole_is c.args.text.now c.in-Some._front.now c.in-Some.last.now c.in-Some.ensures.cases.0 (eqb-true _ _ ends)
+pub returns-else-is_empty : goal.returns-else-is_empty
+returns-else-is_empty c = (
+  λ yes. let ends = c.is_ended.ensures.ended yes in ended_whole c.args.text.now ends.0 ends.1,
+  λ whole. whole_ended c.is_ended.result c.args.text.now c.is_ended.ensures.not (some_text c.args.text.now c.is_empty.result c.is_empty.ensures c.if-is_empty.false) whole,
+)
