@@ -40,13 +40,25 @@ fn a_failed_write_leaves_the_blocks_before_it(rt: HostRuntime) {
     for k in 2..6 {
         let mut tapes = rack_of(&rt, k).expect(&rt, "a rack");
         let mut block = [9; 512];
-        assert!(rt; tapes.write(7, 2, &[5; 512]) == Err(TapeFault::WriteFailed), "call {k}");
+        assert!(rt;
+            tapes.write(7, 2, &[5; 512]) == Err(TapeFault::WriteFailed),
+            "call {k}"
+        );
         assert!(rt; tapes.length(7) == Ok(2), "call {k}");
-        assert!(rt; tapes.read(7, 1, &mut block) == Ok(()) && block == [0; 512], "call {k}");
-        assert!(rt; tapes.write(7, 2, &[5; 512]) == Err(TapeFault::WriteFailed), "call {k}");
+        assert!(rt;
+            tapes.read(7, 1, &mut block) == Ok(()) && block == [0; 512],
+            "call {k}"
+        );
+        assert!(rt;
+            tapes.write(7, 2, &[5; 512]) == Err(TapeFault::WriteFailed),
+            "call {k}"
+        );
         assert!(rt; tapes.secure(7) == Ok(()), "call {k}");
         assert!(rt; tapes.write(7, 2, &[5; 512]) == Ok(()), "call {k}");
-        assert!(rt; tapes.read(7, 2, &mut block) == Ok(()) && block == [5; 512], "call {k}");
+        assert!(rt;
+            tapes.read(7, 2, &mut block) == Ok(()) && block == [5; 512],
+            "call {k}"
+        );
         assert!(rt; tapes.finish().is_ok(), "call {k}");
     }
     let mut tapes = rack_of(&rt, 6).expect(&rt, "a rack");
