@@ -1,6 +1,6 @@
 -- Racks that show the same answer the same.
 -- serves: racks_answer_alike
-use Rattle.std.proofs.Common.{◌≡◌, ◌≢◌, ℕ, List, Bool, true, Option, Some, None, Result, Ok, Err, refl, sym, ap, subst, ◌∙◌, is_some}
+use Rattle.std.proofs.Common.{◌≡◌, ◌≢◌, ℕ, List, true, Option, Some, None, Ok, Err, refl, sym, ap, subst, ◌∙◌, is_some}
 use Rattle.std.specs.Option.{ForSome}
 use Rattle.std.specs.List.{slice_get}
 use Rattle.g_base.specs.Fuse.{burnt}

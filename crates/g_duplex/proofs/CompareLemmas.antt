@@ -14,7 +14,7 @@ use Rattle.g_tape.specs.Reads.{OnlyReads, blocks_in, blocks_of, unread}
 use Rattle.g_tape.proofs.ReadLemmas.{blocks_after_reads, is_reel, more_reads, nothing_read, reel_after_reads}
 use Rattle.g_duplex.specs.Copying.{BothTold, DiffersAt, FirstDifference, SameBlock, SameReel}
 use Rattle.g_duplex.specs.Rebuild.{refuses_both}
-use Rattle.g_duplex.specs.declared.fault.DuplexFault.TheVariants.{NoTape, NotMounted, ReadFailed, WriteFailed}
+use Rattle.g_duplex.specs.declared.fault.DuplexFault.TheVariants.{NotMounted}
 use Rattle.g_duplex.proofs.ReadLemmas.{first_of, reads_free, second_of}
 
 abbrev Blocks : Type 0

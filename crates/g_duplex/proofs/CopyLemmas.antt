@@ -1,23 +1,23 @@
 -- Copying a reel from its twin, block by block.
 -- serves: copy_block, copy_reel, RebuildLemmas
-use Rattle.std.proofs.Common.{◌≡◌, ◌⊎◌, ℕ, zero, suc, ◌+◌, ◌<◌, ◌≤◌, List, [], ◌∷◌, ◌++◌, Bool, true, false, not, ◌&&◌, ◌||◌, ◌==◌, nat_lt, Option, Some, None, option_map, Result, Ok, Err, if◌then◌else◌, length, min, take, refl, sym, subst, ap, ◌∙◌, inl, inr, arith}
+use Rattle.std.proofs.Common.{◌≡◌, ℕ, zero, suc, ◌+◌, ◌<◌, ◌≤◌, List, [], ◌∷◌, ◌++◌, Bool, true, false, not, ◌&&◌, ◌==◌, Option, Some, None, option_map, Ok, Err, if◌then◌else◌, length, take, refl, sym, subst, ap, ◌∙◌, inl, inr, arith}
 use Rattle.std.specs.Option.{ForSome}
 use Rattle.std.specs.Prelude.{slice_get}
 use Rattle.std.proofs.lemmas.Bool.{lt-ltb, le-ltb}
 use Rattle.std.proofs.lemmas.Bool.Decides.{eqb_tells}
-use Rattle.std.proofs.lemmas.List.{length-append, length-take-le, take_all}
+use Rattle.std.proofs.lemmas.List.{take_all}
 use Rattle.g_base.specs.Counts.{Rose}
 use Rattle.g_tape.specs.declared.fault.TapeFault.{TapeFault}
 use Rattle.g_tape.specs.declared.fault.TapeFault.TheVariants as tape
-use Rattle.g_tape.specs.Reel.{IsReel, Reel, Remains, Shortened, Torn, Unchanged, cut_at, ending, left_by}
+use Rattle.g_tape.specs.Reel.{Reel, Remains, Shortened, Torn, Unchanged, ending, left_by}
 use Rattle.g_tape.specs.Rack.{AreReels, Rack, Reading, Writing, reel, refuses_read, refuses_write, with_reel}
 use Rattle.g_tape.specs.Reads.{OnlyReads, blocks_in, blocks_of, unread}
-use Rattle.g_tape.proofs.ReadLemmas.{blocks_after_reads, is_reel, more_reads, nothing_read, reading_only, reel-with_reel, reel-with_reel_other, reel_after_reads}
-use Rattle.g_duplex.specs.Copying.{BlockAnswer, BlockCopied, BothReels, HoldSame, IsWrittenAt, KeepsLabel, ReelAnswer, ReelCopied}
+use Rattle.g_tape.proofs.ReadLemmas.{blocks_after_reads, is_reel, more_reads, nothing_read, reading_only, reel-with_reel, reel_after_reads}
+use Rattle.g_duplex.specs.Copying.{BlockAnswer, BlockCopied, BothReels, IsWrittenAt, KeepsLabel, ReelAnswer, ReelCopied}
 use Rattle.g_duplex.specs.Rebuild.{refuses_rebuild}
 use Rattle.g_duplex.specs.declared.fault.DuplexFault.{DuplexFault}
 use Rattle.g_duplex.specs.declared.fault.DuplexFault.TheVariants.{NoTape, NotMounted, NotEmptied, ReadFailed, WriteFailed}
-use Rattle.g_duplex.proofs.CompareLemmas.{may_read, read_block, refuses_after, rose_reading, rose_then, told_long}
+use Rattle.g_duplex.proofs.CompareLemmas.{may_read, read_block, rose_reading, rose_then, told_long}
 use Rattle.g_duplex.proofs.PairLemmas.{same_reels}
 use Rattle.g_duplex.proofs.PlaceLemmas.{eq_from}
 use Rattle.g_duplex.proofs.ReadLemmas.{first_of, second_of}

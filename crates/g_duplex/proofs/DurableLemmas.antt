@@ -1,6 +1,6 @@
 -- What survives of a reel that a pair shows is what survives of its leading twin.
--- serves: secure, write
-use Rattle.std.proofs.Common.{◌≡◌, ◌⊎◌, ℕ, ◌+◌, ◌-◌, ◌≤◌, List, [], ◌∷◌, ◌++◌, Bool, true, false, ◌==◌, Option, Some, None, is_some, if◌then◌else◌, option_map, Result, Ok, Err, length, map, take, refl, sym, subst, ap, ◌∙◌, inl, inr}
+-- serves: SecureLemmas, WriteLemmas
+use Rattle.std.proofs.Common.{◌≡◌, ◌⊎◌, ℕ, ◌+◌, ◌≤◌, List, [], ◌∷◌, ◌++◌, Bool, true, false, Option, Some, None, is_some, option_map, Ok, Err, length, map, take, refl, sym, subst, ap, ◌∙◌, inl, inr}
 use Rattle.std.specs.Prelude.{OnErr, OnOk}
 use Rattle.std.specs.Option.{ForSome}
 use Rattle.std.proofs.lemmas.Bool.{cases_eq}
@@ -12,7 +12,7 @@ use Rattle.g_tape.specs.Reads.{LeavesNoMore, MayLeave, blocks_in, blocks_of, is_
 use Rattle.g_tape.specs.Risk.{IsSynced, Leaves, Risk, risk, syncs}
 use Rattle.g_tape.specs.Durable.{IsBegun, IsDurable, OthersAsDurable, SecuresDurably, WritesDurably}
 use Rattle.g_tape.proofs.ReadLemmas.{no_more, reel-with_reel, reel-with_reel_other}
-use Rattle.g_duplex.specs.Twins.{leader, of_leader, of_other, of_twin, pair_reel, told_with}
+use Rattle.g_duplex.specs.Twins.{leader, of_leader, of_other, of_twin}
 use Rattle.g_duplex.specs.Pair.{ArePaired, Pair, shown, standing, standing_in, stands}
 use Rattle.g_duplex.specs.Calls.{Answer, armed_when, leading}
 use Rattle.g_duplex.specs.SeenReels.{labels_seen}

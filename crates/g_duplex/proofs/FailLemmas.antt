@@ -1,14 +1,12 @@
 -- A rack whose call failed was called.
 -- serves: who_fails_was_asked (fails)
-use Rattle.std.proofs.Common.{◌≡◌, ℕ, ◌==◌, List, Bool, true, false, Option, Some, None, Result, Ok, Err, if◌then◌else◌, refl, sym, subst}
+use Rattle.std.proofs.Common.{◌≡◌, ℕ, List, Bool, true, false, Ok, Err, refl, sym, subst}
 use Rattle.std.specs.Option.{ForSome}
-use Rattle.std.proofs.lemmas.Bool.{false≢true}
 use Rattle.g_base.specs.Counts.{Rose}
-use Rattle.g_tape.specs.declared.fault.TapeFault.{TapeFault}
 use Rattle.g_tape.specs.declared.fault.TapeFault.TheVariants.{NoTape, NotMounted, End, ReadFailed, WriteFailed}
-use Rattle.g_tape.specs.Rack.{Rack, Reading, Writing, reel, refuses_read, refuses_write}
+use Rattle.g_tape.specs.Rack.{Rack, Reading, Writing}
 use Rattle.g_duplex.specs.Twins.{may_help}
-use Rattle.g_duplex.specs.Pair.{Pair, armed, shown, standing_in}
+use Rattle.g_duplex.specs.Pair.{Pair, standing_in}
 use Rattle.g_duplex.specs.Calls.{Answer, Helps, PairReads, PairWrites, ReadsOn, WritesOn, armed_when, behind, is_one, leading}
 use Rattle.g_duplex.specs.Laws.{FailsWithAll}
 use Rattle.g_duplex.specs.declared.twin.Standing.{Standing}

@@ -1,19 +1,18 @@
 -- When a second twin is lost by a write.
 -- serves: who_fails_was_asked (loses)
-use Rattle.std.proofs.Common.{◌≡◌, ◌⊎◌, ℕ, ◌<◌, ◌≤◌, List, [], ◌∷◌, Bool, true, false, not, ◌&&◌, ◌||◌, ◌==◌, nat_le, nat_lt, Option, Some, None, Result, Ok, Err, if◌then◌else◌, refl, sym, subst, ap, ◌∙◌, inl, inr, arith}
+use Rattle.std.proofs.Common.{◌≡◌, ◌⊎◌, ℕ, ◌<◌, List, Bool, true, false, not, ◌||◌, nat_le, nat_lt, Option, Some, None, Ok, Err, if◌then◌else◌, refl, sym, subst, ap, ◌∙◌, inl, inr}
 use Rattle.std.specs.Option.{ForSome}
 use Rattle.std.proofs.lemmas.Bool.{ltb-true}
-use Rattle.std.proofs.lemmas.Bool.Decides.{eqb_tells}
 use Rattle.g_base.specs.Counts.{Rose}
 use Rattle.g_tape.specs.declared.fault.TapeFault.{TapeFault}
 use Rattle.g_tape.specs.declared.fault.TapeFault.TheVariants.{NoTape, NotMounted, End, ReadFailed, WriteFailed}
 use Rattle.g_tape.specs.Reel.{Reel}
 use Rattle.g_tape.specs.Rack.{Rack, Writing, reel, refuses_write}
-use Rattle.g_duplex.specs.Twins.{AreTwins, after_both, after_failure, are_up, is_lost, of_leader, of_other, pair_reel}
-use Rattle.g_duplex.specs.Pair.{ArePaired, Pair, shown, standing, standing_in, stands, with_standing}
-use Rattle.g_duplex.specs.Calls.{Answer, Follows, PairWrites, WritesOn, armed_when, behind, is_one, leading, stands_after}
+use Rattle.g_duplex.specs.Twins.{AreTwins, after_both, after_failure, are_up, is_lost, of_other, pair_reel}
+use Rattle.g_duplex.specs.Pair.{Pair, shown, standing, stands, with_standing}
+use Rattle.g_duplex.specs.Calls.{Answer, Follows, WritesOn, behind, stands_after}
 use Rattle.g_duplex.specs.Laws.{LosesWithCause}
-use Rattle.g_duplex.specs.declared.twin.Twin.TheVariants.{First, Second}
+use Rattle.g_duplex.specs.declared.twin.Twin.TheVariants.{Second}
 use Rattle.g_duplex.specs.declared.twin.Standing.{Standing}
 use Rattle.g_duplex.specs.declared.twin.Standing.TheVariants.{Level, Apart, Lost}
 use Rattle.g_duplex.proofs.PairLemmas.{AreAt, at_standing, seen_at}

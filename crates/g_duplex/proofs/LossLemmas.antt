@@ -5,10 +5,10 @@ use Rattle.std.specs.Option.{ForSome}
 use Rattle.g_tape.specs.Reel.{Reel}
 use Rattle.g_duplex.specs.Twins.{AreTwins, pair_reel, told_with}
 use Rattle.g_duplex.specs.Pair.{pair_reels}
-use Rattle.g_duplex.specs.Laws.{IsInPlaceOf, LossIsNotSeen, LossesAreNotSeen, WithLoss, WithLosses}
+use Rattle.g_duplex.specs.Laws.{IsInPlaceOf, LossIsNotSeen, LossesAreNotSeen, WithLoss}
 use Rattle.g_duplex.specs.declared.twin.Twin.TheVariants.{First, Second}
 use Rattle.g_duplex.specs.declared.twin.Standing.{Standing}
-use Rattle.g_duplex.specs.declared.twin.Standing.TheVariants.{Level, Apart, Lost}
+use Rattle.g_duplex.specs.declared.twin.Standing.TheVariants.{Level, Lost}
 
 both-second : (x y : Bool) → x ≡ y → y ≡ (x && y)
 both-second true y is = refl

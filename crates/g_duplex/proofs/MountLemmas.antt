@@ -1,6 +1,6 @@
 -- What is known of paired reels without mounting them, and their mounting.
 -- serves: capacity, length, mount, mounted, read, secure, unmount, write
-use Rattle.std.proofs.Common.{◌≡◌, ℕ, List, [], ◌∷◌, Bool, true, false, ◌&&◌, ◌==◌, Option, Some, None, Result, Ok, Err, if◌then◌else◌, map, refl, sym, subst, ap, ◌∙◌, inl, inr, eq-eqb, ◌⊎◌}
+use Rattle.std.proofs.Common.{◌≡◌, ℕ, List, [], ◌∷◌, Bool, true, false, ◌==◌, Option, Some, None, Result, Ok, Err, if◌then◌else◌, map, refl, sym, subst, ap, ◌∙◌, inl, inr, ◌⊎◌}
 use Rattle.std.proofs.lemmas.Bool.{ne_eqb}
 use Rattle.std.proofs.lemmas.Bool.Decides.{eqb_tells}
 use Rattle.g_tape.specs.declared.fault.TapeFault.{TapeFault}
@@ -8,7 +8,7 @@ use Rattle.g_tape.specs.declared.fault.TapeFault.TheVariants.{NoTape, NotMounted
 use Rattle.g_tape.specs.Reel.{Reel, with_mounted}
 use Rattle.g_tape.specs.Rack.{Mounting, Rack, changed, is_mounted, reel, refuses_mount, refuses_unmount, told_of, with_reel}
 use Rattle.g_tape.specs.Risk.{Risk}
-use Rattle.g_duplex.specs.Twins.{AreTwins, DoAgree, are_up, leader, of_leader, pair_reel}
+use Rattle.g_duplex.specs.Twins.{DoAgree, are_up, leader, of_leader, pair_reel}
 use Rattle.g_duplex.specs.Pair.{ArePaired, Pair, lost_of, pair_reels, pair_risks, shown, standing}
 use Rattle.g_duplex.specs.Calls.{Answer, PairMounts, PairUnmounts}
 use Rattle.g_duplex.specs.declared.twin.Twin.TheVariants.{First, Second}

@@ -1,6 +1,6 @@
 -- What is done to the twins of one serial is done to the reel that is seen of them.
--- serves: CopyLemmas, LoseLemmas, MountLemmas, ReadLemmas, RebuildLemmas, SecureLemmas, WriteLemmas
-use Rattle.std.proofs.Common.{◌≡◌, ℕ, List, [], ◌∷◌, Bool, true, false, ◌==◌, Option, Some, None, if◌then◌else◌, refl, sym, ap, ◌∙◌, inl, inr, eq-eqb, subst, length, map, arith}
+-- serves: CopyLemmas, DurableLemmas, LoseLemmas, MountLemmas, ReadLemmas, RebuildLemmas, RiskLemmas, SecureLemmas, WriteLemmas
+use Rattle.std.proofs.Common.{◌≡◌, ℕ, List, [], ◌∷◌, true, false, ◌==◌, Option, Some, None, refl, sym, ap, ◌∙◌, inl, inr, eq-eqb, subst, length, map, arith}
 use Rattle.std.proofs.lemmas.Bool.{ne_eqb}
 use Rattle.std.proofs.lemmas.Bool.Decides.{eqb_tells}
 use Rattle.g_tape.specs.Reel.{Reel}

@@ -1,15 +1,15 @@
 -- A read of paired reels.
--- serves: read, CompareLemmas, CopyLemmas, LoseLemmas, RebuildLemmas, SecureLemmas, WriteLemmas
-use Rattle.std.proofs.Common.{◌≡◌, ℕ, zero, suc, ◌<◌, List, [], ◌∷◌, Bool, true, false, ◌&&◌, nat_lt, Option, Some, None, Result, Ok, Err, if◌then◌else◌, map, take, refl, sym, subst, ap, ◌∙◌, arith, inl, inr, ◌⊎◌}
+-- serves: read, write_twins (durable, written), CompareLemmas, CopyLemmas, DurableLemmas, LoseLemmas, RebuildLemmas, SecureLemmas, WriteLemmas
+use Rattle.std.proofs.Common.{◌≡◌, ℕ, zero, suc, ◌<◌, List, [], ◌∷◌, Bool, true, false, ◌&&◌, nat_lt, Option, Some, None, Ok, Err, if◌then◌else◌, take, refl, sym, subst, ap, ◌∙◌, arith, inl, inr, ◌⊎◌}
 use Rattle.std.proofs.lemmas.Bool.{ltb-true, lt-ltb}
 use Rattle.std.specs.Option.{ForSome}
 use Rattle.std.specs.Prelude.{slice_get}
-use Rattle.g_base.specs.Counts.{Rose, one_more}
+use Rattle.g_base.specs.Counts.{one_more}
 use Rattle.g_tape.specs.declared.fault.TapeFault.{TapeFault}
 use Rattle.g_tape.specs.declared.fault.TapeFault.TheVariants.{NoTape, NotMounted, End, ReadFailed, WriteFailed}
-use Rattle.g_tape.specs.Reel.{Reel, read_at}
-use Rattle.g_tape.specs.Rack.{Rack, Reading, changed, reel, refuses_read}
-use Rattle.g_tape.specs.Reads.{OnlyReads, unread}
+use Rattle.g_tape.specs.Reel.{Reel}
+use Rattle.g_tape.specs.Rack.{Rack, Reading, reel, refuses_read}
+use Rattle.g_tape.specs.Reads.{OnlyReads}
 use Rattle.g_tape.specs.Risk.{Risk}
 use Rattle.g_tape.proofs.ReadLemmas.{nothing_read, reading_only}
 use Rattle.g_duplex.specs.Twins.{AreTwins, DoAgree, are_up, leader, may_help, of_leader, of_other, pair_reel, told_with}

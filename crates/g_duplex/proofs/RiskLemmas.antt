@@ -1,15 +1,15 @@
 -- What a power loss may leave of the reels that a pair shows, by their serials.
--- serves: mount, unmount, DurableLemmas, LoseLemmas
+-- serves: DurableLemmas, LoseLemmas, MountLemmas
 use Rattle.std.proofs.Common.{◌≡◌, ℕ, List, [], ◌∷◌, ◌++◌, Bool, true, false, ◌==◌, Option, Some, None, if◌then◌else◌, filter, map, option_map, refl, sym, subst, ap, ◌∙◌, inl, inr}
 use Rattle.std.proofs.lemmas.Bool.{cases_eq, ne_eqb}
 use Rattle.std.proofs.lemmas.Bool.Decides.{eqb_tells}
 use Rattle.g_tape.specs.Reel.{Reel, with_mounted}
-use Rattle.g_tape.specs.Rack.{Rack, reel, with_reel}
+use Rattle.g_tape.specs.Rack.{reel, with_reel}
 use Rattle.g_tape.specs.Reads.{blocks_in, blocks_of}
 use Rattle.g_tape.specs.Risk.{Risk, risk}
 use Rattle.g_tape.proofs.ReadLemmas.{reel-with_reel, reel-with_reel_other}
 use Rattle.g_duplex.specs.Twins.{of_leader}
-use Rattle.g_duplex.specs.Pair.{ArePaired, Pair, leads, led_by, pair_reels, pair_risks, shown, standing, standing_in, with_standing}
+use Rattle.g_duplex.specs.Pair.{ArePaired, Pair, leads, led_by, pair_risks, shown, standing, standing_in, with_standing}
 use Rattle.g_duplex.specs.SeenReels.{labels_seen}
 use Rattle.g_duplex.specs.declared.twin.Twin.{Twin}
 use Rattle.g_duplex.specs.declared.twin.Twin.TheVariants.{First, Second}

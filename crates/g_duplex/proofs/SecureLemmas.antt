@@ -1,19 +1,18 @@
 -- A pair that is made durable appears unchanged, and its reels remain twins.
 -- serves: secure
-use Rattle.std.proofs.Common.{◌≡◌, ◌⊎◌, ℕ, List, Bool, true, false, not, ◌&&◌, ◌||◌, Option, Some, None, is_some, Result, Ok, Err, inl, inr, if◌then◌else◌, refl, sym, ap, subst, arith, ◌∙◌, length}
-use Rattle.std.specs.Option.{ForSome}
-use Rattle.g_base.specs.Counts.{Rose, one_more}
+use Rattle.std.proofs.Common.{◌≡◌, ◌⊎◌, ℕ, List, Bool, true, false, not, ◌&&◌, ◌||◌, Some, None, is_some, Ok, Err, inl, inr, if◌then◌else◌, refl, sym, ap, subst, arith, ◌∙◌}
+use Rattle.g_base.specs.Counts.{one_more}
 use Rattle.g_tape.specs.declared.fault.TapeFault.{TapeFault}
 use Rattle.g_tape.specs.declared.fault.TapeFault.TheVariants.{NoTape, NotMounted, End, ReadFailed, WriteFailed}
 use Rattle.g_tape.specs.Reel.{Reel}
 use Rattle.g_tape.specs.Rack.{Rack, Securing, is_mounted, reel, with_reel}
 use Rattle.g_tape.specs.Durable.{OthersAsDurable, SecuresDurably}
 use Rattle.g_tape.specs.Risk.{Risk}
-use Rattle.g_duplex.specs.Twins.{AreTwins, DoAgree, is_lost, leader, of_leader, of_other, pair_reel}
-use Rattle.g_duplex.specs.Pair.{ArePaired, Pair, pair_reels, pair_risks, shown, standing, standing_in, stands, with_standing}
+use Rattle.g_duplex.specs.Twins.{AreTwins, is_lost, leader, of_leader, of_other, pair_reel}
+use Rattle.g_duplex.specs.Pair.{ArePaired, Pair, pair_reels, pair_risks, shown, standing_in, stands}
 use Rattle.g_duplex.specs.Calls.{Answer, HasSecured, PairSecures, OtherTwin, SecuresOn, SecuresOther, behind, counted, is_shorter, leading, may_give_up, other_is, settles}
 use Rattle.g_duplex.specs.Calls.OtherTwin.{Gone, Lacking, Needed, Spare}
-use Rattle.g_duplex.specs.declared.twin.Twin.TheVariants.{First, Second}
+use Rattle.g_duplex.specs.declared.twin.Twin.TheVariants.{Second}
 use Rattle.g_duplex.specs.declared.twin.Standing.{Standing}
 use Rattle.g_duplex.specs.declared.twin.Standing.TheVariants.{Apart, Level, Lost}
 use Rattle.g_duplex.proofs.DurableLemmas.{changes_nothing, others_shown, secures_nothing, secures_shown}

@@ -1,6 +1,6 @@
 -- Reads of the racks leave what is seen of them, and leave twins.
--- serves: agree, read, ReadLemmas, RebuildLemmas, SecureLemmas
-use Rattle.std.proofs.Common.{◌≡◌, ℕ, List, [], ◌∷◌, map, refl, sym, subst, ap, ◌∙◌, inl, inr, if◌then◌else◌, ◌==◌, true, false}
+-- serves: agree, read, ReadLemmas, RebuildLemmas
+use Rattle.std.proofs.Common.{◌≡◌, ℕ, List, [], ◌∷◌, map, refl, sym, subst, ap, ◌∙◌, inl, inr}
 use Rattle.std.proofs.lemmas.Bool.Decides.{eqb_tells}
 use Rattle.g_tape.specs.Reel.{Reel, read_at}
 use Rattle.g_tape.specs.Rack.{with_reel}

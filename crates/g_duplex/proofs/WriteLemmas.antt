@@ -1,19 +1,18 @@
 -- A write of paired reels.
--- serves: write, CopyLemmas, LoseLemmas
-use Rattle.std.proofs.Common.{◌≡◌, ◌≢◌, ◌⊎◌, ◌↔◌, ℕ, zero, suc, ◌+◌, ◌<◌, ◌≤◌, List, [], ◌∷◌, ◌++◌, Bool, true, false, not, ◌&&◌, ◌||◌, ◌==◌, nat_le, nat_lt, Option, Some, None, is_some, option_map, Result, Ok, Err, if◌then◌else◌, IsTrue, length, map, take, min, refl, sym, subst, ap, ◌∙◌, inl, inr, arith}
-use Rattle.std.proofs.lemmas.Bool.{ltb-true, ltb-false}
-use Rattle.std.specs.Option.{ForSome}
-use Rattle.g_base.specs.Counts.{Rose, one_more}
+-- serves: write, CopyLemmas, LoseLemmas, SecureLemmas
+use Rattle.std.proofs.Common.{◌≡◌, ◌≢◌, ◌⊎◌, ◌↔◌, ℕ, ◌+◌, List, [], ◌∷◌, ◌++◌, Bool, true, false, not, ◌&&◌, ◌||◌, ◌==◌, nat_le, nat_lt, Option, Some, None, is_some, option_map, Ok, Err, if◌then◌else◌, IsTrue, take, refl, sym, subst, ap, ◌∙◌, inl, inr, arith}
+use Rattle.std.proofs.lemmas.Bool.{ltb-false}
+use Rattle.g_base.specs.Counts.{one_more}
 use Rattle.g_base.specs.Fuse.{burnt}
 use Rattle.g_tape.specs.declared.fault.TapeFault.{TapeFault}
 use Rattle.g_tape.specs.declared.fault.TapeFault.TheVariants.{NoTape, NotMounted, End, ReadFailed, WriteFailed}
-use Rattle.g_tape.specs.Reel.{IsReel, Reel, Remains, Shortened, Torn, Unchanged, cut_at, ending, left_by}
+use Rattle.g_tape.specs.Reel.{IsReel, Reel, Remains, Shortened, Torn, Unchanged, ending, left_by}
 use Rattle.g_tape.specs.Rack.{AreReels, Rack, Writing, changed, reel, refuses_write, with_reel}
 use Rattle.g_tape.specs.Durable.{OthersAsDurable, WritesDurably}
 use Rattle.g_tape.specs.Risk.{Risk}
 use Rattle.g_tape.proofs.ReadLemmas.{is_reel}
-use Rattle.g_duplex.specs.Twins.{AreTwins, DoAgree, after_both, after_failure, are_up, is_lost, leader, of_leader, of_other, pair_reel, told_with}
-use Rattle.g_duplex.specs.Pair.{ArePaired, Pair, armed, pair_reels, pair_risks, shown, standing, standing_in, with_standing}
+use Rattle.g_duplex.specs.Twins.{AreTwins, after_both, after_failure, are_up, is_lost, leader, of_leader, of_other, pair_reel, told_with}
+use Rattle.g_duplex.specs.Pair.{ArePaired, Pair, pair_reels, pair_risks, shown, standing, standing_in, with_standing}
 use Rattle.g_duplex.specs.Calls.{Answer, Follows, HasWritten, PairWrites, WritesOn, armed_when, behind, counted, is_one, leading, stands_after}
 use Rattle.g_duplex.specs.declared.twin.Twin.TheVariants.{First, Second}
 use Rattle.g_duplex.specs.declared.twin.Standing.{Standing}
@@ -23,7 +22,7 @@ use Rattle.g_duplex.proofs.KeepLemmas.{agree_both, agree_failed}
 use Rattle.g_duplex.proofs.LossLemmas.{told-first}
 use Rattle.g_duplex.proofs.PlaceLemmas.{eq_from}
 use Rattle.g_duplex.proofs.PairLemmas.{AreAt, at_standing, pair_changed, paired_changed, same_reels, seen_at}
-use Rattle.g_duplex.proofs.ReadLemmas.{first_of, leader_at, leader_up, one_standing, other_at, second_of, by_refusal, to_first, to_second}
+use Rattle.g_duplex.proofs.ReadLemmas.{first_of, leader_at, leader_up, one_standing, by_refusal, to_first, to_second}
 
 abbrev Blocks : Type 0
 Blocks = List (List ℕ)

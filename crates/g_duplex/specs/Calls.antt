@@ -4,7 +4,7 @@ use Rattle.std.specs.Option.{ForSome}
 use Rattle.g_base.specs.Counts.{one_more}
 use Rattle.g_base.specs.Fuse.{armed_with}
 use Rattle.g_tape.specs.declared.fault.TapeFault.{TapeFault}
-use Rattle.g_tape.specs.declared.fault.TapeFault.TheVariants.{ReadFailed, WriteFailed}
+use Rattle.g_tape.specs.declared.fault.TapeFault.TheVariants.{ReadFailed}
 use Rattle.g_tape.specs.Reel.{with_mounted}
 use Rattle.g_tape.specs.Durable.{SecuresDurably, WritesDurably}
 use Rattle.g_tape.specs.Rack.{Rack, reel, changed, refuses_mount, refuses_unmount, refuses_read, refuses_write, is_mounted, told_of, Mounting, Reading, Securing, Writing}

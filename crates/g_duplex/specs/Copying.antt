@@ -6,7 +6,7 @@ use Rattle.g_tape.specs.Reel.{Reel, ending}
 use Rattle.g_tape.specs.Rack.{Rack, reel, with_reel}
 use Rattle.g_tape.specs.Reads.{OnlyReads, blocks_of}
 use Rattle.g_duplex.specs.declared.fault.DuplexFault.{DuplexFault}
-use Rattle.g_duplex.specs.declared.fault.DuplexFault.TheVariants.{NoTape, NotMounted, NotEmptied, ReadFailed, WriteFailed}
+use Rattle.g_duplex.specs.declared.fault.DuplexFault.TheVariants.{ReadFailed, WriteFailed}
 
 -- Both reels are equally long and hold the same blocks, as far as they expose them.
 pub record HoldSame (a b : Reel) : Type 0 where

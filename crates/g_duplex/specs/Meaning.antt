@@ -1,6 +1,4 @@
 -- Paired racks, as contracts see them.
-use Rattle.std.specs.Prelude.{ℕ, List, Option}
-use Rattle.g_tape.specs.Rack.{Rack}
 use Rattle.g_tape.specs.declared.tapes.Tapes.{Ghosts}
 use Rattle.g_duplex.specs.Pair.{Pair}
 use Rattle.g_duplex.specs.declared.duplex.Duplex.{Duplex}

@@ -1,6 +1,6 @@
 -- The reels that a pair shows are the reels of a rack. (This law of the trait is here, since a ghost member can only use
 -- specs.)
-use Rattle.std.proofs.Common.{◌≡◌, ℕ, suc, ◌≤◌, List, [], ◌∷◌, Bool, Option, Some, None, All, length, map, arith, refl, sym, ap}
+use Rattle.std.proofs.Common.{◌≡◌, ℕ, suc, List, [], ◌∷◌, Bool, Option, Some, None, All, length, map, arith, refl, sym, ap}
 use Rattle.std.proofs.lemmas.List.Elements.{All-cons, All-head, All-tail}
 use Rattle.std.specs.Option.{ForSome}
 use Rattle.g_base.specs.Block.{IsBlock}

@@ -1,5 +1,5 @@
 -- The two reels of a serial, its twins, shown as one reel; and what the twins have in common.
-use Rattle.std.specs.Prelude.{◌≡◌, ℕ, ◌≤◌, List, Bool, true, false, ◌&&◌, Option, Some, None, take, min, nat_le, nat_lt, if◌then◌else◌}
+use Rattle.std.specs.Prelude.{◌≡◌, ℕ, ◌≤◌, Bool, true, false, ◌&&◌, Option, Some, None, take, min, nat_le, nat_lt, if◌then◌else◌}
 use Rattle.std.specs.Option.{ForSome}
 use Rattle.g_tape.specs.Reel.{Reel}
 use Rattle.g_duplex.specs.declared.twin.Twin.{Twin}

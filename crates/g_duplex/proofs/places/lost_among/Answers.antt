@@ -1,4 +1,4 @@
-use Rattle.std.proofs.Common.{◌∙◌, ◌<◌, ◌≤◌, ap, arith, length, sym, List, ℕ, ◌++◌}
+use Rattle.std.proofs.Common.{◌∙◌, ◌<◌, ap, arith, length, sym, List, ℕ, ◌++◌}
 use Rattle.g_duplex.specs.declared.twin.Twin.{Twin}
 use Rattle.g_duplex.specs.Places.{lost_one}
 use Rattle.g_duplex.proofs.PlaceLemmas.{lost_next, lost_within}

@@ -1,4 +1,4 @@
-use Rattle.std.proofs.Common.{◌∙◌, ◌<◌, arith, length, sym}
+use Rattle.std.proofs.Common.{◌<◌, arith, length}
 use Rattle.g_tape.proofs.PlaceLemmas.{reel-none}
 use Rattle.g_duplex.proofs.PlaceLemmas.{before_more}
 use Rattle.g_duplex.proofs.places.place_of.Goals as goal

@@ -1,4 +1,4 @@
-use Rattle.std.proofs.Common.{sym, ap, ◌∙◌, arith, slice_get, List, ℕ}
+use Rattle.std.proofs.Common.{ap, ◌∙◌, arith, slice_get, List, ℕ}
 use Rattle.g_duplex.specs.SeenReels.{labels_seen, long_seen}
 use Rattle.g_duplex.proofs.calls.DuplexTapes.serial.Goals as goal
 
