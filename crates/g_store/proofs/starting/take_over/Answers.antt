@@ -1,0 +1,10 @@
+-- The dump of the intent is adopted from a rack that is durable.
+use Rattle.std.proofs.Common.{Ok}
+use Rattle.g_tape.proofs.ReadLemmas.{securing_all_only}
+use Rattle.g_store.proofs.TakeLemmas.{takes_secured}
+use Rattle.g_store.proofs.starting.take_over.Goals as goal
+
+pub returns-in-Some-intent : goal.returns-in-Some-intent
+returns-in-Some-intent g c =
+    takes_secured c.args.online.now c.take_named.new.online (g.T.Tapes.rack c.args.tapes.now) (g.T.Tapes.rack c.secure_all.new.tapes) (g.T.Tapes.rack c.take_named.new.tapes)
+    c.in-Ok.ensures.secured (securing_all_only _ _ (Ok tt) c.in-Ok.ensures.secured c.in-Ok.ensures.durable.no_more) c.take_named.result c.take_named.ensures
