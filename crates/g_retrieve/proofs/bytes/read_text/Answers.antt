@@ -2,7 +2,7 @@ use Rattle.std.proofs.Common.{◌≡◌, ◌<◌, ◌+◌, length, arith, ◌∙
 use Rattle.g_base.specs.Block.{blocks_for}
 use Rattle.g_tape.specs.Rack.{reel}
 use Rattle.g_incr.proofs.ListLemmas.{at_none, at_some}
-use Rattle.g_incr.proofs.TapeLemmas.{from_err, from_ok, reads_then, to_err}
+use Rattle.g_incr.proofs.TapeLemmas.{from_err, from_ok, reads_then, starved, to_err}
 use Rattle.g_retrieve.proofs.TextLemmas.{all_read, mounted_there, not_past, one_more_block}
 use Rattle.g_retrieve.proofs.bytes.read_text.Goals as goal
 
@@ -15,6 +15,9 @@ unreachable-requires g c =
 pub returns-in-Err-read_block-clause-reads : goal.returns-in-Err-read_block-clause-reads
 returns-in-Err-read_block-clause-reads g c =
     to_err c.args.serial _ _ _ (reads_then c.args.serial _ _ _ _ c.loop-k.invariant.reads (from_err c.args.serial _ _ _ c.in-Err-read_block.ensures.reads))
+
+pub returns-in-Err-extend_from_slice-clause-reads : goal.returns-in-Err-extend_from_slice-clause-reads
+returns-in-Err-extend_from_slice-clause-reads g c = starved c.args.serial _ _ _ c.loop-k.invariant.reads (from_ok c.args.serial _ _ _ c.in-Ok-Some.ensures.reads)
 
 pub loop-k-preserved : goal.loop-k-preserved
 loop-k-preserved g c =
