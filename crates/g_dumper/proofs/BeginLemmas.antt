@@ -1,5 +1,5 @@
 -- How an opening is answered, from what was read of the reel and what became of the filestore.
--- serves: begin_dump (ok, refused, stopped), OpeningLemmas, ShelfLemmas, crates above
+-- serves: begin_dump (ok, refused, stopped), OpeningLemmas, SafeLemmas, ShelfLemmas, crates above
 use Rattle.std.proofs.Common.{◌≡◌, ◌≢◌, ℕ, zero, suc, ◌+◌, ◌-◌, ◌^◌, ◌<◌, ◌≤◌, Bool, true, false, List, [], Option, Some, None, Ok, Err, refl, sym, ◌∙◌, ap, arith, subst}
 use Rattle.std.specs.Prelude.{IfOk, Result, if◌then◌else◌, is_some, option_map}
 use Rattle.std.specs.Option.{ForSome}

@@ -1,5 +1,5 @@
 -- A store preserves its invariant in a step of its open dump.
--- serves: step (dumped, keeps), OpeningLemmas, crates above
+-- serves: step (dumped, keeps, left), OpeningLemmas, crates above
 use Rattle.std.proofs.Common.{◌≡◌, ◌≢◌, ℕ, zero, suc, ◌+◌, ◌<◌, ◌≤◌, Bool, true, false, List, [], ◌∷◌, ◌++◌, length, map, Option, Some, None, Ok, Err, refl, sym, ◌∙◌, ap, arith, subst, inl, inr, true≢false}
 use Rattle.std.specs.Prelude.{◌⊎◌, All, Contains, IfSome, Result, is_some, slice_get}
 use Rattle.std.specs.Option.{ForSome}

@@ -1,5 +1,5 @@
 -- An open dump is open still where its next block was written.
--- serves: write_next (open, step), RulesLemmas
+-- serves: write_next (open, step), RulesLemmas, SafeLemmas
 use Rattle.std.proofs.Common.{◌≡◌, ℕ, zero, suc, ◌+◌, ◌^◌, ◌<◌, ◌≤◌, List, [], ◌∷◌, ◌++◌, length, take, drop, slice_get, Option, Some, None, Ok, Err, refl, sym, ◌∙◌, ap, arith, subst, inl, inr}
 use Rattle.std.specs.Prelude.{Result, option_map}
 use Rattle.std.proofs.lemmas.Bool.{cases_lt}

@@ -1,5 +1,5 @@
 -- The completed dumps survive a step of the open dump.
--- serves: step (keeps, left), KeepLemmas
+-- serves: KeepLemmas
 use Rattle.std.proofs.Common.{◌≡◌, ◌≢◌, ℕ, zero, suc, ◌+◌, ◌<◌, ◌≤◌, ◌==◌, Bool, true, false, List, [], ◌∷◌, ◌++◌, length, map, take, Option, Some, None, Ok, Err, refl, sym, ◌∙◌, ap, arith, subst, inl, inr, true≢false}
 use Rattle.std.specs.Prelude.{◌⊎◌, Contains, option_map, slice_get}
 use Rattle.std.specs.Option.{ForSome}

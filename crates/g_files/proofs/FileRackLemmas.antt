@@ -1,5 +1,5 @@
 -- The calls of a rack of files, by what was done to the reel of the serial.
--- serves: `FileTapes`
+-- serves: finish_all, mount, place_of, push_reel (rack), read, secure, serial, unmount, write
 use Rattle.std.proofs.Common.{◌≡◌, ◌⊎◌, ℕ, suc, ◌==◌, ◌||◌, not, nat_lt, if◌then◌else◌, true, false, ◌+◌, ◌-◌, ◌<◌, ◌≤◌, List, [], ◌∷◌, ◌++◌, Bool, Option, Some, None, is_some, Result, Ok, Err, OnOk, OnErr, length, take, map, get_or, inl, inr, refl, ap, subst, sym, ◌∙◌, arith, length-append, length-set, length-take}
 use Rattle.std.specs.Prelude.{All, slice_get}
 use Rattle.std.specs.Result.{result_and}

@@ -1,5 +1,5 @@
 -- A reel in a file, by the blocks of the file that count.
--- serves: `FileReel`
+-- serves: mount, push_reel (rack), read (block), secure, state (reel), unmount, write
 use Rattle.std.proofs.Common.{◌≡◌, ℕ, ◌*◌, ◌<◌, ◌≤◌, List, length, Result, Ok, Err, OnOk, OnErr, Some, None, refl, sym, ap, subst, ◌∙◌, arith}
 use Rattle.std.specs.Prelude.{All, Option, option_map, slice_get}
 use Rattle.std.specs.Option.{ForSome}

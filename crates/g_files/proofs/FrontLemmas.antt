@@ -1,5 +1,5 @@
 -- What calls preserve of a file's first bytes, and its last block.
--- serves: `block_calls` and `BlockFile`
+-- serves: cut_at (cut, done), extend (front), fill (last), put_once (front), write_again, BlockFileLemmas
 use Rattle.std.proofs.Common.{◌≡◌, ℕ, ◌+◌, ◌-◌, ◌<◌, ◌≤◌, List, ◌++◌, length, take, drop, replicate, get_or, Result, Ok, Err, OnOk, Some, None, refl, sym, ap, subst, ◌∙◌, inl, inr, arith, length-append, length-take}
 use Rattle.std.specs.Prelude.{Option}
 use Rattle.std.specs.Option.{ForSome}

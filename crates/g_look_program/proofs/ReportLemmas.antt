@@ -1,5 +1,5 @@
 -- The end of a check against a seal.
--- serves: look_against (report)
+-- serves: look_against (own, report)
 use Rattle.std.proofs.Common.{◌≡◌, ◌⊎◌, ◌↔◌, inl, inr, ℕ, List, [], ◌∷◌, ◌++◌, Option, Result, Ok, Err, IsTrue, refl, subst}
 use Rattle.std.specs.Option.{ForSome}
 use Rattle.g_dirs.specs.Directory.{Directory}

@@ -1,5 +1,5 @@
 -- A reel that is filled block by block from its first one on, while the others are only read.
--- serves: AnswerLemmas, BecomeLemmas, DoneLemmas, EndLemmas, ExitLemmas, WriteLemmas
+-- serves: AnswerLemmas, BecomeLemmas, DoneLemmas, EndLemmas, ExitLemmas, SafeLemmas, WriteLemmas
 use Rattle.std.proofs.Common.{◌≡◌, ℕ, ◌+◌, ◌<◌, ◌≤◌, Bool, List, [], ◌∷◌, ◌++◌, length, map, take, Option, Some, None, refl, sym, ◌∙◌, ap, arith, subst, inl, inr, option_map, eq-eqb, if◌then◌else◌}
 use Rattle.std.proofs.lemmas.Bool.Decides.{eqb_tells}
 use Rattle.std.proofs.lemmas.List.{length-append, take_all}

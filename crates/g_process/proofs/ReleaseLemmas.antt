@@ -1,5 +1,5 @@
 -- The reels are released one after another, in rising serial.
--- serves: release (cut), AnswerLemmas, BecomeLemmas, ExitLemmas, JobLemmas, PlanLemmas, crates above
+-- serves: release (cut), AnswerLemmas, BecomeLemmas, ExitLemmas, JobLemmas, PlanLemmas, SafeLemmas, crates above
 use Rattle.std.proofs.Common.{◌≡◌, ℕ, zero, suc, ◌+◌, ◌≤◌, ◌==◌, Bool, true, false, List, [], ◌∷◌, ◌++◌, map, take, Option, Some, None, Ok, Err, refl, sym, ◌∙◌, ap, arith, subst, inl, inr, option_map, if◌then◌else◌, slice_get, eq-eqb}
 use Rattle.std.specs.Prelude.{◌⊎◌, ◌||◌, All, Contains, filter}
 use Rattle.std.proofs.lemmas.Bool.{cases_Bool, cond-false, cond-true, ne_eqb}

@@ -1,4 +1,5 @@
 -- The text of a seal determines its dumps and files, and no such text is refused.
+-- serves: add_line (entries, unknown), dump_of (read), file_of (read), lib, lines_in (refused), parse_seal (accepted), OwnTextLemmas, ParseLemmas
 use Rattle.std.proofs.Common.{◌≡◌, ◌≢◌, ◌⊎◌, inl, inr, ℕ, ◌+◌, ◌-◌, ◌<◌, ◌≤◌, ◌^◌, Bool, true, false, List, [], ◌∷◌, ◌++◌, zero, suc, length, map, min, take, drop, get_or, Option, Some, None, Result, Ok, Err, IfOk, IfErr, refl, sym, ◌∙◌, ap, subst, arith, All, append_assoc, append-nil}
 use Rattle.std.specs.Prelude.{codes, ◌==◌, IfNone, IfSome, MatchResult}
 use Rattle.std.specs.Fmt.{decimal}

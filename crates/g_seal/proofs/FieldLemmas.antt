@@ -1,4 +1,5 @@
 -- The fields of a line: what their text determines.
+-- serves: copy_in (read), field (read), file_of (read), full_in (read), online_in, sum_field (read, sum), word, EntryLemmas
 use Rattle.std.proofs.Common.{◌≡◌, ◌≢◌, ◌⊎◌, inl, inr, ℕ, ◌+◌, ◌/◌, ◌%◌, ◌<◌, ◌≤◌, ◌^◌, Bool, true, false, ◌&&◌, ◌||◌, List, [], ◌∷◌, ◌++◌, length, take, drop, get_or, suc, Option, Some, None, Result, Ok, Err, refl, sym, ◌∙◌, ap, subst, arith, All, append_assoc, append-nil}
 use Rattle.std.specs.Prelude.{codes, ◌==◌, nat_le, IfSome, MatchResult}
 use Rattle.std.specs.Fmt.{decimal}

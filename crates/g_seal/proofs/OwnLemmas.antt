@@ -1,5 +1,5 @@
 -- A store whose seal it is has nothing to report.
--- serves: rotten (unchanged), rotten_twins (unchanged)
+-- serves: rotten (unchanged), rotten_twins (unchanged), OwnTextLemmas
 use Rattle.std.proofs.Common.{◌≡◌, ◌≢◌, ◌⊎◌, inl, inr, ℕ, ◌*◌, Bool, true, false, ◌&&◌, ◌||◌, List, [], ◌∷◌, ◌++◌, zero, suc, get_or, map, Option, Some, None, refl, sym, ◌∙◌, ap, subst, arith, All}
 use Rattle.std.specs.Prelude.{codes, ◌==◌, AllPairs, cond, not, option_map}
 use Rattle.std.specs.List.{flat_map, list_any}

@@ -1,4 +1,5 @@
 -- The entries of a store's own seal: its text is that of entries.
+-- serves: own_seal, rotten (own), crates above
 use Rattle.std.proofs.Common.{◌≡◌, ◌⊎◌, inl, inr, ℕ, ◌*◌, ◌+◌, ◌%◌, ◌<◌, ◌≤◌, ◌^◌, true, List, [], ◌∷◌, ◌++◌, zero, suc, length, map, get_or, Option, Some, None, refl, sym, ◌∙◌, ap, subst, arith, All}
 use Rattle.std.specs.Prelude.{Contains, IfSome, is_some}
 use Rattle.std.specs.Int.{byte_at, bytes_high_first, to_be_bytes, w32}

@@ -1,5 +1,5 @@
 -- The text of a seal, its last line, and the lines before it.
--- serves: is_whole, parse_seal
+-- serves: front_of (sum), is_whole, parse_seal (accepted), split_last_line
 use Rattle.std.proofs.Common.{◌≡◌, ◌≢◌, ℕ, ◌+◌, ◌-◌, ◌<◌, ◌≤◌, List, [], ◌∷◌, ◌++◌, length, map, drop, get_or, true, false, Bool, Option, Some, None, Result, Ok, Err, IfOk, IfErr, refl, sym, ◌∙◌, ap, subst, arith, append_assoc}
 use Rattle.std.specs.Prelude.{codes, nat_eq, ◌==◌}
 use Rattle.std.specs.Cmp.Lexicographic.{bytes_decides, pointwise}

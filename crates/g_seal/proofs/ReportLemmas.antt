@@ -1,5 +1,5 @@
 -- The report of a check against a seal, from the lines that were appended.
--- serves: rotten (text, unchanged), rotten_twins (text, unchanged)
+-- serves: rotten (own, text, unchanged), rotten_twins (text, unchanged)
 use Rattle.std.proofs.Common.{◌≡◌, ℕ, List, [], ◌++◌, map, Option, sym, ◌∙◌, ap, subst}
 use Rattle.std.specs.Prelude.{codes}
 use Rattle.std.specs.Option.{ForSome}

@@ -1,5 +1,5 @@
 -- A reel's blocks have one list of completed dumps.
--- serves: lib, ReadLemmas, crates above
+-- serves: lib, ReadLemmas, SurvivingLemmas, crates above
 use Rattle.std.proofs.Common.{◌≡◌, ℕ, ◌+◌, List, [], ◌∷◌, ◌++◌, take, drop, refl, sym, ◌∙◌, ap, arith, subst}
 use Rattle.std.specs.Prelude.{map}
 use Rattle.std.proofs.lemmas.List.{take-take}

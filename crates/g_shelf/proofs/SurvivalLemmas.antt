@@ -1,4 +1,4 @@
--- The completed dumps survive each write of tape that a dump or a release consists of.
+-- The completed dumps survive each write of tape that a dump consists of.
 -- serves: crates above
 use Rattle.std.proofs.Common.{◌≡◌, ℕ, zero, suc, ◌+◌, ◌<◌, ◌≤◌, List, [], ◌∷◌, ◌++◌, Option, Some, None, Result, Ok, Err, length, take, slice_get, refl, sym, ◌∙◌, ap, subst, inl, inr, arith}
 use Rattle.std.specs.Prelude.{◌⊎◌, true, OnOk}
@@ -7,7 +7,7 @@ use Rattle.std.proofs.lemmas.List.{take-take, length-take, length-take-le, take-
 use Rattle.g_base.specs.Fields.{padded}
 use Rattle.g_tape.specs.declared.fault.TapeFault.{TapeFault}
 use Rattle.g_tape.specs.declared.fault.TapeFault.TheVariants.{WriteFailed}
-use Rattle.g_tape.specs.Durable.{AfterPowerLoss, HasFront, IsBegun as IsBegunWrite, IsDurable, IsDurableTo, AllSecureDurably, WritesDurably}
+use Rattle.g_tape.specs.Durable.{AfterPowerLoss, HasFront, IsBegun as IsBegunWrite, IsDurable, IsDurableTo, WritesDurably}
 use Rattle.g_tape.specs.Rack.{Rack, reel, refuses_write}
 use Rattle.g_tape.specs.Reads.{LeavesNoMore, MayLeave, blocks_in, blocks_of, is_syncable}
 use Rattle.g_tape.specs.Reel.{Reel, Remains, Unchanged, Shortened, Torn}
@@ -15,9 +15,9 @@ use Rattle.g_tape.specs.Risk.{IsSynced, Leaves, Risk, risk, syncs}
 use Rattle.g_incr.specs.Layout.{Dump, count_of, dump_blocks, header_block, header_fields, mark_block}
 use Rattle.g_shelf.specs.CompletedDumps.{AreCompleted, IsNext, end_of}
 use Rattle.g_shelf.specs.QuietWrites.{IsBegun, left_in}
-use Rattle.g_shelf.specs.Surviving.{CanSurvive, DumpsSurvive, IsBegunDurably, LeavesAllOrNone, LeavesWithOrWithout}
-use Rattle.g_shelf.proofs.QuietLemmas.{quiet_blocks, within}
-use Rattle.g_shelf.proofs.SurvivingLemmas.{all_but_the_mark, all_survive, begun_completes_nothing, durable_dumps, durable_end, front_left, one_block_completes_nothing, survive_reads, begun_reads}
+use Rattle.g_shelf.specs.Surviving.{CanSurvive, DumpsSurvive, IsBegunDurably, LeavesWithOrWithout}
+use Rattle.g_shelf.proofs.QuietLemmas.{quiet_blocks}
+use Rattle.g_shelf.proofs.SurvivingLemmas.{all_but_the_mark, all_survive, begun_completes_nothing, durable_dumps, durable_end, front_left, one_block_completes_nothing}
 
 -- THE BLOCKS BEFORE A WRITE are there after it
 pub front_stays : (n k : ℕ) (how : Remains) (blocks : List (List ℕ)) → n ≤ k → k ≤ length blocks → take n (left_in how k blocks) ≡ take n blocks
@@ -157,27 +157,6 @@ module _ (serial j : ℕ) (ds : List Dump) (d : Dump) (block : List ℕ) (old ne
             (subst (λ (n : ℕ). take n left ≡ take n blocks) at_mark (more.synced synced (inl (durably some).syncable) blocks at))
             (let short = more.short in omega (arith, short, last))
 
--- A RELEASE, which writes block 0
-module _ (serial : ℕ) (block : List ℕ) (old new : Rack) (free : refuses_write 0 (reel serial old.reels) ≡ None) where
-  nothing_before : IsDurableTo 0 serial old
-  nothing_before bs here left leaves cs is = refl
-
-  pub survive_release : WritesDurably serial 0 block old (Ok tt) new → DumpsSurvive serial new
-  survive_release wrote = durable_dumps serial new (wrote.synced (inl refl) (inr nothing_before))
-
-  no_dump : (left : List (List ℕ)) → length left ≤ 1 → AreCompleted serial left []
-  no_dump left short = record {
-    are = λ d next. (let long = within left d next.stands in let no : ⊥ = omega (arith, long, short) in no);
-  }
-
-  pub failed_release : (blocks : List (List ℕ)) (ds : List Dump) → blocks_of serial old ≡ Some blocks → AreCompleted serial blocks ds → DumpsSurvive serial old
-      → WritesDurably serial 0 block old (Err WriteFailed) new → LeavesAllOrNone serial new ds × (is_syncable serial new ≡ true)
-  failed_release blocks ds at all survive failed = (λ bs here left leaves. by left (failed.failed bs here left leaves), failed.fresh free nothing_before)
-    where
-      by : (left : List (List ℕ)) → MayLeave serial old left ⊎ IsBegunWrite serial 0 block old left → AreCompleted serial left ds ⊎ AreCompleted serial left []
-      by left (inl may) = inl (survive blocks at ds all blocks at left (may blocks at))
-      by left (inr more) = inr (no_dump left (let short = more.short in omega (arith, short)))
-
 -- THE OTHER REELS
 module _ (other : ℕ) (old new : Rack) (risks : risk other new.risks ≡ risk other old.risks) (same : blocks_of other new ≡ blocks_of other old) where
   still : (blocks left : List (List ℕ)) → Leaves (risk other new.risks) blocks left → Leaves (risk other old.risks) blocks left
@@ -189,8 +168,3 @@ module _ (other : ℕ) (old new : Rack) (risks : risk other new.risks ≡ risk o
   pub other_can : CanSurvive other old → CanSurvive other new
   other_can (inl survive) = inl (other_survives survive)
   other_can (inr able) = inr (ap syncs risks ∙ able)
-
--- SECURING THE RACK
-pub survive_secured : (serial : ℕ) (old new : Rack) → blocks_of serial new ≡ blocks_of serial old → AllSecureDurably old (Ok tt) new → CanSurvive serial old → DumpsSurvive serial new
-survive_secured serial old new same secured (inl survive) = survive_reads serial old new secured.no_more same survive
-survive_secured serial old new same secured (inr able) = durable_dumps serial new (secured.durable serial able)

@@ -1,5 +1,5 @@
 -- Which completed dumps a power loss leaves on a reel.
--- serves: power_losses, crates above
+-- serves: power_losses (begun, mark), SurvivalLemmas, crates above
 use Rattle.std.proofs.Common.{◌≡◌, ℕ, zero, suc, ◌+◌, ◌-◌, ◌<◌, ◌≤◌, List, [], ◌∷◌, ◌++◌, Option, Some, None, Result, Ok, Err, length, take, drop, slice_get, option_map, refl, sym, ◌∙◌, ap, subst, inl, inr, arith}
 use Rattle.std.specs.Prelude.{◌⊎◌, ◌≢◌, true, OnOk}
 use Rattle.std.specs.Option.{ForSome}
@@ -17,7 +17,7 @@ use Rattle.g_tape.proofs.ReadLemmas.{blocks_after_reads}
 use Rattle.g_incr.specs.Layout.{Dump, IsDump, StandsOn, count_of, size_of, ends, dump_blocks, header_block, mark_block}
 use Rattle.g_shelf.specs.CompletedDumps.{AreCompleted, AreNext, IsNext, end_behind, end_of, number_behind}
 use Rattle.g_shelf.specs.QuietWrites.{IsBegun}
-use Rattle.g_shelf.specs.Surviving.{BegunCompletesNothing, CanSurvive, DumpsSurvive, IsBegunDurably, LeavesAllOrNone, LeavesWithOrWithout, MarkCompletesOne}
+use Rattle.g_shelf.specs.Surviving.{BegunCompletesNothing, CanSurvive, DumpsSurvive, IsBegunDurably, MarkCompletesOne}
 use Rattle.g_shelf.proofs.MarkLemmas.{mark_completes}
 use Rattle.g_shelf.proofs.OneLemmas.{completed_are_one}
 use Rattle.g_shelf.proofs.QuietLemmas.{carried, end-within, first, first_of_dump, first_of_part, no_more, same_count, still_next, within}

@@ -21,10 +21,6 @@ CanSurvive serial rack = DumpsSurvive serial rack ⊎ (is_syncable serial rack �
 abbrev pub LeavesWithOrWithout : ℕ → Rack → List Dump → Dump → Type 0
 LeavesWithOrWithout serial rack dumps d = AfterPowerLoss serial rack (λ left. AreCompleted serial left dumps ⊎ AreCompleted serial left (dumps ++ d ∷ []))
 
--- A power loss leaves the reel with these dumps, or with none.
-abbrev pub LeavesAllOrNone : ℕ → Rack → List Dump → Type 0
-LeavesAllOrNone serial rack dumps = AfterPowerLoss serial rack (λ left. AreCompleted serial left dumps ⊎ AreCompleted serial left [])
-
 -- A dump whose first j blocks are written, from block `place` on: its header is durable, so no mark but its own can complete it; nothing
 -- follows on the device; and the device still has the rest.
 pub record IsBegunDurably (serial place j : ℕ) (rack : Rack) : Type 0 where

@@ -1,5 +1,5 @@
 -- What reads preserve, and how they compose.
--- serves: reads_only_read, crates above
+-- serves: reads_only_read, DurableLemmas, MemoryLemmas, SecureLemmas, crates above
 use Rattle.std.proofs.Common.{◌≡◌, ℕ, ◌<◌, ◌≤◌, List, [], ◌∷◌, Bool, true, false, ◌==◌, nat_lt, if◌then◌else◌, Option, Some, None, Result, Ok, Err, All, length, map, get_or, option_map, refl, subst, sym, ap, ◌∙◌, inl, inr, eq-eqb, arith}
 use Rattle.std.proofs.Math.ListN.{set, get_or-eq_default}
 use Rattle.std.specs.Option.{ForSome}

@@ -1,5 +1,5 @@
 -- What is done to a reel leaves it one.
--- serves: cut_at (keeps), end_with (keeps), RackLemmas, crates above
+-- serves: cut_at (keeps), end_with (keeps), DurableLemmas, RackLemmas, crates above
 use Rattle.std.proofs.Common.{◌≡◌, ℕ, ◌+◌, ◌<◌, ◌≤◌, List, [], ◌∷◌, ◌++◌, Bool, true, false, not, ◌||◌, nat_lt, Option, Some, None, length, take, All, option_map, if◌then◌else◌, refl, subst, arith, length-append}
 use Rattle.std.specs.Option.{ForSome}
 use Rattle.std.proofs.lemmas.Bool.{ltb-true, ltb-false}

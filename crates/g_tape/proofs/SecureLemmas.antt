@@ -1,5 +1,5 @@
 -- A REEL AFTER THE OTHER is made durable.
--- serves: secure_all
+-- serves: secure_all (durable, secured)
 use Rattle.std.proofs.Common.{◌≡◌, ℕ, zero, suc, ◌+◌, List, [], ◌∷◌, Bool, true, false, ◌==◌, ◌<◌, ◌≤◌, length, subst, Some, None, Result, Ok, Err, map, slice_get, is_some, if◌then◌else◌, inl, inr, eq-eqb, arith, refl, sym, ap, ◌∙◌}
 use Rattle.std.proofs.lemmas.Bool.{cases_eq}
 use Rattle.std.proofs.lemmas.Bool.Decides.{eqb_tells}

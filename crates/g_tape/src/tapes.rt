@@ -10,8 +10,8 @@ use g_base::Block;
 
 /// Reels in a rack. A reel is a sequence of blocks of 512 bytes, written in order. A rack counts its failed reads, its
 /// failed writes and how often it was armed, and records the last number that it was armed with; each count saturates at
-/// 2^64 - 1. A rack in memory exposes what its reels hold and how often each block was read; a real one doesn't. A serial
-/// is from 1 to 999,999, a capacity from 2 to 65,536 blocks.
+/// 2^64 - 1. A rack in memory exposes what its reels hold and how often each block was read; one on files exposes the blocks
+/// if the bytes of its files are observable. A serial is from 1 to 999,999, a capacity from 2 to 65,536 blocks.
 pub trait Tapes {
     ghost rack: { Self → Rack };
 
@@ -49,7 +49,10 @@ pub trait Tapes {
     fn read(&mut self, serial: u32, k: u32, into: &mut Block) -> Result<(), TapeFault>
         ensures { Reading serial k (rack self.old) result into.new (rack self.new) };
 
-    /// Writes block k of the reel, which ends there. `NoTape`, `NotMounted`, `End`, `WriteFailed`.
+    /// Writes block k of the reel, which ends there. If k is 0 or the block begins as a dump's header or its mark does, the reel is
+    /// durable up to it when this returns `Ok`, provided that the device still had the blocks before it (docs/FORMATS.md,
+    /// "Durability"). `NoTape`, `NotMounted`, `End`; `WriteFailed`: the reel is unchanged, cut before block k, or ends with block k and
+    /// any bytes in it.
     fn write(&mut self, serial: u32, k: u32, from: &Block) -> Result<(), TapeFault>
         ensures written { Writing serial k from.now (rack self.old) result (rack self.new) }
         ensures durable { WritesDurably serial k from.now (rack self.old) result (rack self.new) };
