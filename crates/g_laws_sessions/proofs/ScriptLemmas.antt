@@ -29,7 +29,7 @@ use Rattle.g_run_model.proofs.TurnLemmas.{run_append}
 use Rattle.g_typing.specs.Typed.{AtOnce, AtTime, IsTyped, IsTypedHead}
 use Rattle.g_laws_sessions.specs.Early.{with_lines}
 use Rattle.g_laws_sessions.specs.Laws.{IsRunOfScript, IsScript, ScriptsAreSessions}
-use Rattle.g_laws_sessions.specs.Session.{Comes, EndsWithLine, Exchanges, Goes, Moment, Nothing, Refused, Rested, Skipped, Then, Took, Unclosed, beginning}
+use Rattle.g_laws_sessions.specs.Session.{Asked, Comes, EndsWithLine, Exchanges, Goes, Moment, Nothing, Refused, Rested, Skipped, Then, Took, Unclosed, beginning}
 use Rattle.g_laws_sessions.proofs.EarlyLemmas.{Ends, Goes as Passes, dump_leaves, dump_lines, leaves_as, nil_cons, step_goes, turn_leaves, turn_lines}
 use Rattle.g_laws_sessions.proofs.LineLemmas.{line_lined}
 
@@ -239,6 +239,7 @@ module _ {F U : Type 0} (tariffs : Shared F (Bor Usage × Unit {0}) Charge) (tar
               (subst (λ (ms : List Move). let v : World = with_lines (timed_said item ∷ []) before.world in Run tariffs tariff rules rule v ms now.world) ends t.goes.run))
   scripted s (Then said (Took item AtOnce)) now comes all = absurd all
   scripted s (Then said Rested) now comes all = absurd all
+  scripted s (Then said (Asked q)) now comes all = absurd all
   scripted s (Then said (Refused k skips)) now comes all = absurd all
   scripted s (Then said Skipped) now comes all = absurd all
   scripted s (Then said (Unclosed k)) now comes all = absurd all

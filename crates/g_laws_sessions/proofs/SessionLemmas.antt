@@ -20,7 +20,7 @@ use Rattle.g_run_model.proofs.TurnLemmas.{run_append}
 use Rattle.g_typing.specs.Typed.{AtOnce, AtTime, IsTypedHead, When}
 use Rattle.g_laws_sessions.specs.Early.{NotBefore, with_lines}
 use Rattle.g_laws_sessions.specs.Laws.{IsRunOf, SessionsAreReplayed, SessionsAreRuns}
-use Rattle.g_laws_sessions.specs.Session.{Comes, Exchange, Exchanges, Goes, IsOwn, LeavesUnclosed, MayFollow, Moment, Nothing, Own, Piece, Refused, RefusesLine, Rested, Rests, Skipped, SkipsDocument, Takes, Then, Told, Took, Unclosed, beginning, item_in, items_of, refusal_line, taken, text_in, tick_line, told_in}
+use Rattle.g_laws_sessions.specs.Session.{Asked, Comes, Exchange, Exchanges, Goes, IsOwn, LeavesUnclosed, MayFollow, Moment, Nothing, Own, Piece, Refused, RefusesLine, Rested, Rests, Skipped, SkipsDocument, Takes, Then, Told, Took, Unclosed, beginning, item_in, items_of, refusal_line, taken, text_in, tick_line, told_in}
 use Rattle.g_laws_sessions.proofs.EarlyLemmas.{owed}
 use Rattle.g_laws_sessions.proofs.AfterLemmas.{Comes as Lifted, run_comes}
 
@@ -142,17 +142,17 @@ module _ {F U : Type 0} (tariffs : Shared F (Bor Usage × Unit {0}) Charge) (tar
       told_parts (Own text ∷ xs) ys = told_parts xs ys
 
   -- a line of the console's own, and nothing else
-  reaches_aside : (s : State) (said more : Exchanges) (before after : Moment) (k : ℕ) → Reaches s said before → taken more ≡ taken said → after.world ≡ before.world → after.moves ≡ before.moves
-      → after.text ≡ before.text ++ refusal_line k → Reaches s more after
-  reaches_aside s said more before after k r same world moves text = record {
+  reaches_aside : (s : State) (said more : Exchanges) (before after : Moment) (own : List ℕ) → Reaches s said before → taken more ≡ taken said → after.world ≡ before.world → after.moves ≡ before.moves
+      → after.text ≡ before.text ++ own → IsOwn (Own own) → Reaches s more after
+  reaches_aside s said more before after own r same world moves text is_own = record {
     none = ap (λ (w : World). w.lines) world ∙ r.none;
     going = ap (λ (w : World). w.over) world ∙ r.going;
     phase = ap (λ (w : World). w.phase) world ∙ r.phase;
     run = λ rest early. carried rest (r.run rest (subst (λ (w : World). NotBefore w.count rest) world early));
-    pieces = r.pieces ++ Own (refusal_line k) ∷ [];
-    all = text ∙ ap (λ (t : List ℕ). t ++ refusal_line k) r.all ∙ sym (text_own r.pieces (refusal_line k));
-    told = ap (λ (w : World). w.text) world ∙ r.told ∙ sym (told_own r.pieces (refusal_line k));
-    own = All-append IsOwn r.pieces (Own (refusal_line k) ∷ []) r.own (All-cons IsOwn (Own (refusal_line k)) [] (k, inr refl) (All-nil IsOwn));
+    pieces = r.pieces ++ Own own ∷ [];
+    all = text ∙ ap (λ (t : List ℕ). t ++ own) r.all ∙ sym (text_own r.pieces own);
+    told = ap (λ (w : World). w.text) world ∙ r.told ∙ sym (told_own r.pieces own);
+    own = All-append IsOwn r.pieces (Own own ∷ []) r.own (All-cons IsOwn (Own own) [] is_own (All-nil IsOwn));
   }
     where
       carried : (rest : List Timed) → Run tariffs tariff rules rule (start (taken said ++ rest) None s) before.moves (with_lines rest before.world)
@@ -190,13 +190,18 @@ module _ {F U : Type 0} (tariffs : Shared F (Bor Usage × Unit {0}) Charge) (tar
   reaches_by s said Rested before after r t =
       reaches_part s said (Then said Rested) [] before after t.moves t.told (Own (tick_line after.world.count) ∷ []) r (λ rest. ap (λ (ls : List Timed). ls ++ rest) (taken_same said Rested refl)) tt t.goes t.moves_are
       (t.text ∙ append_assoc before.text t.told (tick_line after.world.count) ∙ ap (λ (x : List ℕ). before.text ++ (t.told ++ x)) (sym (append-nil (tick_line after.world.count)))) refl
-      (All-cons IsOwn (Own (tick_line after.world.count)) [] (after.world.count, inl refl) (All-nil IsOwn))
+      (All-cons IsOwn (Own (tick_line after.world.count)) [] (inl (after.world.count, inl refl)) (All-nil IsOwn))
+  reaches_by s said (Asked q) before after r t =
+      reaches_aside s said (Then said (Asked q)) before after t.answer r (taken_same said (Asked q) refl) (ap (λ (m : Moment). m.world) t.after_is) (ap (λ (m : Moment). m.moves) t.after_is) (ap (λ (m : Moment). m.text) t.after_is)
+      (inr (q, (before.world, t.answers)))
   reaches_by s said (Refused k skips) before after r t =
-      reaches_aside s said (Then said (Refused k skips)) before after k r (taken_same said (Refused k skips) refl) (ap (λ (m : Moment). m.world) t.after_is) (ap (λ (m : Moment). m.moves) t.after_is) (ap (λ (m : Moment). m.text) t.after_is)
+      reaches_aside s said (Then said (Refused k skips)) before after (refusal_line k) r (taken_same said (Refused k skips) refl) (ap (λ (m : Moment). m.world) t.after_is) (ap (λ (m : Moment). m.moves) t.after_is) (ap (λ (m : Moment). m.text) t.after_is)
+      (inl (k, inr refl))
   reaches_by s said Skipped before after r t =
       reaches_skip s said (Then said Skipped) before after r (taken_same said Skipped refl) (ap (λ (m : Moment). m.world) t.after_is) (ap (λ (m : Moment). m.moves) t.after_is) (ap (λ (m : Moment). m.text) t.after_is)
   reaches_by s said (Unclosed k) before after r t =
-      reaches_aside s said (Then said (Unclosed k)) before after k r (taken_same said (Unclosed k) refl) (ap (λ (m : Moment). m.world) t.after_is) (ap (λ (m : Moment). m.moves) t.after_is) (ap (λ (m : Moment). m.text) t.after_is)
+      reaches_aside s said (Then said (Unclosed k)) before after (refusal_line k) r (taken_same said (Unclosed k) refl) (ap (λ (m : Moment). m.world) t.after_is) (ap (λ (m : Moment). m.moves) t.after_is) (ap (λ (m : Moment). m.text) t.after_is)
+      (inl (k, inr refl))
 
   pub reaches : (s : State) (said : Exchanges) (now : Moment) → Comes tariffs tariff rules rule s said now → Reaches s said now
   reaches s Nothing now is = reaches_start s now is
@@ -243,6 +248,7 @@ module _ {F U : Type 0} (tariffs : Shared F (Bor Usage × Unit {0}) Charge) (tar
       subst (λ (ls : List Timed). AreTimed ls) (sym (taken_more said item when))
       (All-append IsTimed (taken said) (timed_said item ∷ []) (all_timed s said before comes) (All-cons IsTimed (timed_said item) [] (item_timed item t.is_typed.is_item) (All-nil IsTimed)))
   all_timed s (Then said Rested) now (before, comes, follows, t) = subst (λ (ls : List Timed). AreTimed ls) (sym (taken_same said Rested refl)) (all_timed s said before comes)
+  all_timed s (Then said (Asked q)) now (before, comes, follows, t) = subst (λ (ls : List Timed). AreTimed ls) (sym (taken_same said (Asked q) refl)) (all_timed s said before comes)
   all_timed s (Then said (Refused k skips)) now (before, comes, follows, t) = subst (λ (ls : List Timed). AreTimed ls) (sym (taken_same said (Refused k skips) refl)) (all_timed s said before comes)
   all_timed s (Then said Skipped) now (before, comes, follows, t) = subst (λ (ls : List Timed). AreTimed ls) (sym (taken_same said Skipped refl)) (all_timed s said before comes)
   all_timed s (Then said (Unclosed k)) now (before, comes, follows, t) = subst (λ (ls : List Timed). AreTimed ls) (sym (taken_same said (Unclosed k) refl)) (all_timed s said before comes)

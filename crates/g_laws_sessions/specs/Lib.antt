@@ -1,3 +1,4 @@
 pub mod Early
+pub mod Asked
 pub mod Session
 pub mod Laws

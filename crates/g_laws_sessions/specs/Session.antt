@@ -1,6 +1,5 @@
 -- A SESSION: what was typed at a console, exchange by exchange, and what was printed for each before the next line was requested.
 use Rattle.std.specs.Prelude.{◌≡◌, ◌≢◌, ◌⊎◌, ◌+◌, ◌≤◌, ℕ, Bool, true, false, List, [], ◌∷◌, ◌++◌, length, map, take, All, Option, Some, None, codes}
-use Rattle.std.specs.Fmt.{decimal}
 use Rattle.std.specs.List.{flat_map}
 use Rattle.std.specs.Fn.{Shared}
 use denote.Ref.{Bor}
@@ -8,7 +7,7 @@ use Rattle.g_rules.specs.declared.tariff.Charge.{Charge}
 use Rattle.g_rules.specs.declared.tariff.Usage.{Usage}
 use Rattle.g_console.specs.Transcript.{Requested, Transcript, lines_typed}
 use Rattle.g_io.specs.Streams.{with_more}
-use Rattle.g_lines.specs.Lines.{ended, lines_of, text_of}
+use Rattle.g_lines.specs.Lines.{lines_of, text_of}
 use Rattle.g_rules.specs.declared.rule.Standing.{Standing}
 use Rattle.g_script.specs.Script.{IsParsed, WrittenItem, item_lines, timed_said}
 use Rattle.g_script.specs.declared.operator.Timed.{Timed}
@@ -18,13 +17,16 @@ use Rattle.g_run_model.specs.Devices.{Devices, StandFor}
 use Rattle.g_run_model.specs.Moves.{Move, Run, TakeLine}
 use Rattle.g_run_model.specs.Top.{RunOf}
 use Rattle.g_run_model.specs.World.{Between, World, nothing_steps, start}
-use Rattle.g_typing.specs.Typed.{AtOnce, AtTime, BeginsDocument, CanFollow, IsTyped, IsUnfinished, When, first_of}
+use Rattle.g_typing.specs.Typed.{AtOnce, AtTime, BeginsDocument, CanFollow, IsQuery, IsTyped, IsUnasked, IsUnfinished, When, first_of}
+use Rattle.g_typing.specs.declared.query.Query.{Query}
+pub use Rattle.g_laws_sessions.specs.Asked.{IsAnswer, refusal_line, tick_line}
 
--- what became of typed lines: an item was taken; an empty line let the system run until nothing could step; a line was refused, and whether a document
--- follows it; that document was skipped; a document was open when no more lines came, and its JOB line was refused
+-- what became of typed lines: an item was taken; an empty line let the system run until nothing could step; a question was answered; a line was refused,
+-- and whether a document follows it; that document was skipped; a document was open when no more lines came, and its JOB line was refused
 pub data Exchange : Type 0 where
   Took : WrittenItem → When → Exchange
   Rested : Exchange
+  Asked : Query → Exchange
   Refused : ℕ → Bool → Exchange
   Skipped : Exchange
   Unclosed : ℕ → Exchange
@@ -33,13 +35,6 @@ pub data Exchange : Type 0 where
 pub data Exchanges : Type 0 where
   Nothing : Exchanges
   Then : Exchanges → Exchange → Exchanges
-
--- the console's own lines: no line of a run begins with `?`
-abbrev pub tick_line : ℕ → List ℕ
-tick_line count = ended (codes "? TICK " ++ decimal count)
-
-abbrev pub refusal_line : ℕ → List ℕ
-refusal_line k = ended (codes "? LINE " ++ decimal k)
 
 -- THE SCRIPT of a session: the items that were taken
 abbrev pub item_in : Exchange → List WrittenItem
@@ -103,12 +98,21 @@ pub record Moment : Type 0 where
 abbrev pub beginning : State → Moment
 beginning s = record { world = start [] None s; moves = []; lines = []; text = [] }
 
+-- a question is answered, and nothing else happens
+pub record Asks (q : Query) (before after : Moment) : Type 0 where
+  pub line : List ℕ
+  pub asks : IsQuery line q
+  pub answer : List ℕ
+  pub answers : IsAnswer q before.world answer
+  pub after_is : after ≡ record before { lines = before.lines ++ line ∷ []; text = before.text ++ answer }
+
 -- a line is refused, the k-th that was typed; the lines before it begin an item, and none continues with it
 pub record RefusesLine (k : ℕ) (skips : Bool) (before after : Moment) : Type 0 where
   pub front : List (List ℕ)
   pub line : List ℕ
   pub begun : IsUnfinished before.world.count front
   pub some : front ≡ [] → line ≢ []
+  pub unasked : front ≡ [] → IsUnasked line
   pub bad : CanFollow before.world.count front line → ⊥
   pub document : (BeginsDocument (first_of front line) × (skips ≡ true)) ⊎ ((BeginsDocument (first_of front line) → ⊥) × (skips ≡ false))
   pub place : k ≡ length before.lines + length front + 1
@@ -131,6 +135,10 @@ pub record LeavesUnclosed (k : ℕ) (before after : Moment) : Type 0 where
 -- nothing happens after a line was taken
 abbrev pub EndsWithLine : List Move → Type 0
 EndsWithLine moves = (front : List Move) × (tape : Bool) × (outcome : Outcome) × (moves ≡ front ++ TakeLine tape outcome ∷ [])
+
+-- what is owed after an exchange: what the run prints; the same and a line of the console's own; or the answer to a question
+abbrev pub IsOwed : World → List ℕ → List ℕ → Type 0
+IsOwed w owed rest = (owed ≡ rest) ⊎ (((n : ℕ) × ((owed ≡ rest ++ tick_line n) ⊎ (owed ≡ refusal_line n ++ rest))) ⊎ ((rest ≡ []) × ((q : Query) × IsAnswer q w owed)))
 
 -- lines whose exchange isn't over: of an item that isn't complete, or of a document that is skipped
 abbrev pub ArePending : Bool → ℕ → List (List ℕ) → Type 0
@@ -174,6 +182,7 @@ module _ {F U : Type 0} (tariffs : Shared F (Bor Usage × Unit {0}) Charge) (tar
   abbrev pub Exchanged : Exchange → Moment → Moment → Type 0
   Exchanged (Took item when) before after = Takes item when before after
   Exchanged Rested before after = Rests before after
+  Exchanged (Asked q) before after = Asks q before after
   Exchanged (Refused k skips) before after = RefusesLine k skips before after
   Exchanged Skipped before after = SkipsDocument before after
   Exchanged (Unclosed k) before after = LeavesUnclosed k before after
@@ -235,7 +244,7 @@ module _ {F U : Type 0} (tariffs : Shared F (Bor Usage × Unit {0}) Charge) (tar
     pub rest : List ℕ
     pub told : last.text ≡ now.world.text ++ rest
     pub owed : List ℕ
-    pub own : (owed ≡ rest) ⊎ ((n : ℕ) × ((owed ≡ rest ++ tick_line n) ⊎ (owed ≡ refusal_line n ++ rest)))
+    pub own : IsOwed now.world owed rest
     pub put : (k : ℕ) × (k ≤ length owed) × (t.text ≡ now.text ++ take k owed)
     pub log : (after ≡ with_more before (script_of said ++ text_of (flat_map item_lines more)))
         ⊎ ((more ≡ []) × ((next : WrittenItem) × (k : ℕ) × (after ≡ with_more before (script_of said ++ take k (text_of (item_lines next))))))
@@ -257,4 +266,4 @@ told_in (Own text ∷ pieces) = told_in pieces
 
 abbrev pub IsOwn : Piece → Type 0
 IsOwn (Told text) = Unit {0}
-IsOwn (Own text) = (n : ℕ) × ((text ≡ tick_line n) ⊎ (text ≡ refusal_line n))
+IsOwn (Own text) = ((n : ℕ) × ((text ≡ tick_line n) ⊎ (text ≡ refusal_line n))) ⊎ ((q : Query) × ((w : World) × IsAnswer q w text))

@@ -14,7 +14,7 @@ use Rattle.g_run.specs.declared.status.Status.TheVariants.{Done, Words, BadScrip
 use Rattle.g_run_model.specs.Devices.{Devices}
 use Rattle.g_run_model.specs.Moves.{Move}
 use Rattle.g_run_model.specs.World.{World}
-use Rattle.g_laws_sessions.specs.Session.{AlwaysAnswers, Comes, Exchange, Exchanged, Exchanges, Goes, IsAnswered, IsCutShort, IsOver, Moment, Nothing, Refused, Rested, Skipped, Then, Took, Unclosed}
+use Rattle.g_laws_sessions.specs.Session.{AlwaysAnswers, Asked, Comes, Exchange, Exchanged, Exchanges, Goes, IsAnswered, IsCutShort, IsOver, Moment, Nothing, Refused, Rested, Skipped, Then, Took, Unclosed}
 use Rattle.g_session.specs.Session.{EndsSession}
 use Rattle.g_program.proofs.RuleLemmas.{run_by, run_of}
 
@@ -55,6 +55,7 @@ module _ {F G U V : Type 0}
     lines = t.lines;
     text = t.text;
   }
+  exchanged_by (Asked q) before after t = t
   exchanged_by (Refused k skips) before after t = t
   exchanged_by Skipped before after t = t
   exchanged_by (Unclosed k) before after t = t

@@ -6,6 +6,8 @@ ghost use Rattle.g_run.specs.Top.{IsOfRun, IsOfWords, code_of};
 ghost use Rattle.g_session.specs.Session.{IsOfSession};
 ghost use Rattle.g_program.specs.Exit.{IsCheck, IsConsole, IsExit, IsOfCheck};
 
+use crate::advised::Advised;
+use crate::blank::tell_blank;
 use crate::checking::{check, check_words};
 use crate::console::{console, console_words};
 use crate::explain::tell_bad;
@@ -106,13 +108,15 @@ fn run_on_files(rt: &HostRuntime, words: &[&str]) -> Result<u8, PairFault>
     ensures known { IfOk result (λ code. IsRun words.now → IsExit IsOfRun code) }
 {
     tell_missing(rt);
-    let disc = open_image(rt, IMAGE)?;
+    let mut disc = open_image(rt, IMAGE)?;
     if is_there(rt, SECOND_RACK)? {
         let (pair, rebuilt) = open_duplex(rt, RACK, SECOND_RACK)?;
         tell_rebuilt(rt, &rebuilt);
+        tell_blank(rt, &mut disc, &pair);
         return Ok(closed_pair(rt, run(rt, words, disc, pair)));
     }
     let tapes = open_rack(rt, RACK)?;
+    tell_blank(rt, &mut disc, &tapes);
     Ok(closed(run(rt, words, disc, tapes)))
 }
 
@@ -173,7 +177,7 @@ fn run<D: Disc, T: Tapes>(rt: &HostRuntime, words: &[&str], disc: D, tapes: T) -
     ensures known { IsRun words.now → IsOfRun result.status }
 {
     let mut script = Noted::new(rt.alloc(), StdSource::new(HostInput::new(rt.reader())));
-    let mut out = StdSink::new(HostOutput::new(io::writer(rt)));
+    let mut out = Advised::new(rt, StdSink::new(HostOutput::new(io::writer(rt))));
     let finish = run_by_rules(rt.alloc(), words, &mut script, &mut out, disc, tapes);
     tell_bad(rt, finish.status, script.text());
     finish

@@ -4,6 +4,7 @@ ghost use Rattle.g_session.specs.Session.{IsOfSession};
 ghost use Rattle.g_program.specs.Exit.{IsConsole, IsExit};
 
 use crate::answer::{IMAGE, NO_IMAGE, RACK, SECOND_RACK, closed, closed_pair};
+use crate::blank::tell_blank;
 use crate::explained::Explained;
 use crate::rules::session_by_rules;
 use crate::telling::{tell_missing, tell_no_log, tell_rebuilt, tell_unusable};
@@ -67,16 +68,18 @@ fn on_files(rt: &HostRuntime, log: Option<&str>) -> Result<u8, PairFault>
     ensures { IfOk result (λ code. (code ≡ 7) ⊎ IsExit IsOfSession code) }
 {
     tell_missing(rt);
-    let disc = open_image(rt, IMAGE)?;
+    let mut disc = open_image(rt, IMAGE)?;
     if is_there(rt, SECOND_RACK)? {
         let (pair, rebuilt) = open_duplex(rt, RACK, SECOND_RACK)?;
         tell_rebuilt(rt, &rebuilt);
+        tell_blank(rt, &mut disc, &pair);
         return Ok(match log_file(rt, log) {
             Ok(log) => closed_pair(rt, session(rt, log, disc, pair)),
             Err(code) => code,
         });
     }
     let tapes = open_rack(rt, RACK)?;
+    tell_blank(rt, &mut disc, &tapes);
     Ok(match log_file(rt, log) {
         Ok(log) => closed(session(rt, log, disc, tapes)),
         Err(code) => code,

@@ -59,6 +59,57 @@ pub(crate) fn tell_unclosed(rt: &HostRuntime, number: u64) {
     tell(rt, number, UNCLOSED);
 }
 
+/// The answer to a command that begins as none does.
+const NO_COMMAND: &[u8] = b"ERROR 50 BAD LINE 0";
+
+/// Prints that commands are written in capitals.
+pub(crate) fn tell_small(rt: &HostRuntime) {
+    let _told = eprintln!(rt;
+        "george: a command begins with a small letter; commands are written in capitals"
+    );
+}
+
+/// Whether a printed text is of a job's file, and has a command that begins with a small letter, with its refusal in the next line.
+pub(crate) fn has_small_command(piece: &[u8]) -> bool {
+    match piece {
+        [b'J' | b'T', ..] => follows_small(piece),
+        _ => false,
+    }
+}
+
+/// Whether a text has a command that begins with a small letter, and its refusal in the next line.
+fn follows_small(piece: &[u8]) -> bool {
+    let mut lines = Lines::new(piece);
+    let mut small = false;
+    for _line in 0..piece.len() {
+        let Some(line) = lines.next() else {
+            return false;
+        };
+        let told = unmarked(line);
+        if small && told == NO_COMMAND {
+            return true;
+        }
+        small = is_small_command(told);
+    }
+    false
+}
+
+/// A printed line without the mark of a terminal.
+fn unmarked(line: &[u8]) -> &[u8] {
+    match line {
+        [b'T', _terminal, b' ', told @ ..] => told,
+        _ => line,
+    }
+}
+
+/// Whether a line of a monitoring file is a command that begins with a small letter.
+fn is_small_command(line: &[u8]) -> bool {
+    match line {
+        [b'-', b' ', first, ..] => first.is_ascii_lowercase(),
+        _ => false,
+    }
+}
+
 /// Prints the reason for a line.
 fn tell(rt: &HostRuntime, number: u64, reason: &str) {
     let _told = eprintln!(rt; "george: line {number}: {reason}");

@@ -1,7 +1,7 @@
-//! A console that explains on standard error why a line was refused. What is typed and printed is that of the console in it.
+//! A console that explains on standard error why a line was refused, or a command in small letters. What is typed and printed is that of the console in it.
 ghost use Rattle.std.specs.Prelude.{◌≡◌, ◌≤◌, IfSome, length};
 
-use crate::explain::{tell_refused, tell_unclosed};
+use crate::explain::{has_small_command, tell_refused, tell_small, tell_unclosed};
 use g_base::{ReadFailed, WriteFailed};
 use g_console::Console;
 use g_io::Sink;
@@ -14,7 +14,7 @@ const REFUSED: &[u8] = b"? LINE ";
 /// The prompt in a document.
 const IN_DOCUMENT: &[u8] = b"****> ";
 
-/// A console, its last line, and how many lines it had.
+/// A console, its last line, how many lines it had, and whether small letters were explained.
 #[derive(Drop)]
 pub(crate) struct Explained<'a, C: Console + Drop> {
     rt: &'a HostRuntime,
@@ -22,6 +22,7 @@ pub(crate) struct Explained<'a, C: Console + Drop> {
     line: Option<Text>,
     in_document: bool,
     count: u64,
+    told_small: bool,
 }
 
 impl<'a, C: Console + Drop> Explained<'a, C> {
@@ -32,6 +33,7 @@ impl<'a, C: Console + Drop> Explained<'a, C> {
             line: None,
             in_document: false,
             count: 0,
+            told_small: false,
         }
     }
 
@@ -76,6 +78,10 @@ impl<C: Console + Drop> Sink for Explained<'_, C> {
     fn put(&mut self, piece: &[u8]) -> Result<(), WriteFailed> {
         self.console.put(piece)?;
         self.explain(piece);
+        if !self.told_small && has_small_command(piece) {
+            tell_small(self.rt);
+            self.told_small = true;
+        }
         Ok(())
     }
 }

@@ -2,7 +2,9 @@
 //! and take turns.
 #![tactic(auto)]
 
+mod advised;
 mod answer;
+mod blank;
 mod checking;
 mod console;
 mod explain;

@@ -1,6 +1,6 @@
 -- A line that is longer than a buffer of 161 bytes is replied to as its first 161 bytes are: no line of an item has more than 160.
 -- serves: hear (heard)
-use Rattle.std.proofs.Common.{◌≡◌, ◌≢◌, ◌⊎◌, ◌+◌, ◌-◌, ◌<◌, ◌≤◌, ◌++◌, ℕ, List, [], ◌∷◌, All, Result, Ok, Err, length, take, drop, codes, decimal, append_assoc, sym, ◌∙◌, ap, subst, inl, inr, arith}
+use Rattle.std.proofs.Common.{◌≡◌, ◌≢◌, ◌⊎◌, ◌+◌, ◌-◌, ◌<◌, ◌≤◌, ◌++◌, ℕ, List, [], ◌∷◌, All, Result, Ok, Err, length, take, drop, codes, decimal, append_assoc, refl, sym, ◌∙◌, ap, subst, inl, inr, arith}
 use Rattle.std.proofs.lemmas.Bool.{cases_lt}
 use Rattle.std.proofs.lemmas.Fmt.{length-decimal-le}
 use Rattle.std.proofs.lemmas.List.{length-append, length-take-le, take-append-drop, take_all}
@@ -9,12 +9,14 @@ use Rattle.std.proofs.lemmas.List.Elements.{All-append, All-cons, All-head, All-
 use Rattle.g_base.specs.declared.memory.NoMemory.{NoMemory}
 use Rattle.g_script.specs.Script.{Bare, IsDocumentLine, IsWrittenOperator, Job, WrittenItem, WrittenOperator, behind_head}
 use Rattle.g_typing.specs.Reader.{Holds, HoldsAt, Replies}
-use Rattle.g_typing.specs.Typed.{BeginsDocument, CanFollow, IsTyped, When, first_of}
+use Rattle.g_typing.specs.Typed.{BeginsDocument, CanFollow, IsQuery, IsTyped, When, first_of}
 use Rattle.g_typing.specs.declared.item.ItemReader.{ItemReader}
 use Rattle.g_typing.specs.declared.item.Place.{Place}
 use Rattle.g_typing.specs.declared.item.Place.TheVariants as place
 use Rattle.g_typing.specs.declared.item.Reply.{Reply}
 use Rattle.g_typing.specs.declared.item.Reply.TheVariants as reply
+use Rattle.g_typing.specs.declared.query.Query.{Query}
+use Rattle.g_typing.specs.declared.query.Query.TheVariants as query
 
 abbrev IsShort : List ℕ → Type 0
 IsShort line = length line ≤ 160
@@ -68,6 +70,16 @@ begins_down line (inr (t, rest, few, is)) =
           ∙ append_assoc (decimal t) (32 ∷ codes "JOB ") (take (161 - length front) rest),
     )
 
+-- a question is short
+asked_short : (q : Query) (line : List ℕ) → IsQuery line q → length line ≤ 160
+asked_short query.State line is = let one : length line ≡ 1 = ap length is in omega (arith, one)
+asked_short query.Help line is = let four : length line ≡ 4 = ap length is in omega (arith, four)
+asked_short (query.Refusal n) line (few, is) =
+    let digits : length (decimal n) ≤ 10 = length-decimal-le 10 n (omega arith) (omega (arith, few)) (omega (arith, few)) in
+    let all : length line ≡ length (codes "HELP " ++ decimal n) = ap length is in
+    let long : length (codes "HELP " ++ decimal n) ≡ length (codes "HELP ") + length (decimal n) = length-append (codes "HELP ") (decimal n) in
+    let five : length (codes "HELP ") ≡ 5 = refl in omega (arith, digits, all, long, five)
+
 -- of a long line
 module _ (line : List ℕ) (long : 161 ≤ length line) where
   abbrev bytes : List ℕ
@@ -102,11 +114,15 @@ module _ (line : List ℕ) (long : 161 ≤ length line) where
   long_as was number count lines (Ok reply.Rest) r (unskipped, none, empty, at) =
       let zero_long : length bytes ≡ 0 = ap length empty in
       let full = full_bytes in absurd (let no : ⊥ = omega (arith, zero_long, full) in no)
+  long_as was number count lines (Ok (reply.Asked q)) r (unskipped, none, asks, at) =
+      let few = asked_short q bytes asks in
+      let full = full_bytes in absurd (let no : ⊥ = omega (arith, few, full) in no)
   long_as was number count lines (Ok reply.Refused) r (unskipped, refused) = (
     unskipped,
     record {
       begun = refused.begun;
       some = λ none empty. let zero_long : length line ≡ 0 = ap length empty in omega (arith, zero_long, long);
+      unasked = λ none q asks. let few = asked_short q line asks in omega (arith, few, long);
       bad = λ follows. let short = follows_short count lines line follows in omega (arith, short, long);
       skips = skips_as lines refused.skips;
     },

@@ -24,16 +24,12 @@ use Rattle.g_day.proofs.PutLemmas.{with_more-nil}
 use Rattle.g_ticks.specs.Parts.{Leads}
 use Rattle.g_typing.specs.declared.item.ItemReader.{ItemReader}
 use Rattle.g_laws_sessions.specs.Early.{NotBefore, with_lines}
-use Rattle.g_laws_sessions.specs.Session.{AlwaysAnswers, Moment, refusal_line, script_of, taken, tick_line}
+use Rattle.g_laws_sessions.specs.Session.{AlwaysAnswers, IsOwed, Moment, script_of, taken}
 use Rattle.g_laws_sessions.proofs.SessionLemmas.{reaches, run_here}
 use Rattle.g_session.specs.Parts.{Broken, Last, SoFar, Stands}
 use Rattle.g_session.proofs.AnswerLemmas.{answers_print}
 use Rattle.g_session.proofs.SoFarLemmas.{counted_on}
 use Rattle.g_session.proofs.StandsLemmas.{printed_by}
-
--- the console's own line, before or after what the run printed
-abbrev pub IsOwed : List ℕ → List ℕ → Type 0
-IsOwed owed rest = (owed ≡ rest) ⊎ ((n : ℕ) × ((owed ≡ rest ++ tick_line n) ⊎ (owed ≡ refusal_line n ++ rest)))
 
 module _ {F U : Type 0} (tariffs : Shared F (Bor Usage × Unit {0}) Charge) (tariff : F) (rules : Shared U (Bor Standing × Unit {0}) ℕ) (rule : U) where
   -- what a console shows of a moment
@@ -72,7 +68,7 @@ module _ {F U : Type 0} (tariffs : Shared F (Bor Usage × Unit {0}) Charge) (tar
       → (system : SystemFacts) (more : List WrittenItem) → length more ≤ 1 → (moves : List Move) (last : World)
       → Run tariffs tariff rules rule (start (taken f.said ++ map timed_said more) None s) moves last
       → MovesCounted moves last.disc_stops last.tape_stops old (devices_in system) → StandsAs system last.store
-      → (rest : List ℕ) → last.text ≡ f.now.world.text ++ rest → (owed : List ℕ) → IsOwed owed rest
+      → (rest : List ℕ) → last.text ≡ f.now.world.text ++ rest → (owed : List ℕ) → IsOwed f.now.world owed rest
       → HasPutPart (option_map written_of before) owed (option_map written_of after) → HasLogged f.said more log0 log'
       → Broken tariffs tariff rules rule s old system from after log0 log'
   broken s old done bad seen from before after log0 log log' f shows system more one moves last run counted stands rest told owed own put logged = record {
@@ -108,7 +104,7 @@ module _ {F U : Type 0} (tariffs : Shared F (Bor Usage × Unit {0}) Charge) (tar
       → (f : SoFar tariffs tariff rules rule s old done bad seen log0 log) → Shows s from before f.now
       → (system : SystemFacts) (more : List WrittenItem) → length more ≤ 1 → NotBefore f.now.world.count (map timed_said more)
       → (moves : List Move) (last : World) (added : List ℕ) → Leads tariffs tariff rules rule (with_lines (map timed_said more) f.now.world) seen.system system moves last added
-      → (owed : List ℕ) → IsOwed owed added → HasPutPart (option_map written_of before) owed (option_map written_of after) → HasLogged f.said more log0 log'
+      → (owed : List ℕ) → IsOwed f.now.world owed added → HasPutPart (option_map written_of before) owed (option_map written_of after) → HasLogged f.said more log0 log'
       → Broken tariffs tariff rules rule s old system from after log0 log'
   broken_leads s old done bad seen from before after log0 log log' f shows system more one early moves last added leads owed own put logged =
       let r = reaches tariffs tariff rules rule s f.said f.now f.comes in
@@ -120,7 +116,7 @@ module _ {F U : Type 0} (tariffs : Shared F (Bor Usage × Unit {0}) Charge) (tar
   -- nothing more of the run
   pub broken_still : (s : State) (old : Devices) (done : List Timed) (bad : Option ℕ) (seen : Seen) (from before after : Option Transcript) (log0 log log' : Option (List ℕ))
       → (f : SoFar tariffs tariff rules rule s old done bad seen log0 log) → Shows s from before f.now
-      → (owed : List ℕ) → IsOwed owed [] → HasPutPart (option_map written_of before) owed (option_map written_of after) → HasLogged f.said [] log0 log'
+      → (owed : List ℕ) → IsOwed f.now.world owed [] → HasPutPart (option_map written_of before) owed (option_map written_of after) → HasLogged f.said [] log0 log'
       → Broken tariffs tariff rules rule s old seen.system from after log0 log'
   broken_still s old done bad seen from before after log0 log log' f shows owed own put logged =
       let r = reaches tariffs tariff rules rule s f.said f.now f.comes in

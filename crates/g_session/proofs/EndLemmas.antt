@@ -32,7 +32,7 @@ use Rattle.g_day.specs.System.{StandsAs, SystemFacts, devices_in}
 use Rattle.g_day.proofs.PutLemmas.{with_more-append}
 use Rattle.g_ticks.specs.Parts.{IsAtRest, PartGoes}
 use Rattle.g_ticks.proofs.TickLemmas.{put_on}
-use Rattle.g_laws_sessions.specs.Session.{Comes, Exchange, Exchanges, IsCutShort, IsOver, Moment, Nothing, Refused, Rested, Skipped, Then, Took, Unclosed, is_skipping, items_of, script_of, taken}
+use Rattle.g_laws_sessions.specs.Session.{Asked, Comes, Exchange, Exchanges, IsCutShort, IsOver, Moment, Nothing, Refused, Rested, Skipped, Then, Took, Unclosed, is_skipping, items_of, script_of, taken}
 use Rattle.g_laws_sessions.proofs.SessionLemmas.{reaches, run_here}
 use Rattle.g_run.specs.ScriptEnd.{TakenDown}
 use Rattle.g_session.specs.Ending.{AtEnd}
@@ -47,6 +47,7 @@ module _ {F U : Type 0} (tariffs : Shared F (Bor Usage × Unit {0}) Charge) (tar
   items_are s (Then said (Took item when)) now (before, comes, follows, t) =
       All-append IsItem (items_of said) (item ∷ []) (items_are s said before comes) (All-cons IsItem item [] t.is_typed.is_item (All-nil IsItem))
   items_are s (Then said Rested) now (before, comes, follows, t) = subst (λ (is : List WrittenItem). All IsItem is) (sym (append-nil (items_of said))) (items_are s said before comes)
+  items_are s (Then said (Asked q)) now (before, comes, follows, t) = subst (λ (is : List WrittenItem). All IsItem is) (sym (append-nil (items_of said))) (items_are s said before comes)
   items_are s (Then said (Refused k skips)) now (before, comes, follows, t) = subst (λ (is : List WrittenItem). All IsItem is) (sym (append-nil (items_of said))) (items_are s said before comes)
   items_are s (Then said Skipped) now (before, comes, follows, t) = subst (λ (is : List WrittenItem). All IsItem is) (sym (append-nil (items_of said))) (items_are s said before comes)
   items_are s (Then said (Unclosed k)) now (before, comes, follows, t) = subst (λ (is : List WrittenItem). All IsItem is) (sym (append-nil (items_of said))) (items_are s said before comes)

@@ -192,7 +192,7 @@ module _ {F U : Type 0} (tariffs : Shared F (Bor Usage × Unit {0}) Charge) (tar
             make (ended_print c before after (refusal_line k) whole ended) (or_else bad (Some k)) (done, last_open done bad seen r number k before after log st at whole)
         by (Some failure) part =
             broken_still tariffs tariff rules rule s old done bad seen from before after log0 log log st.so_far (shows_of tariffs tariff rules rule s old done bad seen r number [] from before log0 log st)
-            (refusal_line k) (inr (k, inr (sym (append-nil (refusal_line k))))) part (logged_all tariffs tariff rules rule s old done bad seen log0 log st.so_far)
+            (refusal_line k) (inr (inl (k, inr (sym (append-nil (refusal_line k)))))) part (logged_all tariffs tariff rules rule s old done bad seen log0 log st.so_far)
 
     -- ALL LINES ARE OVER
     pub open_done : (c : Course) (p : Place) (r : ItemReader) (number : ℕ) → r.place ≡ p → AfterLines tariffs tariff rules rule s old from log0 c bad seen r number before log

@@ -142,6 +142,9 @@ module _ {F U : Type 0} (tariffs : Shared F (Bor Usage × Unit {0}) Charge) (tar
       → c ≡ course_after failure → DidReply tariffs tariff rules rule answer number old failure new before after faults faults' → KeepsOne old c new
   one_by (reply.Item next timed) number old c failure new before after faults faults' ready open_ones is did = one_did (next ∷ []) (omega arith) old c failure new faults faults' is did.keeps
   one_by reply.Rest number old c failure new before after faults faults' ready open_ones is did = one_did [] (omega arith) old c failure new faults faults' is did.keeps
+  one_by (reply.Asked q) number old c failure new before after faults faults' ready open_ones is (same, (text, answers, puts)) =
+      subst (λ (s : Seen). KeepsOne old c s) (sym same)
+      (one_did [] (omega arith) old c failure old faults faults' is (keeps_put [] old failure old faults faults faults' (keeps_still old faults ready open_ones) puts.cause))
   one_by reply.Refused number old c failure new before after faults faults' ready open_ones is (same, puts) =
       subst (λ (s : Seen). KeepsOne old c s) (sym same)
       (one_did [] (omega arith) old c failure old faults faults' is (keeps_put [] old failure old faults faults faults' (keeps_still old faults ready open_ones) puts.cause))

@@ -10,3 +10,4 @@ mod ReplyLemmas
 mod SoFarLemmas
 mod StandsLemmas
 mod TakeLemmas
+pub mod StandingLemmas

@@ -36,8 +36,8 @@ use Rattle.g_session.specs.Exchanging.{AfterExchange, DidReply, IsReplyWithin, L
 use Rattle.g_session.specs.Parts.{Broken, SoFar, Stands}
 use Rattle.g_session.specs.Taking.{RestsAndTells, TakesItem}
 use Rattle.g_session.proofs.AnswerLemmas.{ArePrinted, answers_print, printed_print, stands_ask}
-use Rattle.g_session.proofs.BrokenLemmas.{HasLogged, IsOwed, Shows, broken_leads, broken_short, broken_still, logged_all, put_none, shows_of}
-use Rattle.g_session.proofs.SoFarLemmas.{Next, so_far_refused, so_far_rested, so_far_skipped, so_far_took, with_left}
+use Rattle.g_session.proofs.BrokenLemmas.{HasLogged, Shows, broken_leads, broken_short, broken_still, logged_all, put_none, shows_of}
+use Rattle.g_session.proofs.SoFarLemmas.{Next, so_far_asked, so_far_refused, so_far_rested, so_far_skipped, so_far_took, with_left}
 use Rattle.g_session.proofs.StandsLemmas.{printed_by, stands_more, stands_next}
 
 start_not_document : (k : ℕ) → place.Start ≡ place.Document k → ⊥
@@ -67,6 +67,7 @@ item_within item is = (within_what item.turn item.what is.1 is.2, is.0)
 pub reply_within : (was : Place) (number count : ℕ) (lines : List (List ℕ)) (line : List ℕ) (r : ItemReader) (answer : Reply) → Replies was number count lines line (Ok answer) r → IsReplyWithin answer
 reply_within was number count lines line r (reply.Item next timed) (unskipped, whole) = subst (λ (t : Timed). IsTimedWithin t) (sym whole.said) (item_within whole.item whole.typed.is_item)
 reply_within was number count lines line r reply.Rest replies = tt
+reply_within was number count lines line r (reply.Asked q) replies = tt
 reply_within was number count lines line r reply.Refused replies = tt
 reply_within was number count lines line r reply.More replies = tt
 reply_within was number count lines line r reply.SkippedAll replies = tt
@@ -88,6 +89,7 @@ pub reply_holds : (was : Place) (number count new : ℕ) (lines : List (List ℕ
     → (held : List (List ℕ)) × Holds new held r
 reply_holds was number count new lines line r (reply.Item next timed) (unskipped, whole) same = ([], holds_start new r whole.place)
 reply_holds was number count new lines line r reply.Rest (unskipped, none, empty, at) same = ([], holds_start new r at)
+reply_holds was number count new lines line r (reply.Asked q) (unskipped, none, asks, at) same = ([], holds_start new r at)
 reply_holds was number count new lines line r reply.Refused (unskipped, refused) same = ([], held_refused count new lines line r refused)
 reply_holds was number count new lines line r reply.More (holds, stays) same = (lines ++ line ∷ [], subst (λ (n : ℕ). Holds n (lines ++ line ∷ []) r) (sym same) holds)
 reply_holds was number count new lines line r reply.SkippedAll (skipped, all, is, at) same = ([], holds_start new r at)
@@ -105,6 +107,7 @@ HasLog other text before after = after ≡ before
 pub has_log : (answer : Reply) (text : List ℕ) (before after : Option (List ℕ)) (faults faults' : ℕ) → LogsReply answer text None before after faults faults' → HasLog answer text before after
 has_log (reply.Item next timed) text before after faults faults' puts = puts.put
 has_log reply.Rest text before after faults faults' (none, same, still) = same
+has_log (reply.Asked q) text before after faults faults' (none, same, still) = same
 has_log reply.Refused text before after faults faults' (none, same, still) = same
 has_log reply.More text before after faults faults' (none, same, still) = same
 has_log reply.SkippedAll text before after faults faults' (none, same, still) = same
@@ -115,6 +118,7 @@ module _ {F U : Type 0} (tariffs : Shared F (Bor Usage × Unit {0}) Charge) (tar
       → DidReply tariffs tariff rules rule answer number old failure new before after faults faults' → KeepsCount answer old.count new.count
   keeps_count (reply.Item next timed) number old failure new before after faults faults' did = tt
   keeps_count reply.Rest number old failure new before after faults faults' did = tt
+  keeps_count (reply.Asked q) number old failure new before after faults faults' did = tt
   keeps_count reply.Refused number old failure new before after faults faults' did = tt
   keeps_count reply.More number old failure new before after faults faults' (none, same, quiet, still) = ap (λ (x : Seen). x.count) same
   keeps_count reply.SkippedAll number old failure new before after faults faults' did = tt
@@ -161,6 +165,7 @@ module _ {F U : Type 0} (tariffs : Shared F (Bor Usage × Unit {0}) Charge) (tar
     line = line;
     begun = subst (λ (n : ℕ). IsUnfinished n front) (sym f.matches.count) refused.begun;
     some = refused.some;
+    unasked = refused.unasked;
     bad = λ follows. refused.bad (subst (λ (n : ℕ). CanFollow n front line) f.matches.count follows);
     document = by refused.skips;
     place = number_is;
@@ -248,8 +253,24 @@ module _ {F U : Type 0} (tariffs : Shared F (Bor Usage × Unit {0}) Charge) (tar
         by (inr (middle, goes, part)) =
             let a = goes v (with_left st.so_far.now.world [] seen st.so_far.matches) (record { phase = st.so_far.between.phase; turn = st.so_far.between.turn }) refl in
             broken_leads tariffs tariff rules rule s old done bad seen from before after log0 log log st.so_far shown new.system [] (omega arith) tt a.moves a.next a.added a.leads (a.added ++ tick_line new.count)
-            (inr (new.count, inl refl)) (put_on (option_map written_of before) middle (option_map written_of after) a.added (tick_line new.count) a.put part)
+            (inr (inl (new.count, inl refl))) (put_on (option_map written_of before) middle (option_map written_of after) a.added (tick_line new.count) a.put part)
             (logged_all tariffs tariff rules rule s old done bad seen log0 log st.so_far)
+    replied_on (reply.Asked q) None faults faults' (unskipped, none, asks, at) put (same, (text, answers, puts)) =
+        let only : line ∷ [] ≡ st.pending ++ line ∷ [] = ap (λ (ls : List (List ℕ)). ls ++ line ∷ []) (sym none) in
+        let n = subst (λ (ls : List (List ℕ)). Next tariffs tariff rules rule s old done bad seen log0 log st.so_far.now ls false (option_map written_of before) (option_map written_of after)) only
+        (so_far_asked tariffs tariff rules rule s old done bad seen log0 log (option_map written_of before) (option_map written_of after) q line text st.so_far (st.skipping ∙ unskipped) st.going asks
+        (answers st.so_far.now.world st.so_far.matches) puts.put) in (
+          done,
+          subst (λ (l : Option (List ℕ)). Stands tariffs tariff rules rule s old done bad new r' (number + 1) [] from after log0 l) (sym put)
+              (subst (λ (x : Seen). Stands tariffs tariff rules rule s old done bad x r' (number + 1) [] from after log0 log) (sym same)
+              (stands_next tariffs tariff rules rule s old done done bad bad seen seen r r' number line false from before after log0 log log st n
+              (holds_start seen.count r' at) (sym (ap is_skipped at)) (λ k is. start_not_document k (sym at ∙ is)))),
+        )
+    replied_on (reply.Asked q) (Some failure) faults faults' (unskipped, none, asks, at) put (same, (text, answers, puts)) =
+        subst (λ (l : Option (List ℕ)). Broken tariffs tariff rules rule s old new.system from after log0 l) (sym put)
+        (subst (λ (x : Seen). Broken tariffs tariff rules rule s old x.system from after log0 log) (sym same)
+        (broken_still tariffs tariff rules rule s old done bad seen from before after log0 log log st.so_far shown text (inr (inr (refl, (q, answers st.so_far.now.world st.so_far.matches)))) puts.put
+        (logged_all tariffs tariff rules rule s old done bad seen log0 log st.so_far)))
     replied_on reply.Refused None faults faults' (unskipped, refused) put (same, puts) =
         let n = so_far_refused tariffs tariff rules rule s old done bad seen log0 log (option_map written_of before) (option_map written_of after) number (is_skipped r'.place)
         (record st.so_far.now { lines = st.so_far.now.lines ++ (st.pending ++ line ∷ []); text = st.so_far.now.text ++ refusal_line number })
@@ -263,7 +284,7 @@ module _ {F U : Type 0} (tariffs : Shared F (Bor Usage × Unit {0}) Charge) (tar
     replied_on reply.Refused (Some failure) faults faults' (unskipped, refused) put (same, puts) =
         subst (λ (l : Option (List ℕ)). Broken tariffs tariff rules rule s old new.system from after log0 l) (sym put)
         (subst (λ (x : Seen). Broken tariffs tariff rules rule s old x.system from after log0 log) (sym same)
-        (broken_still tariffs tariff rules rule s old done bad seen from before after log0 log log st.so_far shown (refusal_line number) (inr (number, inr (sym (append-nil (refusal_line number))))) puts.put
+        (broken_still tariffs tariff rules rule s old done bad seen from before after log0 log log st.so_far shown (refusal_line number) (inr (inl (number, inr (sym (append-nil (refusal_line number)))))) puts.put
         (logged_all tariffs tariff rules rule s old done bad seen log0 log st.so_far)))
     replied_on reply.More None faults faults' (holds, stays) put (none, same, quiet, still) = (
       done,
@@ -314,6 +335,7 @@ module _ {F U : Type 0} (tariffs : Shared F (Bor Usage × Unit {0}) Charge) (tar
         → LogsReply answer r'.text (Some failure) log log' faults faults' → Broken tariffs tariff rules rule s old seen.system from after log0 log'
     unlogged_by (reply.Item next timed) failure faults faults' after_is replies puts = unlogged next timed after_is replies puts.put
     unlogged_by reply.Rest failure faults faults' after_is replies (none, same, still) = absurd (some_none failure none)
+    unlogged_by (reply.Asked q) failure faults faults' after_is replies (none, same, still) = absurd (some_none failure none)
     unlogged_by reply.Refused failure faults faults' after_is replies (none, same, still) = absurd (some_none failure none)
     unlogged_by reply.More failure faults faults' after_is replies (none, same, still) = absurd (some_none failure none)
     unlogged_by reply.SkippedAll failure faults faults' after_is replies (none, same, still) = absurd (some_none failure none)

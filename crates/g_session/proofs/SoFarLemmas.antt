@@ -27,9 +27,10 @@ use Rattle.g_day.proofs.PutLemmas.{with_more-append, with_more-nil}
 use Rattle.g_ticks.specs.Tick.{IsBetween}
 use Rattle.g_ticks.specs.Parts.{Anything, Arrives, IsAtRest, Leads, PartGoes}
 use Rattle.g_typing.specs.Reader.{IsComplete, when_of}
-use Rattle.g_typing.specs.Typed.{AtOnce, AtTime, IsUnfinished}
+use Rattle.g_typing.specs.Typed.{AtOnce, AtTime, IsQuery, IsUnfinished}
 use Rattle.g_typing.specs.declared.item.ItemReader.{ItemReader}
-use Rattle.g_laws_sessions.specs.Session.{EndsWithLine, Exchange, Exchanges, Moment, Nothing, RefusesLine, Refused, Rested, Skipped, Then, Took, Unclosed, beginning, first_refused, is_over, is_skipping, item_in, items_of, or_else, refusal_line, script_of, taken, tick_line}
+use Rattle.g_typing.specs.declared.query.Query.{Query}
+use Rattle.g_laws_sessions.specs.Session.{Asked, EndsWithLine, Exchange, Exchanges, IsAnswer, Moment, Nothing, RefusesLine, Refused, Rested, Skipped, Then, Took, Unclosed, beginning, first_refused, is_over, is_skipping, item_in, items_of, or_else, refusal_line, script_of, taken, tick_line}
 use Rattle.g_laws_sessions.proofs.SessionLemmas.{reaches, taken_more, taken_same}
 use Rattle.g_session.specs.Parts.{SoFar}
 use Rattle.g_session.specs.Taking.{TakesItem}
@@ -263,6 +264,33 @@ module _ {F U : Type 0} (tariffs : Shared F (Bor Usage × Unit {0}) Charge) (tar
         put = put ∙ ap (λ (l : Option (List ℕ)). with_more l (tick_line new.count)) a.put ∙ with_more-append before a.added (tick_line new.count)
             ∙ ap (λ (n : ℕ). with_more before (a.added ++ tick_line n)) (sym a.matches.count);
       }
+
+  -- A QUESTION WAS ANSWERED
+  pub so_far_asked : (s : State) (old : Devices) (done : List Timed) (bad : Option ℕ) (was : Seen) (log0 log before_put after_put : Option (List ℕ)) (q : Query) (line text : List ℕ)
+      → (f : SoFar tariffs tariff rules rule s old done bad was log0 log) → is_skipping f.said ≡ false → is_over f.said ≡ false
+      → IsQuery line q → IsAnswer q f.now.world text → after_put ≡ with_more before_put text
+      → Next s old done bad was log0 log f.now (line ∷ []) false before_put after_put
+  so_far_asked s old done bad was log0 log before_put after_put q line text f skipping over asks answers put = record {
+    so_far = record {
+      said = Then f.said (Asked q);
+      now = record f.now { lines = f.now.lines ++ line ∷ []; text = f.now.text ++ text };
+      comes = (f.now, f.comes, (skipping, over), record { line = line; asks = asks; answer = text; answers = answers; after_is = refl });
+      matches = f.matches;
+      between = f.between;
+      none_bad = f.none_bad;
+      counted = f.counted;
+      taken_is = taken_same f.said (Asked q) refl ∙ f.taken_is;
+      first = f.first ∙ sym (first_same (first_refused f.said));
+      log_is = f.log_is ∙ ap (λ (x : List ℕ). with_more log0 x) (sym (script_more f.said (Asked q) ∙ append-nil (script_of f.said)));
+      one_lines = subst (λ (ls : List WrittenItem). All IsOneLine (flat_map item_lines ls)) (sym (append-nil (items_of f.said))) f.one_lines;
+    };
+    skipping = refl;
+    going = refl;
+    lines_are = refl;
+    added = text;
+    text = refl;
+    put = put;
+  }
 
   -- A LINE WAS REFUSED
   pub so_far_refused : (s : State) (old : Devices) (done : List Timed) (bad : Option ℕ) (was : Seen) (log0 log before_put after_put : Option (List ℕ)) (k : ℕ) (skips : Bool) (after : Moment)

@@ -13,7 +13,6 @@ abbrev pub IsRequested : Option Transcript → Requested → List ℕ → Option
 IsRequested before (requested.Line n) into after = (n ≤ length into) × IsLineTaken before n into after
 IsRequested before requested.End into after = Continues before End after
 IsRequested before requested.Failed into after = Continues before Failed after
-IsRequested before requested.NoMemory into after = after ≡ before
 
 abbrev pub RequestCause : Requested → ℕ → ℕ → Type 0
 RequestCause requested.Failed old new = Rose old new

@@ -10,15 +10,17 @@ use Rattle.g_rules.specs.declared.rule.Standing.{Standing}
 use Rattle.g_script.specs.declared.operator.Timed.{Timed}
 use Rattle.g_store_model.specs.State.{State}
 use Rattle.g_run_model.specs.Devices.{Devices}
+use Rattle.g_run_model.specs.World.{World}
 use Rattle.g_day.specs.declared.progress.Failure.{Failure}
 use Rattle.g_day.specs.declared.progress.Failure.TheVariants as failures
-use Rattle.g_day.specs.Parts.{Seen}
+use Rattle.g_day.specs.Parts.{Matches, Seen}
 use Rattle.g_day.specs.Puts.{Puts}
 use Rattle.g_ticks.specs.Parts.{IsTimedWithin, Keeps}
 use Rattle.g_typing.specs.declared.item.ItemReader.{ItemReader}
 use Rattle.g_typing.specs.declared.item.Reply.{Reply}
 use Rattle.g_typing.specs.declared.item.Reply.TheVariants as reply
-use Rattle.g_laws_sessions.specs.Session.{or_else, refusal_line}
+use Rattle.g_typing.specs.declared.query.Query.{Query}
+use Rattle.g_laws_sessions.specs.Session.{IsAnswer, or_else, refusal_line}
 use Rattle.g_session.specs.Parts.{Broken, Stands}
 use Rattle.g_session.specs.Session.{LastWas}
 use Rattle.g_session.specs.Taking.{DidRestAndTell, DidTake}
@@ -28,6 +30,10 @@ use Rattle.g_session.specs.declared.exchange.Course.TheVariants as course
 abbrev pub failure_of : Course → Option Failure
 failure_of (course.Breaks failure) = Some failure
 failure_of other = None
+
+-- the answer to a question, in any world that matches what is at hand
+abbrev pub AnswersIn : Query → Seen → List ℕ → Type 0
+AnswersIn q old text = (w : World) → Matches w old → IsAnswer q w text
 
 abbrev pub course_after : Option Failure → Course
 course_after None = course.Goes
@@ -74,6 +80,7 @@ module _ {F U : Type 0} (tariffs : Shared F (Bor Usage × Unit {0}) Charge) (tar
   abbrev pub DidReply : Reply → ℕ → Seen → Option Failure → Seen → Option (List ℕ) → Option (List ℕ) → ℕ → ℕ → Type 0
   DidReply (reply.Item next timed) number old failure new before after faults faults' = DidTake tariffs tariff rules rule timed next old failure new before after faults faults'
   DidReply reply.Rest number old failure new before after faults faults' = DidRestAndTell tariffs tariff rules rule old failure new before after faults faults'
+  DidReply (reply.Asked q) number old failure new before after faults faults' = (new ≡ old) × ((text : List ℕ) × AnswersIn q old text × Puts failure text before after faults faults')
   DidReply reply.Refused number old failure new before after faults faults' = (new ≡ old) × Puts failure (refusal_line number) before after faults faults'
   DidReply other number old failure new before after faults faults' = (failure ≡ None) × (new ≡ old) × (after ≡ before) × (faults' ≡ faults)
 

@@ -4,3 +4,4 @@ pub mod Exchanging
 pub mod Parts
 pub mod Session
 pub mod Taking
+pub mod Standing

@@ -22,7 +22,7 @@ use Rattle.g_ticks.specs.Tick.{IsBetween}
 use Rattle.g_typing.specs.Reader.{Holds, is_skipped}
 use Rattle.g_typing.specs.declared.item.ItemReader.{ItemReader}
 use Rattle.g_typing.specs.declared.item.Place.TheVariants as place
-use Rattle.g_laws_sessions.specs.Session.{AlwaysAnswers, Comes, Exchanges, Moment, first_refused, is_over, is_skipping, items_of, refusal_line, script_of, taken, tick_line}
+use Rattle.g_laws_sessions.specs.Session.{AlwaysAnswers, Comes, Exchanges, IsOwed, Moment, first_refused, is_over, is_skipping, items_of, script_of, taken}
 
 module _ {F U : Type 0} (tariffs : Shared F (Bor Usage × Unit {0}) Charge) (tariff : F) (rules : Shared U (Bor Standing × Unit {0}) ℕ) (rule : U) where
   -- THE EXCHANGES SO FAR, from a state for which the devices stood when the session began
@@ -79,7 +79,7 @@ module _ {F U : Type 0} (tariffs : Shared F (Bor Usage × Unit {0}) Charge) (tar
     pub rest : List ℕ
     pub told : last.text ≡ now.world.text ++ rest
     pub owed : List ℕ
-    pub own : (owed ≡ rest) ⊎ ((n : ℕ) × ((owed ≡ rest ++ tick_line n) ⊎ (owed ≡ refusal_line n ++ rest)))
+    pub own : IsOwed now.world owed rest
     pub lines : from ≡ Some blank → (t : Transcript) → transcript ≡ Some t → (later : List (List ℕ)) × (lines_typed t.requests ≡ now.lines ++ later)
     pub put : from ≡ Some blank → (t : Transcript) → transcript ≡ Some t → (k : ℕ) × (k ≤ length owed) × (t.text ≡ now.text ++ take k owed)
     pub answers : from ≡ Some blank → (t : Transcript) → transcript ≡ Some t → AlwaysAnswers tariffs tariff rules rule s t

@@ -2,12 +2,15 @@
 ghost use Rattle.std.specs.Prelude.{◌≡◌, ◌≤◌, ℕ, List, Option, length};
 ghost use Rattle.g_session.specs.Asking.{HearingCause, Hears, IsRequested, RequestCause};
 
+use arrayvec::ArrayVec;
 use g_base::NoMemory;
 use g_console::Console;
-use g_lines::push_decimal;
-use g_name::Text;
 use g_typing::{ItemReader, Place, Reply};
+use itoa::Buffer;
 use std::alloc::Global;
+
+/// The most bytes that a prompt may have: a count, or the line that ends a document, and two more.
+const MOST_PROMPT: usize = 24;
 
 /// One byte more than a line may have: a longer line is refused by its length.
 const BUFFER: usize = 161;
@@ -20,7 +23,6 @@ pub(crate) enum Requested {
     End,
     /// The request failed.
     Failed,
-    NoMemory,
 }
 
 /// What the next line was.
@@ -46,26 +48,18 @@ pub(crate) fn hear<C: Console>(
     ensures cause { HearingCause result (C.faults console.old) (C.faults console.new) }
 {
     let mut buffer = [0u8; BUFFER];
-    match request(
-        alloc,
-        reader.place != Place::Start,
-        count,
-        console,
-        &mut buffer,
-    ) {
+    match request(reader.place != Place::Start, count, console, &mut buffer) {
         Requested::Line(length) => match reader.reply(alloc, number, count, &buffer[..length]) {
             Ok(reply) => Heard::Reply(reply),
             Err(NoMemory) => Heard::NoMemory,
         },
         Requested::End => Heard::End,
         Requested::Failed => Heard::Failed,
-        Requested::NoMemory => Heard::NoMemory,
     }
 }
 
 /// Requests a line. The prompt has the count of ticks, or, in a document, the line that ends it.
 pub(crate) fn request<C: Console>(
-    alloc: Global,
     in_document: bool,
     count: u64,
     console: &mut C,
@@ -74,9 +68,7 @@ pub(crate) fn request<C: Console>(
     ensures line { IsRequested (C.transcript console.old) result into.new (C.transcript console.new) }
     ensures cause { RequestCause result (C.faults console.old) (C.faults console.new) }
 {
-    let Ok(prompt) = prompt(alloc, in_document, count) else {
-        return Requested::NoMemory;
-    };
+    let prompt = prompt(in_document, count);
     match console.take_line(prompt.as_slice(), into) {
         Ok(Some(count)) => Requested::Line(count),
         Ok(None) => Requested::End,
@@ -85,13 +77,15 @@ pub(crate) fn request<C: Console>(
 }
 
 /// The prompt.
-fn prompt(alloc: Global, in_document: bool, count: u64) -> Result<Text, NoMemory> {
-    let mut text = Text::new(alloc);
-    if in_document {
-        text.extend(b"****")?;
+fn prompt(in_document: bool, count: u64) -> ArrayVec<u8, MOST_PROMPT> {
+    let mut digits = Buffer::new();
+    let front = if in_document {
+        b"****".as_slice()
     } else {
-        push_decimal(&mut text, count)?;
-    }
-    text.extend(b"> ")?;
-    Ok(text)
+        digits.format(count).as_bytes()
+    };
+    let mut text = ArrayVec::new();
+    let _fits = text.try_extend_from_slice(front);
+    let _fits_too = text.try_extend_from_slice(b"> ");
+    text
 }

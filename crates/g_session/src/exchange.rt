@@ -14,9 +14,12 @@ ghost use Rattle.g_typing.specs.Reader.{Holds};
 ghost use Rattle.g_session.specs.Exchanging as parts;
 ghost use Rattle.g_session.specs.Exchanging.{AfterExchange, CourseCause, DidAnswer, IsReplyWithin, KeepsOne, LogsReply, bad_after};
 ghost use Rattle.g_session.specs.Parts.{Stands};
+ghost use Rattle.g_session.specs.Standing.{serials_in};
 
+use crate::answering::{MOST_REELS, answer_query};
 use crate::asking::{Heard, hear};
 use crate::taking::{own_line, rest_and_tell, take};
+use arrayvec::ArrayVec;
 use g_console::Console;
 use g_day::{Day, Ended, Failure, put_made};
 use g_disc::Disc;
@@ -40,10 +43,13 @@ pub(crate) enum Course {
     Breaks(Failure),
 }
 
-/// A session between two lines: the system, the item that is being typed, the number of the next line, and the first line that was refused.
+/// A session between two lines: the system, the serials of its reels, the item that is being typed, the number of the next line, and the first line that
+/// was refused.
 #[derive(Drop)]
 pub(crate) struct Talk<D: Disc, T: Tapes> {
     pub(crate) day: Day<D, T>,
+    /// The serials of all reels, which never change.
+    pub(crate) serials: ArrayVec<u32, MOST_REELS>,
     pub(crate) reader: ItemReader,
     pub(crate) number: u64,
     pub(crate) bad: Option<u64>,
@@ -68,10 +74,12 @@ pub(crate) fn exchange<
     requires ready { IsReady talk.day.system talk.day.crew }
     requires open { AreOpen talk.day.crew.jobs }
     requires numbers { talk.day.crew.next_job + 1 < 18446744073709551616 }
+    requires reels { talk.serials.items ≡ serials_in talk.day.system }
     requires typed { (lines : List (List ℕ)) × Holds talk.day.count lines talk.reader }
     requires tariff { IsTariff F.Fn rules.now.tariff.now }
     requires rule { IsWeighRule U.Fn rules.now.weigh.now }
     ensures number { result.number ≡ talk.number }
+    ensures serials { result.serials.items ≡ talk.serials.items }
     ensures typed { result.course ≡ Course.Goes → (lines : List (List ℕ)) × Holds result.day.count lines result.reader }
     ensures keeps { KeepsOne talk.day result.course result.day }
     ensures cause { CourseCause result.course (C.faults console.old) (C.faults console.new) (L.faults log.old) (L.faults log.new) }
@@ -81,6 +89,7 @@ pub(crate) fn exchange<
 {
     let Talk {
         day,
+        serials,
         mut reader,
         number,
         bad,
@@ -91,6 +100,7 @@ pub(crate) fn exchange<
             None => {
                 let talk = Talk {
                     day,
+                    serials,
                     reader,
                     number,
                     bad,
@@ -100,6 +110,7 @@ pub(crate) fn exchange<
             }
             Some(failure) => Talk {
                 day,
+                serials,
                 reader,
                 number,
                 bad,
@@ -108,6 +119,7 @@ pub(crate) fn exchange<
         },
         Heard::End => Talk {
             day,
+            serials,
             reader,
             number,
             bad,
@@ -115,6 +127,7 @@ pub(crate) fn exchange<
         },
         Heard::Failed => Talk {
             day,
+            serials,
             reader,
             number,
             bad,
@@ -122,6 +135,7 @@ pub(crate) fn exchange<
         },
         Heard::NoMemory => Talk {
             day,
+            serials,
             reader,
             number,
             bad,
@@ -165,10 +179,12 @@ fn answer<C: Console, D: Disc, T: Tapes, F: Fn(&Usage) -> Charge, U: Fn(&Standin
     requires open { AreOpen talk.day.crew.jobs }
     requires within { IsReplyWithin reply }
     requires numbers { talk.day.crew.next_job + 1 < 18446744073709551616 }
+    requires reels { talk.serials.items ≡ serials_in talk.day.system }
     requires tariff { IsTariff F.Fn rules.now.tariff.now }
     requires rule { IsWeighRule U.Fn rules.now.weigh.now }
     ensures reader { result.reader ≡ talk.reader }
     ensures number { result.number ≡ talk.number }
+    ensures serials { result.serials.items ≡ talk.serials.items }
     ensures bad { result.bad ≡ bad_after reply talk.number talk.bad }
     ensures did { talk.course ≡ Course.Goes → DidAnswer F.Fn rules.now.tariff.now U.Fn rules.now.weigh.now reply talk.number talk.day result.course result.day
         (C.written console.old) (C.written console.new) (C.faults console.old) (C.faults console.new) }
@@ -186,6 +202,13 @@ fn answer<C: Console, D: Disc, T: Tapes, F: Fn(&Usage) -> Charge, U: Fn(&Standin
             let Ended { day, failure } = rest_and_tell(alloc, talk.day, rules, console);
             Talk {
                 day,
+                course: course_after(failure),
+                ..talk
+            }
+        }
+        Reply::Asked(query) => {
+            let failure = answer_query(alloc, query, &talk.day, talk.serials.as_slice(), console);
+            Talk {
                 course: course_after(failure),
                 ..talk
             }

@@ -20,7 +20,9 @@ ghost use Rattle.g_session.specs.Ending.{AfterLines, DidOpen, DidSession, EndCau
 ghost use Rattle.g_session.specs.Exchanging.{CourseCause, failure_of};
 ghost use Rattle.g_session.specs.Parts.{Stands};
 ghost use Rattle.g_session.specs.Session.{EndsSession, IsOfSession, SessionCause};
+ghost use Rattle.g_session.specs.Standing.{rack_serials, serials_in};
 
+use crate::answering::serials_of;
 use crate::exchange::{Course, Talk, exchange, refuse};
 use crate::taking::rest;
 use g_console::Console;
@@ -153,6 +155,7 @@ fn session_on<
 
 /// A session before its first line, with the system down.
 fn first_talk<D: Disc, T: Tapes>(alloc: Global, devices: (D, T)) -> Talk<D, T>
+    ensures serials { result.serials.items ≡ rack_serials (T.rack devices.1) }
     ensures day { result.day ≡ first_seen (both (D.state devices.0) (T.rack devices.1)) }
     ensures reader { result.reader.place ≡ Place.Start }
     ensures number { result.number ≡ 1 }
@@ -160,6 +163,7 @@ fn first_talk<D: Disc, T: Tapes>(alloc: Global, devices: (D, T)) -> Talk<D, T>
     ensures course { result.course ≡ Course.Goes }
 {
     let (disc, tapes) = devices;
+    let serials = serials_of(&tapes);
     let tapes = KnownReels::new(alloc, tapes);
     let crew = Crew::new(alloc);
     // The first line begins an item.
@@ -171,6 +175,7 @@ fn first_talk<D: Disc, T: Tapes>(alloc: Global, devices: (D, T)) -> Talk<D, T>
             crew,
             count: 0,
         },
+        serials,
         reader,
         number: 1,
         bad: None,
@@ -220,6 +225,7 @@ fn answer_lines<
     requires open { AreOpen talk.day.crew.jobs }
     requires first { talk.number ≡ 1 }
     requires numbers { talk.day.crew.next_job ≤ talk.number }
+    requires reels { talk.serials.items ≡ serials_in talk.day.system }
     requires typed { (lines : List (List ℕ)) × Holds talk.day.count lines talk.reader }
     requires goes { talk.course ≡ Course.Goes }
     requires tariff { IsTariff F.Fn rules.now.tariff.now }

@@ -209,6 +209,7 @@ module _ (count : ℕ) (lines : List (List ℕ)) (timed : Bool) (text : List ℕ
   document_refuses p line skipped other wrong = record {
     begun = inr (codes "****", end_follows);
     some = λ none. absurd (some_lines none);
+    unasked = λ none. absurd (some_lines none);
     bad = bad_line line other wrong;
     skips = inl (
       subst (λ (ls : List (List ℕ)). BeginsDocument (first_of ls line)) (sym d.lines_are)
@@ -243,6 +244,7 @@ pub closed_replies : (was : Place) (number count : ℕ) (lines : List (List ℕ)
     → IfOk result (λ answer. IsClosed count lines answer r) → Replies was number count lines line result r
 closed_replies was number count lines line (Ok (reply.Item next timed)) r going is closed = (going, subst (λ (l : List ℕ). IsComplete count (lines ++ l ∷ []) next timed r) (sym is) closed)
 closed_replies was number count lines line (Ok reply.Rest) r going is closed = absurd closed
+closed_replies was number count lines line (Ok (reply.Asked q)) r going is closed = absurd closed
 closed_replies was number count lines line (Ok reply.Refused) r going is closed = absurd closed
 closed_replies was number count lines line (Ok reply.More) r going is closed = absurd closed
 closed_replies was number count lines line (Ok reply.SkippedAll) r going is closed = absurd closed

@@ -16,7 +16,7 @@ use Rattle.g_typing.specs.declared.item.Place.TheVariants as place
 use Rattle.g_typing.specs.declared.item.Reply.{Reply}
 use Rattle.g_typing.specs.declared.item.Reply.TheVariants as reply
 use Rattle.g_base.specs.declared.memory.NoMemory.{NoMemory}
-use Rattle.g_typing.specs.Typed.{BeginsDocument, CanFollow, IsTyped, IsTypedHead, When}
+use Rattle.g_typing.specs.Typed.{BeginsDocument, CanFollow, IsTyped, IsTypedHead, IsUnasked, When}
 use Rattle.g_typing.proofs.HeadLemmas.{asked_short, begins_job, head_line_is, head_short, heads, job_begins, job_only, job_text, one_asked, one_head, same_time, script_head, turn_fits, typed_head}
 
 -- the lines of an item that consists of its first line, and of a JOB without a document
@@ -111,14 +111,14 @@ module _ (count : ℕ) (first : List ℕ) (timed : Bool) (turn : ℕ) (asked : L
         is_item = typed.is_item;
       }
 
-  none_first : first ≢ [] → (CanFollow count [] first → ⊥) → (p : Place) → (BeginsDocument first × (p ≡ place.Skipped)) ⊎ ((BeginsDocument first → ⊥) × (p ≡ place.Start))
+  none_first : first ≢ [] → IsUnasked first → (CanFollow count [] first → ⊥) → (p : Place) → (BeginsDocument first × (p ≡ place.Skipped)) ⊎ ((BeginsDocument first → ⊥) × (p ≡ place.Start))
       → IsRefused count [] first p
-  none_first some bad p skips = record { begun = inl refl; some = λ e. some; bad = bad; skips = skips }
+  none_first some unasked bad p skips = record { begun = inl refl; some = λ e. some; unasked = λ e. unasked; bad = bad; skips = skips }
 
   -- ONE LINE is none
-  pub one_line_refused : (p : Place) → first ≢ [] → p ≡ place.Start → (JobText asked → ⊥) → IsOneItem (lines_of (text_of (whole_head ∷ []))) None → IsRefused count [] first p
-  one_line_refused p some start isnt no_item =
-      none_first some
+  pub one_line_refused : (p : Place) → first ≢ [] → IsUnasked first → p ≡ place.Start → (JobText asked → ⊥) → IsOneItem (lines_of (text_of (whole_head ∷ []))) None → IsRefused count [] first p
+  one_line_refused p some unasked start isnt no_item =
+      none_first some unasked
       (λ follow.
       let (item, when, all, typed, (more, is)) = follow in
       let b = begins item when all more typed is in
@@ -137,9 +137,9 @@ module _ (count : ℕ) (first : List ℕ) (timed : Bool) (turn : ℕ) (asked : L
                   absurd (no_job (subst (λ (x : WrittenOperator). JobText (written_text x)) (sym so) (job_text name user time money lines)))
 
   -- a line that is too long
-  pub too_long : (p : Place) → first ≢ [] → 160 < length first → (JobText asked × (p ≡ place.Skipped)) ⊎ ((JobText asked → ⊥) × (p ≡ place.Start)) → IsRefused count [] first p
-  too_long p some long skips =
-      none_first some
+  pub too_long : (p : Place) → first ≢ [] → IsUnasked first → 160 < length first → (JobText asked × (p ≡ place.Skipped)) ⊎ ((JobText asked → ⊥) × (p ≡ place.Start)) → IsRefused count [] first p
+  too_long p some unasked long skips =
+      none_first some unasked
       (λ follow.
       let (item, when, all, typed, (more, is)) = follow in
       let b = begins item when all more typed is in
@@ -203,9 +203,9 @@ module _ (count : ℕ) (first : List ℕ) (timed : Bool) (turn : ℕ) (asked : L
           }
 
   -- or none
-  pub document_refused : (p : Place) → first ≢ [] → p ≡ place.Skipped → JobText asked → IsOneItem (lines_of (text_of with_end)) None → IsRefused count [] first p
-  document_refused p some skipped job no_item =
-      none_first some
+  pub document_refused : (p : Place) → first ≢ [] → IsUnasked first → p ≡ place.Skipped → JobText asked → IsOneItem (lines_of (text_of with_end)) None → IsRefused count [] first p
+  document_refused p some unasked skipped job no_item =
+      none_first some unasked
       (λ follow.
       let (item, when, all, typed, (more, is)) = follow in
       let b = begins item when all more typed is in by item b.is_item b.head_is (subst JobText (sym b.asked_is) job) item.what refl) p (inl (job_begins count first timed turn asked head job, skipped))
@@ -233,20 +233,21 @@ module _ (count : ℕ) (first : List ℕ) (timed : Bool) (turn : ℕ) (asked : L
   text_end text is =
       ap (λ (t : List ℕ). t ++ codes "****\n") (is ∙ append-nil (whole_head ++ 10 ∷ [])) ∙ ap (λ (t : List ℕ). (whole_head ++ 10 ∷ []) ++ t) (sym (append-nil (codes "****\n")))
 
-  pub begun_replies : (number : ℕ) (old new : ItemReader) (result : Result Reply NoMemory) → first ≢ [] → length first ≤ 160 → JobText asked → old.text ≡ text_of (whole_head ∷ []) → old.timed ≡ timed
+  pub begun_replies : (number : ℕ) (old new : ItemReader) (result : Result Reply NoMemory) → first ≢ [] → IsUnasked first → length first ≤ 160 → JobText asked → old.text ≡ text_of (whole_head ∷ []) → old.timed ≡ timed
       → IfOk result (λ reply. IsBegun number old reply new) → Replies place.Start number count [] first result new
-  begun_replies number old new (Ok reply.More) some short job text_is timed_is (is, (next, one_item)) =
+  begun_replies number old new (Ok reply.More) some unasked short job text_is timed_is (is, (next, one_item)) =
       let there : IsOneItem (lines_of (text_of with_end)) (Some next) = subst (λ (t : List ℕ). IsOneItem (lines_of t) (Some next)) (text_end old.text text_is) one_item in
       let d : IsInDocument count (first ∷ []) timed old.text = document_begun old.text next short text_is there in
       let d_old : IsInDocument count (first ∷ []) old.timed old.text = subst (λ (b : Bool). IsInDocument count (first ∷ []) b old.text) (sym timed_is) d in
       subst (λ (r : ItemReader). Replies place.Start number count [] first (Ok reply.More) r) (sym is) (d_old, inr (refl, refl))
-  begun_replies number old new (Ok reply.Refused) some short job text_is timed_is (skipped, one_item) =
+  begun_replies number old new (Ok reply.Refused) some unasked short job text_is timed_is (skipped, one_item) =
       let none : IsOneItem (lines_of (text_of with_end)) None = subst (λ (t : List ℕ). IsOneItem (lines_of t) None) (text_end old.text text_is) one_item in
-      (refl, document_refused new.place some skipped job none)
-  begun_replies number old new (Ok (reply.Item next due)) some short job text_is timed_is begun = absurd begun
-  begun_replies number old new (Ok reply.Rest) some short job text_is timed_is begun = absurd begun
-  begun_replies number old new (Ok reply.SkippedAll) some short job text_is timed_is begun = absurd begun
-  begun_replies number old new (Err fault) some short job text_is timed_is begun = tt
+      (refl, document_refused new.place some unasked skipped job none)
+  begun_replies number old new (Ok (reply.Item next due)) some unasked short job text_is timed_is begun = absurd begun
+  begun_replies number old new (Ok reply.Rest) some unasked short job text_is timed_is begun = absurd begun
+  begun_replies number old new (Ok (reply.Asked q)) some unasked short job text_is timed_is begun = absurd begun
+  begun_replies number old new (Ok reply.SkippedAll) some unasked short job text_is timed_is begun = absurd begun
+  begun_replies number old new (Err fault) some unasked short job text_is timed_is begun = tt
 
 -- a refusal
 pub refused_replies : (was : Place) (number count : ℕ) (lines : List (List ℕ)) (line : List ℕ) (answer : Reply) (r : ItemReader) → answer ≡ reply.Refused → is_skipped was ≡ false

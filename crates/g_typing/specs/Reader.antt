@@ -6,7 +6,7 @@ use Rattle.g_lines.specs.Documents.{IsOneLine}
 use Rattle.g_lines.specs.Lines.{lines_of, text_of}
 use Rattle.g_script.specs.Script.{IsItem, Job, WrittenItem, head_line, item_lines, timed_said, written_text}
 use Rattle.g_script.specs.declared.operator.Timed.{Timed}
-use Rattle.g_typing.specs.Typed.{AtOnce, AtTime, BeginsDocument, CanFollow, IsShort, IsTyped, IsUnfinished, When, first_of, type_text}
+use Rattle.g_typing.specs.Typed.{AtOnce, AtTime, BeginsDocument, CanFollow, IsQuery, IsShort, IsTyped, IsUnasked, IsUnfinished, When, first_of, type_text}
 use Rattle.g_typing.specs.declared.item.ItemReader.{ItemReader}
 use Rattle.g_typing.specs.declared.item.Place.{Place}
 use Rattle.g_typing.specs.declared.item.Place.TheVariants as place
@@ -28,6 +28,10 @@ HasNoTime line = (t : ℕ) (rest : List ℕ) → t ≤ 1000000000 → line ≡ d
 
 abbrev pub IsTime : ℕ → List ℕ → List ℕ → Type 0
 IsTime t rest line = (t ≤ 1000000000) × (line ≡ decimal t ++ (32 ∷ rest))
+
+-- a line doesn't ask what a refusal means
+abbrev pub IsNoRefusal : List ℕ → Type 0
+IsNoRefusal line = (n : ℕ) → n ≤ 99 → line ≡ codes "HELP " ++ decimal n → ⊥
 
 -- the text of a JOB line, good or bad
 abbrev pub JobText : List ℕ → Type 0
@@ -82,6 +86,7 @@ is_skipped place = false
 pub record IsRefused (count : ℕ) (lines : List (List ℕ)) (line : List ℕ) (now : Place) : Type 0 where
   pub begun : IsUnfinished count lines
   pub some : lines ≡ [] → line ≢ []
+  pub unasked : lines ≡ [] → IsUnasked line
   pub bad : CanFollow count lines line → ⊥
   pub skips : (BeginsDocument (first_of lines line) × (now ≡ place.Skipped)) ⊎ ((BeginsDocument (first_of lines line) → ⊥) × (now ≡ place.Start))
 
@@ -117,6 +122,7 @@ IsClosed count lines reply r = ⊥
 abbrev pub Replies : Place → ℕ → ℕ → List (List ℕ) → List ℕ → Result Reply NoMemory → ItemReader → Type 0
 Replies was number count lines line (Ok (reply.Item next timed)) r = (is_skipped was ≡ false) × IsComplete count (lines ++ line ∷ []) next timed r
 Replies was number count lines line (Ok reply.Rest) r = (is_skipped was ≡ false) × (lines ≡ []) × (line ≡ []) × (r.place ≡ place.Start)
+Replies was number count lines line (Ok (reply.Asked q)) r = (is_skipped was ≡ false) × (lines ≡ []) × IsQuery line q × (r.place ≡ place.Start)
 Replies was number count lines line (Ok reply.Refused) r = (is_skipped was ≡ false) × IsRefused count lines line r.place
 Replies was number count lines line (Ok reply.More) r = Holds count (lines ++ line ∷ []) r × StaysIn was number lines r.place
 Replies was number count lines line (Ok reply.SkippedAll) r =

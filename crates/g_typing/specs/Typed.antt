@@ -3,6 +3,8 @@ use Rattle.std.specs.Prelude.{◌≡◌, ◌⊎◌, ◌≤◌, ℕ, max, List, [
 use Rattle.std.specs.Fmt.{decimal}
 use Rattle.g_lines.specs.Lines.{text_of}
 use Rattle.g_script.specs.Script.{IsItem, WrittenItem, behind_head, item_lines, written_text}
+use Rattle.g_typing.specs.declared.query.Query.{Query}
+use Rattle.g_typing.specs.declared.query.Query.TheVariants as query
 
 -- an item without a time is taken at once, and then the system runs until nothing can step; one with a time is taken as a line of a script, and
 -- nothing runs after it
@@ -49,6 +51,16 @@ abbrev pub BeginsDocument : List ℕ → Type 0
 BeginsDocument first =
     ((rest : List ℕ) × (first ≡ codes "JOB " ++ rest))
     ⊎ ((t : ℕ) × (rest : List ℕ) × (t ≤ 1000000000) × (first ≡ decimal t ++ (32 ∷ (codes "JOB " ++ rest))))
+
+-- A QUESTION to the console, which isn't an item: where things stand; what may be typed; what the refusal of some number means
+abbrev pub IsQuery : List ℕ → Query → Type 0
+IsQuery line query.State = line ≡ codes "?"
+IsQuery line query.Help = line ≡ codes "HELP"
+IsQuery line (query.Refusal n) = (n ≤ 99) × (line ≡ codes "HELP " ++ decimal n)
+
+-- a line asks no question
+abbrev pub IsUnasked : List ℕ → Type 0
+IsUnasked line = (q : Query) → IsQuery line q → ⊥
 
 abbrev pub first_of : List (List ℕ) → List ℕ → List ℕ
 first_of [] line = line

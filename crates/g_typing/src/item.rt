@@ -5,8 +5,9 @@ ghost use Rattle.g_lines.specs.Documents.{IsOneLine};
 ghost use Rattle.g_lines.specs.Lines.{ended, lines_of};
 ghost use Rattle.g_script.specs.Script.{IsPrinted};
 ghost use Rattle.g_typing.specs.Reader.{HasNoTime, Holds, IsBegun, IsClosed, IsHead, IsInDocument, IsOneItem, IsOneOrNot, IsTime, JobText, Replies, asked_by};
-ghost use Rattle.g_typing.specs.Typed.{IsShort};
+ghost use Rattle.g_typing.specs.Typed.{IsShort, IsUnasked};
 
+use crate::query::{Query, query_of};
 use g_base::NoMemory;
 use g_lines::{number, push_decimal, split_at_byte};
 use g_name::Text;
@@ -18,6 +19,9 @@ const MOST_LINE: usize = 160;
 
 /// The most bytes that an item may have before the line that ends its document: those of a script, less five.
 const MOST_OPEN: usize = 16_777_211;
+
+/// The initial capacity of an item's text in bytes: that of most lines.
+const ROOM: usize = 64;
 
 /// The most that a turn may be.
 const MOST_TURN: u64 = 1_000_000_000;
@@ -43,6 +47,8 @@ pub enum Reply {
     Item(Timed, bool),
     /// An empty line where an item may begin.
     Rest,
+    /// A question to the console where an item may begin.
+    Asked(Query),
     /// The line is none of the operator's, or none of a document.
     Refused,
     /// A document continues, also one that is skipped.
@@ -81,7 +87,7 @@ impl ItemReader {
         ensures { (lines : List (List ℕ)) → IsOneLine line.now → Holds count lines self.old → Replies self.old.place number count lines line.now result self.new }
     {
         match self.place {
-            Place::Start => self.begin(alloc, number, count, line),
+            Place::Start => self.ask_or_begin(alloc, number, count, line),
             Place::Document(_) => self.add(alloc, line),
             Place::Skipped => Ok(self.skip(line)),
         }
@@ -100,6 +106,23 @@ impl ItemReader {
         }
     }
 
+    /// Replies to a line where an item may begin.
+    fn ask_or_begin(
+        &mut self,
+        alloc: Global,
+        number: u64,
+        count: u64,
+        line: &[u8],
+    ) -> Result<Reply, NoMemory>
+        requires { self.old.place ≡ Place.Start }
+        ensures { IsOneLine line.now → Replies Place.Start number count [] line.now result self.new }
+    {
+        match query_of(line) {
+            Some(query) => Ok(Reply::Asked(query)),
+            None => self.begin(alloc, number, count, line),
+        }
+    }
+
     /// Replies to the first line of an item.
     fn begin(
         &mut self,
@@ -109,7 +132,7 @@ impl ItemReader {
         line: &[u8],
     ) -> Result<Reply, NoMemory>
         requires { self.old.place ≡ Place.Start }
-        ensures { IsOneLine line.now → Replies Place.Start number count [] line.now result self.new }
+        ensures { IsOneLine line.now → IsUnasked line.now → Replies Place.Start number count [] line.now result self.new }
     {
         if line.is_empty() {
             return Ok(Reply::Rest);
@@ -281,7 +304,7 @@ pub fn time_of(line: &[u8]) -> Option<(u64, &[u8])>
 fn script_line(alloc: Global, head: &Head<'_>) -> Result<Text, NoMemory>
     ensures { IfOk result (λ text. text ≡ ended (decimal head.now.turn ++ (32 ∷ asked_by head.now.digit head.now.text.now))) }
 {
-    let mut text = Text::new(alloc);
+    let mut text = Text::from(Vec::with_capacity(alloc, ROOM)?);
     push_decimal(&mut text, head.turn)?;
     text.push(b' ')?;
     push_asked(&mut text, head)?;

@@ -2,5 +2,7 @@
 #![tactic(auto)]
 
 mod item;
+mod query;
 
 pub use item::{ItemReader, Place, Reply, time_of};
+pub use query::Query;

@@ -10,6 +10,7 @@ use Rattle.g_session.specs.declared.exchange.Course.TheVariants as course
 use Rattle.g_session.proofs.BrokenLemmas.{broken_short}
 use Rattle.g_session.proofs.KeepLemmas.{many_more, many_none}
 use Rattle.g_session.proofs.LinesLemmas.{lines_stop}
+use Rattle.g_session.proofs.StandingLemmas.{serials_stay}
 use Rattle.g_session.proofs.top.answer_lines.Goals as goal
 
 pub lines-init : goal.lines-init
@@ -17,6 +18,7 @@ lines-init g c = record {
   goes = c.requires.goes;
   ready = c.requires.ready;
   open_ones = c.requires.open;
+  serials = refl;
   numbers = c.requires.numbers;
   typed = c.requires.typed;
   keeps = many_none course.Goes c.args.talk.day refl c.requires.ready c.requires.open;
@@ -24,6 +26,9 @@ lines-init g c = record {
   log_faults = refl;
   said = λ s old done from log0 st. (done, st);
 }
+
+pub exchange-talk-requires-clause-reels : goal.exchange-talk-requires-clause-reels
+exchange-talk-requires-clause-reels g c = c.lines.invariant.serials ∙ c.requires.reels ∙ serials_stay c.args.talk.day c.lines.talk.day c.lines.invariant.keeps.keeps.same
 
 pub returns-in_default-clause-keeps : goal.returns-in_default-clause-keeps
 returns-in_default-clause-keeps g c = many_more c.args.talk.day c.lines.talk.day course.Goes c.exchange-talk.result.course c.exchange-talk.result.day refl c.lines.invariant.keeps c.exchange-talk.ensures.keeps
@@ -43,6 +48,7 @@ lines-preserved g c =
       goes = goes;
       ready = (one.keeps.ready none).0;
       open_ones = (one.keeps.ready none).1;
+      serials = c.exchange-talk.ensures.serials ∙ c.lines.invariant.serials;
       numbers =
           let most = one.keeps.numbers none in
           let few = one.few in

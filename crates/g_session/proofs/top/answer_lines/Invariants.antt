@@ -17,6 +17,7 @@ invariant-lines g l = record {
   goes : l.talk.course ≡ course.Goes;
   ready : IsReady l.talk.day.system l.talk.day.crew;
   open_ones : AreOpen l.talk.day.crew.jobs;
+  serials : l.talk.serials.items ≡ l.fn.talk.serials.items;
   numbers : l.talk.day.crew.next_job ≤ l.talk.number;
   typed : (lines : List (List ℕ)) × Holds l.talk.day.count lines l.talk.reader;
   keeps : KeepsMany l.fn.talk.day course.Goes l.talk.day;

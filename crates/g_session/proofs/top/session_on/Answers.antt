@@ -6,9 +6,13 @@ use Rattle.g_run_model.specs.Devices.{Devices}
 use Rattle.g_run_model.specs.Texts.{closing, waiting_files}
 use Rattle.g_session.specs.Ending.{DidSession, KeepsMany, first_seen}
 use Rattle.g_session.specs.Exchanging.{failure_of}
+use Rattle.g_session.specs.Standing.{serials_in}
 use Rattle.g_session.proofs.LinesLemmas.{stands_start}
 use Rattle.g_session.proofs.OverallLemmas.{did_session}
 use Rattle.g_session.proofs.top.session_on.Goals as goal
+
+pub answer_lines-talk-requires-clause-reels : goal.answer_lines-talk-requires-clause-reels
+answer_lines-talk-requires-clause-reels g c = c.first_talk.ensures.serials ∙ ap (λ (d : Seen). serials_in d.system) (sym c.first_talk.ensures.day)
 
 pub returns : goal.returns
 returns g c =

@@ -7,8 +7,8 @@ use Rattle.g_typing.proofs.item.ItemReader.reply.Goals as goal
 pub returns-in-Start : goal.returns-in-Start
 returns-in-Start c lines one holds =
     let none : lines ≡ [] = subst (λ (p : Place). HoldsAt p c.args.count lines c.args.self.now) c.in-Start.is holds in
-    subst (λ (p : Place). Replies p c.args.number c.args.count lines c.args.line.now c.begin.result c.begin.new.self) (sym c.in-Start.is)
-    (subst (λ (ls : List (List ℕ)). Replies place.Start c.args.number c.args.count ls c.args.line.now c.begin.result c.begin.new.self) (sym none) (c.begin.ensures one))
+    subst (λ (p : Place). Replies p c.args.number c.args.count lines c.args.line.now c.ask_or_begin.result c.ask_or_begin.new.self) (sym c.in-Start.is)
+    (subst (λ (ls : List (List ℕ)). Replies place.Start c.args.number c.args.count ls c.args.line.now c.ask_or_begin.result c.ask_or_begin.new.self) (sym none) (c.ask_or_begin.ensures one))
 
 pub returns-in-Document : goal.returns-in-Document
 returns-in-Document c lines one holds =
