@@ -14,6 +14,7 @@ use Rattle.g_look.specs.declared.fault.LookFault.TheVariants as fault
 use Rattle.g_look.specs.Text.{IsChecked}
 use Rattle.g_seal.specs.declared.entries.SealedDump.{SealedDump}
 use Rattle.g_seal.specs.declared.entries.SealedFile.{SealedFile}
+use Rattle.g_seal.specs.declared.twins.Twins.{Twins}
 use Rattle.g_seal.specs.Entries.{AreEntries}
 use Rattle.g_seal.specs.Rotten.{IsReport}
 use Rattle.g_seal.specs.SealText.{sealed_text}
@@ -39,13 +40,13 @@ check_faults fault.NoUser is = absurd is
 check_faults fault.NoFile is = absurd is
 check_faults fault.NoCopy is = absurd is
 
-module _ (size : ℕ) (held : Option (List (List ℕ))) (reels : List Reel) (dumps : List SealedDump) (files : List SealedFile) (ended : Status) (w : Written) where
-  pub report_failed : (why : LookFault) → CheckFaults why → TellsCheck (Err why) ended w → EndsReport ended size held reels dumps files w
+module _ (size : ℕ) (held : Option (List (List ℕ))) (reels : List Reel) (twins : Twins) (dumps : List SealedDump) (files : List SealedFile) (ended : Status) (w : Written) where
+  pub report_failed : (why : LookFault) → CheckFaults why → TellsCheck (Err why) ended w → EndsReport ended size held reels twins dumps files w
   report_failed why faults tells = inl (ends_fault size held reels why ended w faults tells, inl (failed_of why ended w faults tells))
 
   -- A REPORT
   pub report_found : (c : Checked) (report : List ℕ) → IsChecked size held reels c.verdict.broken c.verdict.missing c.text → ForSome held (λ blocks. IsTrue c.filestore ↔ ((d : Directory) × StandsFor blocks d))
-      → IsReport held reels dumps files report → TellsReport c report ended w → EndsReport ended size held reels dumps files w
+      → IsReport held reels twins dumps files report → TellsReport c report ended w → EndsReport ended size held reels twins dumps files w
   report_found c [] right store reported tells = inl (ends_check size held reels (Ok c) ended w right store tt tells, inr reported)
   report_found c (byte ∷ report) right store reported (inl puts) =
       inr (
@@ -66,14 +67,14 @@ module _ (size : ℕ) (held : Option (List (List ℕ))) (reels : List Reel) (dum
       inl (quiet_ends (λ s. EndsCheck s size held reels w) status.NoMemory ended w (λ q. q) quiet, inl (quiet_ends IsFailed status.NoMemory ended w (λ _. tt) quiet))
 
 -- the report of devices that were read before
-pub report_mid : (held now : Option (List (List ℕ))) (reels after : List Reel) (dumps : List SealedDump) (files : List SealedFile) (text : List ℕ) → now ≡ held → after ≡ reels → AllTold held reels
-    → (AllTold now after → IsReport now after dumps files text) → IsReport held reels dumps files text
-report_mid held now reels after dumps files text same left told is =
-    subst (λ (h : Option (List (List ℕ))). AllTold h reels → IsReport h reels dumps files text) same (subst (λ (rs : List Reel). AllTold now rs → IsReport now rs dumps files text) left is) told
+pub report_mid : (held now : Option (List (List ℕ))) (reels after : List Reel) (twins : Twins) (dumps : List SealedDump) (files : List SealedFile) (text : List ℕ) → now ≡ held → after ≡ reels → AllTold held reels
+    → (AllTold now after → IsReport now after twins dumps files text) → IsReport held reels twins dumps files text
+report_mid held now reels after twins dumps files text same left told is =
+    subst (λ (h : Option (List (List ℕ))). AllTold h reels → IsReport h reels twins dumps files text) same (subst (λ (rs : List Reel). AllTold now rs → IsReport now rs twins dumps files text) left is) told
 
 -- a check against the text of the own seal
-pub report_own : (size : ℕ) (held : Option (List (List ℕ))) (rack : Rack) (dumps : List SealedDump) (files : List SealedFile) (ended : Status) (w : Written) → AreReels rack.reels → AllTold held (told_reels rack) → AreEntries dumps files
-    → IsSealed held (told_reels rack) (sealed_text dumps files) → EndsReport ended size held (told_reels rack) dumps files w → EndsCheck ended size held (told_reels rack) w
-report_own size held rack dumps files ended w are told entries sealed (inl check) = check.0
-report_own size held rack dumps files ended w are told entries sealed (inr (text, compared, puts)) =
-    absurd (compared.some (own_is_quiet held rack dumps files compared.report are told entries sealed compared.reported))
+pub report_own : (size : ℕ) (held : Option (List (List ℕ))) (rack : Rack) (twins : Twins) (dumps : List SealedDump) (files : List SealedFile) (ended : Status) (w : Written) → AreReels rack.reels → AllTold held (told_reels rack) → AreEntries dumps files
+    → IsSealed held (told_reels rack) (sealed_text dumps files) → EndsReport ended size held (told_reels rack) twins dumps files w → EndsCheck ended size held (told_reels rack) w
+report_own size held rack twins dumps files ended w are told entries sealed (inl check) = check.0
+report_own size held rack twins dumps files ended w are told entries sealed (inr (text, compared, puts)) =
+    absurd (compared.some (own_is_quiet held rack twins dumps files compared.report are told entries sealed compared.reported))

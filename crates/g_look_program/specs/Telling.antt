@@ -26,6 +26,7 @@ use Rattle.g_seal.specs.declared.entries.SealedFile.{SealedFile}
 use Rattle.g_seal.specs.declared.parse.SealFault.{SealFault}
 use Rattle.g_seal.specs.declared.parse.SealFault.TheVariants as refusal
 use Rattle.g_seal.specs.declared.sealing.Sealed.{Sealed}
+use Rattle.g_seal.specs.declared.twins.Twins.{Twins}
 use Rattle.g_seal.specs.Rotten.{IsReport}
 use Rattle.g_seal.specs.Sealing.{HasLost, IsSealed}
 use Rattle.g_look_program.specs.declared.status.Status.{Status}
@@ -167,10 +168,14 @@ IsToldOf status.No = Unit {0}
 IsToldOf status.Nothing = Unit {0}
 IsToldOf ended = ⊥
 
--- THE END OF A CHECK AGAINST A SEAL in a second rack that exposes its blocks, after one of the first that ended with the status `so_far`. After a
--- failure nothing is printed.
+-- The text is printed, and the status is No; or nothing is, if the text is empty. Or memory ran out.
+abbrev pub EndsLines : Status → List ℕ → Status → Written → Type 0
+EndsLines so_far text ended w =
+    ((text ≡ []) × EndsQuietly so_far ended w) ⊎ (((text ≢ []) × Puts status.No text ended w) ⊎ EndsQuietly status.NoMemory ended w)
+
+-- THE END OF A CHECK AGAINST A SEAL in a second rack, after one of the first that ended with the status `so_far`. After a failure nothing is printed.
 abbrev pub EndsRottenTwins : Status → List ℕ → Status → Written → Type 0
-EndsRottenTwins so_far text ended w = (IsToldOf so_far × EndsTwins so_far text ended w) ⊎ ((IsToldOf so_far → ⊥) × EndsQuietly so_far ended w)
+EndsRottenTwins so_far text ended w = (IsToldOf so_far × EndsLines so_far text ended w) ⊎ ((IsToldOf so_far → ⊥) × EndsQuietly so_far ended w)
 
 -- THE END OF A LOOK AT THE DUMPS, if the reels expose their blocks.
 abbrev pub EndsDumps : Status → (ℕ → List Dump) → List Reel → Written → Type 0
@@ -247,13 +252,13 @@ TellsReport c [] ended w = TellsCheck (Ok c) ended w
 TellsReport c (byte ∷ report) ended w = Puts status.No (c.text ++ byte ∷ report) ended w ⊎ EndsQuietly status.NoMemory ended w
 
 -- A check against a seal with these dumps and files: what a check finds, the text of a check, and the report after it, which isn't empty.
-pub record IsCompared (size : ℕ) (held : Option (List (List ℕ))) (reels : List Reel) (dumps : List SealedDump) (files : List SealedFile) (text : List ℕ) : Type 0 where
+pub record IsCompared (size : ℕ) (held : Option (List (List ℕ))) (reels : List Reel) (twins : Twins) (dumps : List SealedDump) (files : List SealedFile) (text : List ℕ) : Type 0 where
   pub broken : Option Broken
   pub missing : Option ℕ
   pub front : List ℕ
   pub checked : IsChecked size held reels broken missing front
   pub report : List ℕ
-  pub reported : IsReport held reels dumps files report
+  pub reported : IsReport held reels twins dumps files report
   pub some : report ≢ []
   pub text_is : text ≡ front ++ report
 
@@ -264,12 +269,12 @@ IsFailed status.OutputFault = Unit {0}
 IsFailed status.NoMemory = Unit {0}
 IsFailed ended = ⊥
 
--- THE END OF A CHECK AGAINST A SEAL of devices that expose their blocks, whose seal has these dumps and files. If the report is empty, it is the end of
+-- THE END OF A CHECK AGAINST A SEAL of devices that expose their blocks, whose seal has these dumps and files, and a second rack these twins of them. If the report is empty, it is the end of
 -- a check. Otherwise the text of the check and the report are printed, and the status is No.
-abbrev pub EndsReport : Status → ℕ → Option (List (List ℕ)) → List Reel → List SealedDump → List SealedFile → Written → Type 0
-EndsReport ended size held reels dumps files w =
-    (EndsCheck ended size held reels w × (IsFailed ended ⊎ IsReport held reels dumps files []))
-    ⊎ ((text : List ℕ) × IsCompared size held reels dumps files text × Puts status.No text ended w)
+abbrev pub EndsReport : Status → ℕ → Option (List (List ℕ)) → List Reel → Twins → List SealedDump → List SealedFile → Written → Type 0
+EndsReport ended size held reels twins dumps files w =
+    (EndsCheck ended size held reels w × (IsFailed ended ⊎ IsReport held reels twins dumps files []))
+    ⊎ ((text : List ℕ) × IsCompared size held reels twins dumps files text × Puts status.No text ended w)
 
 -- A LOOK LEAVES THE DISC unchanged, except for the count of failed reads.
 pub record LeavesDisc (before after : DiscState) : Type 0 where

@@ -17,27 +17,42 @@ use g_devices::look_at;
 use g_disc::Disc;
 use g_io::Sink;
 use g_known::KnownReels;
-use g_look::check;
-use g_seal::{Seal, parse_seal, rotten};
+use g_look::{LookFault, check};
+use g_seal::{Seal, SealFault, Twins, parse_seal, rotten, twins_of};
 use g_tape::Tapes;
 use std::alloc::Global;
 use std::fs::File;
 use std::io::{self, Error, ErrorKind, Read};
+
+/// A seal, and what a second rack has of it.
+#[derive(Drop)]
+pub struct Against {
+    pub seal: Seal,
+    pub twins: Twins,
+}
 
 /// Checks image and rack against the seal in this file, which is read and parsed first. Returns 8 if it isn't a seal, and 7 if image or rack can't
 /// be used.
 pub(crate) fn against_file<K: Sink>(rt: &HostRuntime, path: &str, out: &mut K) -> u8
     ensures { (result ≡ 7) ⊎ IsExit IsOfLook result }
 {
-    let bytes = match read_file(rt, path) {
-        Ok(bytes) => bytes,
-        Err(fault) if fault.kind() == ErrorKind::OutOfMemory => return Status::NoMemory.code(),
-        Err(_) => return put(out, b"SEAL NOT READ\n", Status::NoSeal).code(),
-    };
-    match parse_seal(rt.alloc(), bytes.as_slice()) {
-        Ok(seal) => against_files(rt, &seal, out),
-        Err(fault) => tell_refused(rt.alloc(), out, fault).code(),
+    match seal_in(rt, path) {
+        Ok(Ok(seal)) => against_files(rt, seal, out),
+        Ok(Err(fault)) => tell_refused(rt.alloc(), out, fault).code(),
+        Err(fault) => {
+            if fault.kind() == ErrorKind::OutOfMemory {
+                Status::NoMemory.code()
+            } else {
+                put(out, b"SEAL NOT READ\n", Status::NoSeal).code()
+            }
+        }
     }
+}
+
+/// The seal in a plain file, or why its text isn't one. Only the seal remains in memory.
+fn seal_in(rt: &HostRuntime, path: &str) -> io::Result<Result<Seal, SealFault>> {
+    let bytes = read_file(rt, path)?;
+    Ok(parse_seal(rt.alloc(), bytes.as_slice()))
 }
 
 /// The bytes of a plain file.
@@ -51,8 +66,8 @@ fn read_file(rt: &HostRuntime, path: &str) -> io::Result<Vec<u8>> {
     Ok(bytes)
 }
 
-/// Checks image and rack against a seal, and then a second rack, if there is one. Returns 7 if they can't be used.
-fn against_files<K: Sink>(rt: &HostRuntime, seal: &Seal, out: &mut K) -> u8
+/// Checks image and rack against a seal, and a second rack, if there is one. Returns 7 if they can't be used.
+fn against_files<K: Sink>(rt: &HostRuntime, seal: Seal, out: &mut K) -> u8
     ensures { (result ≡ 7) ⊎ IsExit IsOfLook result }
 {
     let (mut disc, tapes) = match look_at(rt, IMAGE, RACK) {
@@ -64,28 +79,38 @@ fn against_files<K: Sink>(rt: &HostRuntime, seal: &Seal, out: &mut K) -> u8
     if !mount_all(&mut tapes) {
         return NO_IMAGE;
     }
-    let status = look_against(rt.alloc(), seal, out, &mut disc, &mut tapes);
-    match status {
-        Status::Done | Status::No | Status::Nothing => {}
-        _ => return status.code(),
-    }
+    let alloc = rt.alloc();
     let mut second = match second_rack(rt) {
         Ok(Some(second)) => second,
-        Ok(None) => return status.code(),
+        Ok(None) => {
+            let twins = Twins::none(alloc);
+            return look_against(alloc, &Against { seal, twins }, out, &mut disc, &mut tapes).code();
+        }
         Err(code) => return code,
     };
     if !mount_all(&mut second) {
         return NO_IMAGE;
     }
-    let status = tell_twins(rt.alloc(), out, &mut tapes, &mut second, status);
-    tell_rotten_twins(rt.alloc(), seal, out, &mut second, status).code()
+    let twins = match twins_of(alloc, &mut second, &seal) {
+        Ok(twins) => twins,
+        Err(LookFault::TapeUnread) => return put(out, b"TAPE READ\n", Status::Unread).code(),
+        Err(_) => return Status::NoMemory.code(),
+    };
+    let against = Against { seal, twins };
+    let status = look_against(alloc, &against, out, &mut disc, &mut tapes);
+    match status {
+        Status::Done | Status::No | Status::Nothing => {}
+        _ => return status.code(),
+    }
+    let status = tell_twins(alloc, out, &mut tapes, &mut second, status);
+    tell_rotten_twins(alloc, &against.twins, out, status).code()
 }
 
 /// Checks disc and rack, and reports which bytes have changed since this seal: the text of a check is printed, and the report after it. All reels have
 /// to be mounted. Disc and rack are only read.
 pub fn look_against<K: Sink, D: Disc, T: Tapes>(
     alloc: Global,
-    seal: &Seal,
+    against: &Against,
     out: &mut K,
     disc: &mut D,
     tapes: &mut KnownReels<T>,
@@ -93,12 +118,13 @@ pub fn look_against<K: Sink, D: Disc, T: Tapes>(
     requires size { 2177 < (D.state disc.old).size }
     requires mounted { All (λ r. r.mounted ≡ true) (T.rack tapes.old).reels }
     ensures report { AllTold (D.state disc.old).held (told_reels (T.rack tapes.old)) → told.EndsReport result
-        (D.state disc.old).size (D.state disc.old).held (told_reels (T.rack tapes.old)) seal.now.dumps.items seal.now.files.items
+        (D.state disc.old).size (D.state disc.old).held (told_reels (T.rack tapes.old))
+        against.now.twins against.now.seal.dumps.items against.now.seal.files.items
         (record { before = K.written out.old; after = K.written out.new; faults_before = K.faults out.old; faults_after = K.faults out.new }) }
 
     // Against the text of their own seal, disc and rack get what a check prints, and its status.
-    ensures own { AllTold (D.state disc.old).held (told_reels (T.rack tapes.old)) → AreEntries seal.now.dumps.items seal.now.files.items
-        → IsSealed (D.state disc.old).held (told_reels (T.rack tapes.old)) (sealed_text seal.now.dumps.items seal.now.files.items)
+    ensures own { AllTold (D.state disc.old).held (told_reels (T.rack tapes.old)) → AreEntries against.now.seal.dumps.items against.now.seal.files.items
+        → IsSealed (D.state disc.old).held (told_reels (T.rack tapes.old)) (sealed_text against.now.seal.dumps.items against.now.seal.files.items)
         → told.EndsCheck result (D.state disc.old).size (D.state disc.old).held (told_reels (T.rack tapes.old))
         (record { before = K.written out.old; after = K.written out.new; faults_before = K.faults out.old; faults_after = K.faults out.new }) }
     ensures look { IsOfLook result }
@@ -110,7 +136,7 @@ pub fn look_against<K: Sink, D: Disc, T: Tapes>(
         Ok(checked) => checked,
         Err(fault) => return tell_check(out, Err(fault)),
     };
-    match rotten(alloc, disc, tapes, seal) {
+    match rotten(alloc, disc, tapes, &against.seal, &against.twins) {
         Ok(report) => tell_report(out, checked, &report),
         Err(fault) => tell_check(out, Err(fault)),
     }

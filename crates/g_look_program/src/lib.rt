@@ -10,7 +10,7 @@ mod twins;
 mod words;
 
 use crate::answer::answer;
-pub use against::look_against;
+pub use against::{Against, look_against};
 pub use answer::look;
 use g_devices::{placeholders, texts_of, words_of};
 pub use status::Status;

@@ -3,8 +3,6 @@ ghost use Rattle.std.specs.Prelude.{◌≡◌, ◌≢◌, ◌⊎◌, All, true};
 ghost use Rattle.g_base.specs.Counts.{Rose};
 ghost use Rattle.g_tape.specs.Reads.{OnlyReads};
 ghost use Rattle.g_lines.specs.Lines.{text_of};
-ghost use Rattle.g_store_meaning.specs.Meaning.{told_reels};
-ghost use Rattle.g_store_meaning.specs.Reading.{ReelsTold};
 ghost use Rattle.g_seal.specs.Rotten.{twin_lines};
 ghost use Rattle.g_twins.specs.Twins.{AreExposed, twin_text};
 ghost use Rattle.g_look_program.specs.Exit.{IsOfLook};
@@ -13,8 +11,7 @@ ghost use Rattle.g_look_program.specs.Telling as told;
 use crate::Status;
 use crate::tell::put;
 use g_io::Sink;
-use g_look::LookFault;
-use g_seal::{Seal, rotten_twins};
+use g_seal::Twins;
 use g_tape::Tapes;
 use g_twins::{TwinsFault, compare_twins};
 use std::alloc::Global;
@@ -56,29 +53,23 @@ pub fn tell_twins<K: Sink, T: Tapes>(
 }
 
 /// Prints which sealed dumps are rotten in the second rack, after a check against the seal that ended with the status `so_far`. If none is, or
-/// that check failed, nothing is printed, and that remains the status; otherwise it is `No`. If a reel can't be read, `TAPE READ` is printed, and the
-/// status is `Unread`. The rack is only read. All reels must be mounted.
-pub fn tell_rotten_twins<K: Sink, T: Tapes>(
+/// that check failed, nothing is printed, and that remains the status; otherwise it is `No`.
+pub fn tell_rotten_twins<K: Sink>(
     alloc: Global,
-    seal: &Seal,
+    twins: &Twins,
     out: &mut K,
-    second: &mut T,
     so_far: Status,
 ) -> Status
-    requires mounted { All (λ r. r.mounted ≡ true) (T.rack second.old).reels }
     requires look { IsOfLook so_far }
-    ensures rotten { ReelsTold (told_reels (T.rack second.old)) → told.EndsRottenTwins so_far
-        (text_of (twin_lines (told_reels (T.rack second.old)) seal.now.dumps.items)) result
+    ensures rotten { told.EndsRottenTwins so_far (text_of (twin_lines twins.now)) result
         (record { before = K.written out.old; after = K.written out.new; faults_before = K.faults out.old; faults_after = K.faults out.new }) }
     ensures look { IsOfLook result }
-    ensures second { OnlyReads (T.rack second.old) (T.rack second.new) }
-    ensures unread { so_far ≢ Status.Unread → result ≡ Status.Unread → Rose (T.rack second.old).read_faults (T.rack second.new).read_faults }
 {
     match so_far {
         Status::Done | Status::No | Status::Nothing => {}
         _ => return so_far,
     }
-    match rotten_twins(alloc, second, seal) {
+    match twins.text(alloc) {
         Ok(text) => {
             if text.as_slice().is_empty() {
                 so_far
@@ -86,7 +77,6 @@ pub fn tell_rotten_twins<K: Sink, T: Tapes>(
                 put(out, text.as_slice(), Status::No)
             }
         }
-        Err(LookFault::TapeUnread) => put(out, b"TAPE READ\n", Status::Unread),
         Err(_) => Status::NoMemory,
     }
 }

@@ -27,7 +27,7 @@ use Rattle.g_seal.specs.declared.parse.Seal.{Seal}
 use Rattle.g_seal.specs.declared.parse.SealFault.{SealFault}
 use Rattle.g_seal.specs.declared.parse.SealFault.TheVariants as refusal
 use Rattle.g_seal.specs.Entries.{AreEntries, AreKnown, EndsWithSum, IsDumpEntry, IsFileEntry, IsFirstUnknown, IsPlaced, IsRefused, IsSum, TextIsOne}
-use Rattle.g_seal.specs.SealText.{dump_line, file_line, front_text, last_line, online_text, seal_line, sealed_lines, sealed_text, sum_text}
+use Rattle.g_seal.specs.SealText.{dump_line, file_line, front_text, online_text, seal_line, sealed_lines, sealed_text, sum_text}
 use Rattle.g_seal.proofs.FieldLemmas.{AreFrom, field_is, from_decimal, from_full, from_hex, from_less, from_test, full_is, join, none_of, number_is, online_is, plain_full, rest_online, sum_is, wide}
 
 -- A LINE from its first field on

@@ -1,6 +1,6 @@
 -- The fields of a line: what their text determines.
 -- serves: copy_in (read), field (read), file_of (read), full_in (read), online_in, sum_field (read, sum), word, EntryLemmas
-use Rattle.std.proofs.Common.{◌≡◌, ◌≢◌, ◌⊎◌, inl, inr, ℕ, ◌+◌, ◌/◌, ◌%◌, ◌<◌, ◌≤◌, ◌^◌, Bool, true, false, ◌&&◌, ◌||◌, List, [], ◌∷◌, ◌++◌, length, take, drop, get_or, suc, Option, Some, None, Result, Ok, Err, refl, sym, ◌∙◌, ap, subst, arith, All, append_assoc, append-nil}
+use Rattle.std.proofs.Common.{◌≡◌, ◌≢◌, inl, inr, ℕ, ◌+◌, ◌/◌, ◌%◌, ◌<◌, ◌≤◌, ◌^◌, Bool, true, false, ◌&&◌, ◌||◌, List, [], ◌∷◌, ◌++◌, length, drop, get_or, suc, Option, Some, None, Result, Ok, Err, refl, sym, ◌∙◌, ap, subst, arith, All, append_assoc, append-nil}
 use Rattle.std.specs.Prelude.{codes, ◌==◌, nat_le, IfSome, MatchResult}
 use Rattle.std.specs.Fmt.{decimal}
 use Rattle.std.specs.List.{list_all}
@@ -20,11 +20,10 @@ use Rattle.g_look.specs.FileLines.{taped_text}
 use Rattle.g_look.specs.Text.{told}
 use Rattle.g_monitor.specs.Parts.{full_text}
 use Rattle.g_name.specs.declared.full.Full.{Full}
-use Rattle.g_name.specs.Grammar.{is_digit, is_lang, is_letter, is_name_char, is_word}
+use Rattle.g_name.specs.Grammar.{is_digit, is_letter, is_name_char, is_word}
 use Rattle.g_name.specs.Machine.{run}
 use Rattle.g_name.specs.Names.{IsName, Name, full_name, name_text}
 use Rattle.g_name.specs.Reading.{name_read, start, step}
-use Rattle.g_name.specs.declared.path_reader.PathReader.{PathReader}
 use Rattle.g_name.proofs.PathLemmas.{name_read_of, reader_of, reads_name}
 use Rattle.g_seal.specs.Entries.{IsPlaced, IsRest, IsSum}
 use Rattle.g_seal.specs.SealText.{online_text, sum_text}

@@ -9,4 +9,5 @@ mod ReelLemmas
 mod ReportLemmas
 mod RottenLemmas
 mod SealLemmas
+mod TwinLemmas
 mod VersionLemmas

@@ -1,5 +1,5 @@
 -- Lines of dumps and files, one after another, while the devices are only read.
--- serves: push_dumps (text), push_files (text), push_rotten_dumps, RottenLemmas, VersionLemmas
+-- serves: push_dumps (text), push_files (text), push_rotten_dumps, RottenLemmas, TwinLemmas, VersionLemmas
 use Rattle.std.proofs.Common.{◌≡◌, ℕ, ◌+◌, ◌<◌, ◌≤◌, List, [], ◌∷◌, ◌++◌, length, map, take, get_or, refl, sym, ◌∙◌, ap, subst, arith}
 use Rattle.std.proofs.lemmas.Grind.{flat_map-append}
 use Rattle.std.proofs.lemmas.List.{append-nil, append_assoc, map-append, take_more}

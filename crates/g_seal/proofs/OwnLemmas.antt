@@ -1,7 +1,7 @@
 -- A store whose seal it is has nothing to report.
--- serves: rotten (unchanged), rotten_twins (unchanged), OwnTextLemmas
+-- serves: rotten (unchanged), twins_of (unchanged), OwnTextLemmas
 use Rattle.std.proofs.Common.{◌≡◌, ◌≢◌, ◌⊎◌, inl, inr, ℕ, ◌*◌, Bool, true, false, ◌&&◌, ◌||◌, List, [], ◌∷◌, ◌++◌, zero, suc, get_or, map, Option, Some, None, refl, sym, ◌∙◌, ap, subst, arith, All}
-use Rattle.std.specs.Prelude.{codes, ◌==◌, AllPairs, cond, not, option_map}
+use Rattle.std.specs.Prelude.{◌==◌, AllPairs, cond, not, option_map}
 use Rattle.std.specs.List.{flat_map, list_any}
 use Rattle.std.specs.Cmp.Lexicographic.{bytes_decides}
 use Rattle.std.proofs.lemmas.Bool.{and_from, cases_Bool, cond-false, cond-true, eq-eqb, ne_eqb}
@@ -26,10 +26,11 @@ use Rattle.g_tree.proofs.ListLemmas.{pairs_first, pairs_rest}
 use Rattle.g_look.specs.Text.{IsFoundOn}
 use Rattle.g_seal.specs.declared.entries.SealedDump.{SealedDump}
 use Rattle.g_seal.specs.declared.entries.SealedFile.{SealedFile}
+use Rattle.g_seal.specs.declared.twins.Twins.{Twins}
 use Rattle.g_seal.specs.declared.versions.CopyState.{CopyState}
 use Rattle.g_seal.specs.declared.versions.CopyState.TheVariants as state
 use Rattle.g_seal.specs.declared.versions.FoundVersion.{FoundVersion}
-use Rattle.g_seal.specs.Rotten.{IsReport, IsSealing, disc_state, file_lines, found_version, has_copy, is_inside, is_left_out, is_other, is_rotten, is_same_place, is_sealed, reel_state, rotten_dump_line, rotten_dumps, rotten_file_line, rotten_files, rotten_if, sum_state, tape_state, twin_lines, version_lines, version_of}
+use Rattle.g_seal.specs.Rotten.{IsReport, IsSealing, Marks, disc_state, file_lines, found_version, has_copy, is_inside, is_left_out, is_other, is_rotten, is_same_place, is_sealed, reel_state, rotten_dump_line, rotten_dumps, rotten_file_line, rotten_files, rotten_if, sum_state, tape_state, version_lines, version_of}
 use Rattle.g_seal.specs.Sealing.{bytes_on, dump_place, sealed_dump, sealed_file, sealed_files, taped_bytes}
 
 same : (xs : List ℕ) → same_text xs xs ≡ true
@@ -84,21 +85,25 @@ own_tape reels s disc len (Some c) at on off = by_online (cases_Bool s.online)
 or_false : (a b : Bool) → a ≡ false → b ≡ false → (a || b) ≡ false
 or_false a b x y = rw (x, y) refl
 
-no_rotten : (blocks : List (List ℕ)) (reels : List Reel) (users : List UserRec) (s : SealedFile) (f : FileEntry) → is_other (disc_state blocks s.sum f.1) ≡ false
-    → is_other (tape_state reels [] s (disc_state blocks s.sum f.1) f.0.len f.0.tape) ≡ false → rotten_if (found_version blocks reels [] users s f) ≡ []
-no_rotten blocks reels users s f disc tape =
-    let v : FoundVersion = found_version blocks reels [] users s f in
+-- the marks of a store without rotten dumps
+abbrev own : Twins → Marks
+own twins = record { rotten = []; twins = twins }
+
+no_rotten : (blocks : List (List ℕ)) (reels : List Reel) (twins : Twins) (users : List UserRec) (s : SealedFile) (f : FileEntry) → is_other (disc_state blocks s.sum f.1) ≡ false
+    → is_other (tape_state reels [] s (disc_state blocks s.sum f.1) f.0.len f.0.tape) ≡ false → rotten_if (found_version blocks reels (own twins) users s f) ≡ []
+no_rotten blocks reels twins users s f disc tape =
+    let v : FoundVersion = found_version blocks reels (own twins) users s f in
     cond-false (is_other v.disc || is_other v.tape) (rotten_file_line v ∷ []) [] (or_false (is_other v.disc) (is_other v.tape) disc tape)
 
-own_version : (blocks : List (List ℕ)) (reels : List Reel) (users : List UserRec) (r : FileRec) (copy : Option DiscCopy)
-    → rotten_if (found_version blocks reels [] users (sealed_file blocks reels users (r, copy)) (r, copy)) ≡ []
-own_version blocks reels users r None =
-    no_rotten blocks reels users (sealed_file blocks reels users (r, None)) (r, None) refl
+own_version : (blocks : List (List ℕ)) (reels : List Reel) (twins : Twins) (users : List UserRec) (r : FileRec) (copy : Option DiscCopy)
+    → rotten_if (found_version blocks reels (own twins) users (sealed_file blocks reels users (r, copy)) (r, copy)) ≡ []
+own_version blocks reels twins users r None =
+    no_rotten blocks reels twins users (sealed_file blocks reels users (r, None)) (r, None) refl
     (own_tape reels (sealed_file blocks reels users (r, None)) state.Absent r.len r.tape refl (λ wrong. absurd (let not : false ≡ true = wrong in let no : ⊥ = cc in no))
     (λ off c is. ap (λ (t : Option TapeCopy). sha256 (taped_bytes reels t r.len)) is))
-own_version blocks reels users r (Some copy) =
+own_version blocks reels twins users r (Some copy) =
     let sealed : disc_state blocks (sha256 (bytes_at copy.blocks copy.len blocks)) (Some copy) ≡ state.Sealed = own_sum (sha256 (bytes_at copy.blocks copy.len blocks)) in
-    no_rotten blocks reels users (sealed_file blocks reels users (r, Some copy)) (r, Some copy) (ap is_other sealed)
+    no_rotten blocks reels twins users (sealed_file blocks reels users (r, Some copy)) (r, Some copy) (ap is_other sealed)
     (own_tape reels (sealed_file blocks reels users (r, Some copy)) (disc_state blocks (sha256 (bytes_at copy.blocks copy.len blocks)) (Some copy)) r.len r.tape refl (λ on. sealed) (λ wrong. absurd (let not : true ≡ false = wrong in let no : ⊥ = cc in no)))
 
 -- each of the files is found by its stamp
@@ -127,34 +132,33 @@ find_each (e ∷ files) apart = All-cons (IsFirst (e ∷ files)) e files (find_f
         let other : e.0.stamp ≢ (get_or files k d).0.stamp = subst (λ (r : FileRec). e.0.stamp ≢ r.stamp) (at_rec files k d) (others k d.0 (omega (arith, within, long))) in
         find_rest e (get_or files k d) files other ∙ own k d within
 
-own_files : (blocks : List (List ℕ)) (reels : List Reel) (d : Directory) (files : List FileEntry) → All (IsFirst d.files) files
-    → flat_map (file_lines blocks reels [] d) (map (sealed_file blocks reels d.users) files) ≡ []
-own_files blocks reels d [] all = refl
-own_files blocks reels d (f ∷ files) all =
+own_files : (blocks : List (List ℕ)) (reels : List Reel) (twins : Twins) (d : Directory) (files : List FileEntry) → All (IsFirst d.files) files
+    → flat_map (file_lines blocks reels (own twins) d) (map (sealed_file blocks reels d.users) files) ≡ []
+own_files blocks reels twins d [] all = refl
+own_files blocks reels twins d (f ∷ files) all =
     let s : SealedFile = sealed_file blocks reels d.users f in
-    let one : file_lines blocks reels [] d s ≡ [] =
-    ap (λ (o : Option FileEntry). version_lines (option_map (found_version blocks reels [] d.users s) o)) (All-head (IsFirst d.files) f files all) ∙ own_version blocks reels d.users f.0 f.1 in
-    ap (λ (ls : List (List ℕ)). ls ++ flat_map (file_lines blocks reels [] d) (map (sealed_file blocks reels d.users) files)) one ∙ own_files blocks reels d files (All-tail (IsFirst d.files) f files all)
+    let one : file_lines blocks reels (own twins) d s ≡ [] =
+    ap (λ (o : Option FileEntry). version_lines (option_map (found_version blocks reels (own twins) d.users s) o)) (All-head (IsFirst d.files) f files all) ∙ own_version blocks reels twins d.users f.0 f.1 in
+    ap (λ (ls : List (List ℕ)). ls ++ flat_map (file_lines blocks reels (own twins) d) (map (sealed_file blocks reels d.users) files)) one ∙ own_files blocks reels twins d files (All-tail (IsFirst d.files) f files all)
 
-own_held : (blocks : List (List ℕ)) (reels : List Reel) (found on : Option (Format × Directory)) → IsFoundOn blocks found → IsFoundOn blocks on → rotten_files blocks reels [] found (sealed_files blocks reels on) ≡ []
-own_held blocks reels None on is other = refl
-own_held blocks reels (Some (format, d)) None is other = refl
-own_held blocks reels (Some (format, d)) (Some (form, e)) is other =
+own_held : (blocks : List (List ℕ)) (reels : List Reel) (twins : Twins) (found on : Option (Format × Directory)) → IsFoundOn blocks found → IsFoundOn blocks on → rotten_files blocks reels (own twins) found (sealed_files blocks reels on) ≡ []
+own_held blocks reels twins None on is other = refl
+own_held blocks reels twins (Some (format, d)) None is other = refl
+own_held blocks reels twins (Some (format, d)) (Some (form, e)) is other =
     let one : e ≡ d = stands_for_one blocks e d other.0 is.0 in
-    ap (λ (x : Directory). flat_map (file_lines blocks reels [] d) (map (sealed_file blocks reels x.users) x.files)) one ∙ own_files blocks reels d d.files (find_each d.files is.0.rules.files.stamps)
+    ap (λ (x : Directory). flat_map (file_lines blocks reels (own twins) d) (map (sealed_file blocks reels x.users) x.files)) one ∙ own_files blocks reels twins d d.files (find_each d.files is.0.rules.files.stamps)
 
 -- NOTHING TO REPORT
-pub own_report : (held : Option (List (List ℕ))) (reels : List Reel) (dumps : List SealedDump) (files : List SealedFile) (text : List ℕ) → IsReport held reels dumps files text → IsSealing held reels dumps files → text ≡ []
-own_report held reels dumps files text report sealing =
+pub own_report : (held : Option (List (List ℕ))) (reels : List Reel) (twins : Twins) (dumps : List SealedDump) (files : List SealedFile) (text : List ℕ) → IsReport held reels twins dumps files text → IsSealing held reels dumps files → text ≡ []
+own_report held reels twins dumps files text report sealing =
     let same_blocks : sealing.blocks ≡ report.blocks = same_Some sealing.blocks report.blocks (sym sealing.is_told ∙ report.is_told) in
     let here : IsFoundOn report.blocks sealing.found = subst (λ (bs : List (List ℕ)). IsFoundOn bs sealing.found) same_blocks sealing.found_is in
     let none : rotten_dumps reels dumps ≡ [] = ap (rotten_dumps reels) sealing.dumps_are ∙ own_dumps reels (all_dumps sealing.shelf reels) in
     let files_are : files ≡ sealed_files report.blocks reels sealing.found = sealing.files_are ∙ ap (λ (bs : List (List ℕ)). sealed_files bs reels sealing.found) same_blocks in
     report.text_is
-    ∙ ap (λ (ds : List SealedDump). text_of (map (rotten_dump_line []) ds ++ rotten_files report.blocks reels ds report.found files)) none
-    ∙ ap (λ (fs : List SealedFile). text_of (rotten_files report.blocks reels [] report.found fs)) files_are
-    ∙ ap text_of (own_held report.blocks reels report.found sealing.found report.found_is here)
+    ∙ ap (λ (ds : List SealedDump). text_of (map (rotten_dump_line []) ds ++ rotten_files report.blocks reels (record { rotten = ds; twins = twins }) report.found files)) none
+    ∙ ap (λ (fs : List SealedFile). text_of (rotten_files report.blocks reels (own twins) report.found fs)) files_are
+    ∙ ap text_of (own_held report.blocks reels twins report.found sealing.found report.found_is here)
 
-pub own_twins : (reels : List Reel) (sealed : List SealedDump) (dumps : List Dump) (text : List ℕ) → text ≡ text_of (twin_lines reels sealed) → sealed ≡ map (sealed_dump reels) dumps → text ≡ []
-own_twins reels sealed dumps text is are =
-    is ∙ ap (λ (ds : List SealedDump). text_of (map (rotten_dump_line (codes " IN THE SECOND RACK")) ds)) (ap (rotten_dumps reels) are ∙ own_dumps reels dumps)
+pub own_rotten : (reels : List Reel) (sealed rotten : List SealedDump) (dumps : List Dump) → rotten ≡ rotten_dumps reels sealed → sealed ≡ map (sealed_dump reels) dumps → rotten ≡ []
+own_rotten reels sealed rotten dumps is are = is ∙ ap (rotten_dumps reels) are ∙ own_dumps reels dumps

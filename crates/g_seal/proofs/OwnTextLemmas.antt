@@ -1,42 +1,37 @@
 -- The entries of a store's own seal: its text is that of entries.
 -- serves: own_seal, rotten (own), crates above
-use Rattle.std.proofs.Common.{◌≡◌, ◌⊎◌, inl, inr, ℕ, ◌*◌, ◌+◌, ◌%◌, ◌<◌, ◌≤◌, ◌^◌, true, List, [], ◌∷◌, ◌++◌, zero, suc, length, map, get_or, Option, Some, None, refl, sym, ◌∙◌, ap, subst, arith, All}
-use Rattle.std.specs.Prelude.{Contains, IfSome, is_some}
-use Rattle.std.specs.Int.{byte_at, bytes_high_first, to_be_bytes, w32}
-use Rattle.std.specs.List.{flat_map}
+use Rattle.std.proofs.Common.{◌≡◌, inl, inr, ℕ, ◌+◌, ◌<◌, ◌≤◌, true, List, [], ◌∷◌, zero, suc, length, map, get_or, Option, Some, None, arith, All}
+use Rattle.std.specs.Prelude.{IfSome, is_some}
+use Rattle.std.specs.Int.{byte_at, bytes_high_first}
 use Rattle.std.specs.Option.{ForSome}
 use Rattle.std.proofs.Math.ListN.{get_or-eq_default}
 use Rattle.std.proofs.lemmas.Bool.{cases_lt}
-use Rattle.std.proofs.lemmas.List.{length-map}
 use Rattle.std.proofs.lemmas.List.Elements.{All-append, All-cons, All-contains_itself, All-head, All-map, All-nil, All-tail}
 use Rattle.hex.specs.Hex.{IsBytes}
 use Rattle.sha2.specs.Sha256.{digest_bytes, sha256}
 use Rattle.sha2.proofs.Facts256.{length-sha256}
-use Rattle.g_copy.specs.declared.copy.DiscCopy.{DiscCopy}
 use Rattle.g_dirs.specs.Directory.{Directory, FileEntry, recs}
-use Rattle.g_dirs.specs.Image.{StandsFor}
-use Rattle.g_entry.specs.declared.file_rec.FileRec.{FileRec}
 use Rattle.g_entry.specs.declared.file_rec.TapeCopy.{TapeCopy}
 use Rattle.g_entry.specs.declared.format.Format.{Format}
 use Rattle.g_entry.specs.declared.user_rec.UserRec.{UserRec}
 use Rattle.g_entry.specs.FileFields.{IsCopy, IsFile}
 use Rattle.g_entry.specs.UserFields.{IsUser}
-use Rattle.g_incr.specs.Layout.{Dump, ends, size_of}
+use Rattle.g_incr.specs.Layout.{Dump, ends}
 use Rattle.g_name.specs.Grammar.{is_word}
 use Rattle.g_shelf.specs.CompletedDumps.{AreCompleted, AreNext, AreShelved, IsNext, all_dumps}
 use Rattle.g_shelf.proofs.QuietLemmas.{within}
 use Rattle.g_store_meaning.specs.Meaning.{told_reels}
-use Rattle.g_store_meaning.specs.Reading.{AllTold, ReelsTold}
+use Rattle.g_store_meaning.specs.Reading.{ReelsTold}
 use Rattle.g_tape.specs.Rack.{AreReels, Rack}
 use Rattle.g_tape.specs.Reads.{unread}
 use Rattle.g_tape.specs.Reel.{IsReel, Reel}
-use Rattle.g_tree.specs.Records.{full_of, name_of}
+use Rattle.g_tree.specs.Records.{name_of}
 use Rattle.g_look.specs.Text.{IsFoundOn}
 use Rattle.g_look.proofs.HeadLemmas.{told_blocks}
 use Rattle.g_seal.specs.declared.entries.SealedDump.{SealedDump}
 use Rattle.g_seal.specs.declared.entries.SealedFile.{SealedFile}
 use Rattle.g_seal.specs.Entries.{AreEntries, IsDumpEntry, IsFileEntry, IsPlaced, IsSum}
-use Rattle.g_seal.specs.Rotten.{IsReport, IsSealing, OwnIsQuiet}
+use Rattle.g_seal.specs.Rotten.{IsSealing, OwnIsQuiet}
 use Rattle.g_seal.specs.Sealing.{IsSealed, sealed_dump, sealed_file, sealed_files}
 use Rattle.g_seal.specs.SealText.{sealed_text}
 use Rattle.g_seal.proofs.EntryLemmas.{text_is_one}
@@ -170,5 +165,5 @@ own_sealing held reels dumps files is told entries sealed =
 
 -- NOTHING TO REPORT
 pub own_is_quiet : OwnIsQuiet
-own_is_quiet held rack dumps files text are told entries sealed report =
-    own_report held (told_reels rack) dumps files text report (own_sealing held (told_reels rack) dumps files (low_reels rack are) told.each entries sealed)
+own_is_quiet held rack twins dumps files text are told entries sealed report =
+    own_report held (told_reels rack) twins dumps files text report (own_sealing held (told_reels rack) dumps files (low_reels rack are) told.each entries sealed)

@@ -1,9 +1,8 @@
 -- The text of a seal, its last line, and the lines before it.
 -- serves: front_of (sum), is_whole, parse_seal (accepted), split_last_line
-use Rattle.std.proofs.Common.{◌≡◌, ◌≢◌, ℕ, ◌+◌, ◌-◌, ◌<◌, ◌≤◌, List, [], ◌∷◌, ◌++◌, length, map, drop, get_or, true, false, Bool, Option, Some, None, Result, Ok, Err, IfOk, IfErr, refl, sym, ◌∙◌, ap, subst, arith, append_assoc}
-use Rattle.std.specs.Prelude.{codes, nat_eq, ◌==◌}
+use Rattle.std.proofs.Common.{◌≡◌, ◌≢◌, ℕ, ◌+◌, ◌-◌, ◌<◌, List, [], ◌∷◌, ◌++◌, length, map, drop, get_or, true, false, Bool, Result, Ok, Err, IfOk, refl, sym, ◌∙◌, ap, subst, arith}
+use Rattle.std.specs.Prelude.{codes, nat_eq}
 use Rattle.std.specs.Cmp.Lexicographic.{bytes_decides, pointwise}
-use Rattle.std.proofs.lemmas.Bool.{eqb-true}
 use Rattle.std.proofs.lemmas.Grind.{flat_map-append}
 use Rattle.std.proofs.lemmas.List.{append_cancel_left, length-append}
 use Rattle.hex.specs.Hex.{encode_lower}
@@ -16,7 +15,7 @@ use Rattle.g_seal.specs.declared.entries.SealedFile.{SealedFile}
 use Rattle.g_seal.specs.declared.parse.Seal.{Seal}
 use Rattle.g_seal.specs.declared.parse.SealFault.{SealFault}
 use Rattle.g_seal.specs.Entries.{EndsWithSum}
-use Rattle.g_seal.specs.SealText.{dump_line, file_line, last_line, seal_line, sealed_lines, sealed_text}
+use Rattle.g_seal.specs.SealText.{dump_line, file_line, seal_line, sealed_lines, sealed_text}
 use Rattle.g_seal.proofs.EntryLemmas.{front_same, last_long}
 
 read_back : (text front : List ℕ) (dumps : List SealedDump) (files : List SealedFile) → EndsWithSum text front (encode_lower (sha256 front)) → lines_of front ≡ sealed_lines dumps files → text ≡ sealed_text dumps files

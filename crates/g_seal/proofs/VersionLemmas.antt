@@ -33,18 +33,18 @@ use Rattle.g_seal.specs.declared.versions.CopyState.{CopyState}
 use Rattle.g_seal.specs.declared.versions.CopyState.TheVariants as state
 use Rattle.g_seal.specs.declared.versions.FoundVersion.{FoundVersion}
 use Rattle.g_seal.specs.InMemory.{rec_lines, rec_of, rec_version}
-use Rattle.g_seal.specs.Rotten.{disc_state, found_version, is_left_out, is_other, reel_state, rotten_file_line, rotten_files, tape_state, version_lines, version_of}
+use Rattle.g_seal.specs.Rotten.{Marks, disc_state, found_version, is_left_out, is_other, reel_state, rotten_file_line, rotten_files, tape_state, twin_state, version_lines, version_of}
 use Rattle.g_seal.proofs.LineLemmas.{rack_never, rack_none, rack_then}
 
 -- the lines of the first i sealed files, while both devices were read
-pub record VersionLines (rotten : List SealedDump) (dirs : Dirs) (files : List SealedFile) (i : ℕ) (begun text : List ℕ) (disc dnow : DiscState) (old now : Rack) : Type 0 where
+pub record VersionLines (marks : Marks) (dirs : Dirs) (files : List SealedFile) (i : ℕ) (begun text : List ℕ) (disc dnow : DiscState) (old now : Rack) : Type 0 where
   pub disc_reads : ReadsByCause ⊥ disc dnow
   pub tape_reads : ReadsRackByCause ⊥ old now
   pub text_is : ReelsTold (told_reels old) → ForSome disc.held (λ blocks. text ≡ begun
-      ++ text_of (flat_map (rec_lines blocks (told_reels old) rotten dirs.users.items dirs.online.items dirs.files.items) (take i files)))
+      ++ text_of (flat_map (rec_lines blocks (told_reels old) marks dirs.users.items dirs.online.items dirs.files.items) (take i files)))
 
-pub no_versions : (rotten : List SealedDump) (dirs : Dirs) (files : List SealedFile) (begun : List ℕ) (disc : DiscState) (rack : Rack) → VersionLines rotten dirs files 0 begun begun disc disc rack rack
-no_versions rotten dirs files begun disc rack =
+pub no_versions : (marks : Marks) (dirs : Dirs) (files : List SealedFile) (begun : List ℕ) (disc : DiscState) (rack : Rack) → VersionLines marks dirs files 0 begun begun disc disc rack rack
+no_versions marks dirs files begun disc rack =
     record { disc_reads = ReadsByCause-none disc (λ never. never); tape_reads = rack_none rack; text_is = λ told blocks is. sym (append-nil begun) }
 
 lines_more : {X : Type 0} (f : X → List (List ℕ)) (xs : List X) (i : ℕ) (x : X) → i < length xs → x ≡ get_or xs i x
@@ -55,31 +55,31 @@ lines_more f xs i x within at =
     ∙ flat_map-append ended (flat_map f (take i xs)) (f x ++ [])
     ∙ ap (λ ys. text_of (flat_map f (take i xs)) ++ text_of ys) (append-nil (f x))
 
-pub version_more : {P Q : Type 0} (rotten : List SealedDump) (dirs : Dirs) (files : List SealedFile) (i : ℕ) (s : SealedFile) (v : Option FoundVersion) (begun text next : List ℕ) (disc dmid dnew : DiscState) (old mid new : Rack)
-    → i < length files → s ≡ get_or files i s → VersionLines rotten dirs files i begun text disc dmid old mid → (P → ⊥) → (Q → ⊥) → ReadsByCause P dmid dnew → ReadsRackByCause Q mid new
+pub version_more : {P Q : Type 0} (marks : Marks) (dirs : Dirs) (files : List SealedFile) (i : ℕ) (s : SealedFile) (v : Option FoundVersion) (begun text next : List ℕ) (disc dmid dnew : DiscState) (old mid new : Rack)
+    → i < length files → s ≡ get_or files i s → VersionLines marks dirs files i begun text disc dmid old mid → (P → ⊥) → (Q → ⊥) → ReadsByCause P dmid dnew → ReadsRackByCause Q mid new
     → (ReelsTold (told_reels mid) → ForSome dmid.held (λ blocks. v
-    ≡ option_map (rec_version blocks (told_reels mid) rotten dirs.users.items dirs.online.items s) (rec_of dirs.files.items s.stamp)))
-    → next ≡ text ++ text_of (version_lines v) → VersionLines rotten dirs files (i + 1) begun next disc dnew old new
-version_more rotten dirs files i s v begun text next disc dmid dnew old mid new within at so no_p no_q disc_reads reads found adds =
+    ≡ option_map (rec_version blocks (told_reels mid) marks dirs.users.items dirs.online.items s) (rec_of dirs.files.items s.stamp)))
+    → next ≡ text ++ text_of (version_lines v) → VersionLines marks dirs files (i + 1) begun next disc dnew old new
+version_more marks dirs files i s v begun text next disc dmid dnew old mid new within at so no_p no_q disc_reads reads found adds =
     let still : told_reels mid ≡ told_reels old = so.tape_reads.only.reels in
     record {
       disc_reads = ReadsByCause-then (λ never. never) so.disc_reads (ReadsByCause-for no_p (λ never. absurd never) disc_reads);
       tape_reads = rack_then (λ wrong. wrong) so.tape_reads (rack_never no_q reads);
       text_is = λ told blocks is.
-          let line : SealedFile → List (List ℕ) = rec_lines blocks (told_reels old) rotten dirs.users.items dirs.online.items dirs.files.items in
+          let line : SealedFile → List (List ℕ) = rec_lines blocks (told_reels old) marks dirs.users.items dirs.online.items dirs.files.items in
           adds
           ∙ ap (λ (o : Option FoundVersion). text ++ text_of (version_lines o)) (found (subst ReelsTold (sym still) told) blocks (so.disc_reads.held ∙ is))
-          ∙ ap (λ (rs : List Reel). text ++ text_of (rec_lines blocks rs rotten dirs.users.items dirs.online.items dirs.files.items s)) still
+          ∙ ap (λ (rs : List Reel). text ++ text_of (rec_lines blocks rs marks dirs.users.items dirs.online.items dirs.files.items s)) still
           ∙ ap (λ (xs : List ℕ). xs ++ text_of (line s)) (so.text_is told blocks is)
           ∙ append_assoc begun (text_of (flat_map line (take i files))) (text_of (line s))
           ∙ ap (λ (xs : List ℕ). begun ++ xs) (sym (lines_more line files i s within at));
     }
 
-pub all_versions : (rotten : List SealedDump) (dirs : Dirs) (files : List SealedFile) (i : ℕ) (begun text : List ℕ) (disc dnow : DiscState) (old now : Rack) → length files ≤ i
-    → VersionLines rotten dirs files i begun text disc dnow old now → ReelsTold (told_reels old) → ForSome disc.held (λ blocks. text
-    ≡ begun ++ text_of (flat_map (rec_lines blocks (told_reels old) rotten dirs.users.items dirs.online.items dirs.files.items) files))
-all_versions rotten dirs files i begun text disc dnow old now all so told blocks is =
-    so.text_is told blocks is ∙ ap (λ (fs : List SealedFile). begun ++ text_of (flat_map (rec_lines blocks (told_reels old) rotten dirs.users.items dirs.online.items dirs.files.items) fs)) (take_all i files all)
+pub all_versions : (marks : Marks) (dirs : Dirs) (files : List SealedFile) (i : ℕ) (begun text : List ℕ) (disc dnow : DiscState) (old now : Rack) → length files ≤ i
+    → VersionLines marks dirs files i begun text disc dnow old now → ReelsTold (told_reels old) → ForSome disc.held (λ blocks. text
+    ≡ begun ++ text_of (flat_map (rec_lines blocks (told_reels old) marks dirs.users.items dirs.online.items dirs.files.items) files))
+all_versions marks dirs files i begun text disc dnow old now all so told blocks is =
+    so.text_is told blocks is ∙ ap (λ (fs : List SealedFile). begun ++ text_of (flat_map (rec_lines blocks (told_reels old) marks dirs.users.items dirs.online.items dirs.files.items) fs)) (take_all i files all)
 
 -- THE STATE of a copy on tape
 pub tape_left : (reels : List Reel) (rotten : List SealedDump) (s : SealedFile) (disc : CopyState) (len : ℕ) (copy : TapeCopy) (tape : Option TapeCopy) → tape ≡ Some copy → is_left_out rotten s disc copy ≡ true
@@ -96,18 +96,19 @@ pub tape_none : (reels : List Reel) (rotten : List SealedDump) (s : SealedFile) 
 tape_none reels rotten s disc len tape is = sym (ap (tape_state reels rotten s disc len) is)
 
 -- A VERSION by its parts
-pub version_is : (blocks : List (List ℕ)) (reels : List Reel) (rotten : List SealedDump) (users : List UserRec) (online : List (ℕ × DiscCopy)) (files : List FileRec) (s : SealedFile) (r : FileRec) (full : Full) (disc tape : CopyState)
-    (copy : Option DiscCopy) → rec_of files s.stamp ≡ Some r → copy ≡ copy_at online r.number → full ≡ full_of users r → disc ≡ disc_state blocks s.sum copy → tape ≡ tape_state reels rotten s disc r.len r.tape
-    → (let v : FoundVersion = record { full = full; stamp = r.stamp; place = r.tape; disc = disc; tape = tape } in Some v ≡ option_map (rec_version blocks reels rotten users online s) (rec_of files s.stamp))
-version_is blocks reels rotten users online files s r full disc tape copy is copy_is full_is disc_is tape_is =
+pub version_is : (blocks : List (List ℕ)) (reels : List Reel) (marks : Marks) (users : List UserRec) (online : List (ℕ × DiscCopy)) (files : List FileRec) (s : SealedFile) (r : FileRec) (full : Full) (disc tape twin : CopyState)
+    (copy : Option DiscCopy) → rec_of files s.stamp ≡ Some r → copy ≡ copy_at online r.number → full ≡ full_of users r → disc ≡ disc_state blocks s.sum copy → tape ≡ tape_state reels marks.rotten s disc r.len r.tape → twin ≡ twin_state marks.twins s disc r.tape
+    → (let v : FoundVersion = record { full = full; stamp = r.stamp; place = r.tape; disc = disc; tape = tape; twin = twin } in Some v ≡ option_map (rec_version blocks reels marks users online s) (rec_of files s.stamp))
+version_is blocks reels marks users online files s r full disc tape twin copy is copy_is full_is disc_is tape_is twin_is =
     let d : disc ≡ disc_state blocks s.sum (copy_at online r.number) = disc_is ∙ ap (disc_state blocks s.sum) copy_is in
-    let t : tape ≡ tape_state reels rotten s (disc_state blocks s.sum (copy_at online r.number)) r.len r.tape = tape_is ∙ ap (λ (x : CopyState). tape_state reels rotten s x r.len r.tape) d in
-    (λ i. Some (record { full = full_is i; stamp = r.stamp; place = r.tape; disc = d i; tape = t i }))
-    ∙ sym (ap (option_map (rec_version blocks reels rotten users online s)) is)
+    let t : tape ≡ tape_state reels marks.rotten s (disc_state blocks s.sum (copy_at online r.number)) r.len r.tape = tape_is ∙ ap (λ (x : CopyState). tape_state reels marks.rotten s x r.len r.tape) d in
+    let w : twin ≡ twin_state marks.twins s (disc_state blocks s.sum (copy_at online r.number)) r.tape = twin_is ∙ ap (λ (x : CopyState). twin_state marks.twins s x r.tape) d in
+    (λ i. Some (record { full = full_is i; stamp = r.stamp; place = r.tape; disc = d i; tape = t i; twin = w i }))
+    ∙ sym (ap (option_map (rec_version blocks reels marks users online s)) is)
 
-pub version_gone : (blocks : List (List ℕ)) (reels : List Reel) (rotten : List SealedDump) (users : List UserRec) (online : List (ℕ × DiscCopy)) (files : List FileRec) (s : SealedFile) → rec_of files s.stamp ≡ None
-    → None ≡ option_map (rec_version blocks reels rotten users online s) (rec_of files s.stamp)
-version_gone blocks reels rotten users online files s is = sym (ap (option_map (rec_version blocks reels rotten users online s)) is)
+pub version_gone : (blocks : List (List ℕ)) (reels : List Reel) (marks : Marks) (users : List UserRec) (online : List (ℕ × DiscCopy)) (files : List FileRec) (s : SealedFile) → rec_of files s.stamp ≡ None
+    → None ≡ option_map (rec_version blocks reels marks users online s) (rec_of files s.stamp)
+version_gone blocks reels marks users online files s is = sym (ap (option_map (rec_version blocks reels marks users online s)) is)
 
 -- THE LINE of a version
 pub pushed_rotten : (result : Result (Unit {0}) NoMemory) (found : Option FoundVersion) (v : FoundVersion) (old new : List ℕ) → found ≡ Some v → (is_other v.disc || is_other v.tape) ≡ true
@@ -135,21 +136,21 @@ same_map : {X Y Z : Type 0} (g : Y → Z) (f : X → Y) (o : Option X) → optio
 same_map g f None = refl
 same_map g f (Some x) = refl
 
-same_lines : (blocks : List (List ℕ)) (reels : List Reel) (rotten : List SealedDump) (dirs : Dirs) (format : Format) (files : List SealedFile)
-    → flat_map (rec_lines blocks reels rotten dirs.users.items dirs.online.items dirs.files.items) files ≡ rotten_files blocks reels rotten (found_in (Some (format, dirs))) files
-same_lines blocks reels rotten dirs format [] = refl
-same_lines blocks reels rotten dirs format (s ∷ files) =
-    let one : rec_lines blocks reels rotten dirs.users.items dirs.online.items dirs.files.items s ≡ version_lines (option_map (found_version blocks reels rotten dirs.users.items s) (version_of (entries_of dirs.files.items dirs.online.items) s.stamp)) =
-    ap version_lines (sym (ap (option_map (found_version blocks reels rotten dirs.users.items s)) (same_version dirs.files.items dirs.online.items s.stamp)
-    ∙ same_map (found_version blocks reels rotten dirs.users.items s) (λ (r : FileRec). (r, copy_at dirs.online.items r.number)) (rec_of dirs.files.items s.stamp))) in
-    ap (λ (ls : List (List ℕ)). ls ++ flat_map (rec_lines blocks reels rotten dirs.users.items dirs.online.items dirs.files.items) files) one
-    ∙ ap (λ (ls : List (List ℕ)). version_lines (option_map (found_version blocks reels rotten dirs.users.items s) (version_of (entries_of dirs.files.items dirs.online.items) s.stamp)) ++ ls)
-    (same_lines blocks reels rotten dirs format files)
+same_lines : (blocks : List (List ℕ)) (reels : List Reel) (marks : Marks) (dirs : Dirs) (format : Format) (files : List SealedFile)
+    → flat_map (rec_lines blocks reels marks dirs.users.items dirs.online.items dirs.files.items) files ≡ rotten_files blocks reels marks (found_in (Some (format, dirs))) files
+same_lines blocks reels marks dirs format [] = refl
+same_lines blocks reels marks dirs format (s ∷ files) =
+    let one : rec_lines blocks reels marks dirs.users.items dirs.online.items dirs.files.items s ≡ version_lines (option_map (found_version blocks reels marks dirs.users.items s) (version_of (entries_of dirs.files.items dirs.online.items) s.stamp)) =
+    ap version_lines (sym (ap (option_map (found_version blocks reels marks dirs.users.items s)) (same_version dirs.files.items dirs.online.items s.stamp)
+    ∙ same_map (found_version blocks reels marks dirs.users.items s) (λ (r : FileRec). (r, copy_at dirs.online.items r.number)) (rec_of dirs.files.items s.stamp))) in
+    ap (λ (ls : List (List ℕ)). ls ++ flat_map (rec_lines blocks reels marks dirs.users.items dirs.online.items dirs.files.items) files) one
+    ∙ ap (λ (ls : List (List ℕ)). version_lines (option_map (found_version blocks reels marks dirs.users.items s) (version_of (entries_of dirs.files.items dirs.online.items) s.stamp)) ++ ls)
+    (same_lines blocks reels marks dirs format files)
 
-pub held_report : (blocks : List (List ℕ)) (reels : List Reel) (rotten : List SealedDump) (files : List SealedFile) (format : Format) (dirs : Dirs) (here : Option (Format × Dirs)) (result : Result (Unit {0}) LookFault) (old new : List ℕ)
-    → here ≡ Some (format, dirs) → OnOk result (new ≡ old ++ text_of (flat_map (rec_lines blocks reels rotten dirs.users.items dirs.online.items dirs.files.items) files))
-    → OnOk result (new ≡ old ++ text_of (rotten_files blocks reels rotten (found_in here) files))
-held_report blocks reels rotten files format dirs here (Err e) old new some is = tt
-held_report blocks reels rotten files format dirs here (Ok u) old new some is =
+pub held_report : (blocks : List (List ℕ)) (reels : List Reel) (marks : Marks) (files : List SealedFile) (format : Format) (dirs : Dirs) (here : Option (Format × Dirs)) (result : Result (Unit {0}) LookFault) (old new : List ℕ)
+    → here ≡ Some (format, dirs) → OnOk result (new ≡ old ++ text_of (flat_map (rec_lines blocks reels marks dirs.users.items dirs.online.items dirs.files.items) files))
+    → OnOk result (new ≡ old ++ text_of (rotten_files blocks reels marks (found_in here) files))
+held_report blocks reels marks files format dirs here (Err e) old new some is = tt
+held_report blocks reels marks files format dirs here (Ok u) old new some is =
     is ∙ ap (λ (xs : List (List ℕ)). old ++ text_of xs)
-    (same_lines blocks reels rotten dirs format files ∙ ap (λ (h : Option (Format × Dirs)). rotten_files blocks reels rotten (found_in h) files) (sym some))
+    (same_lines blocks reels marks dirs format files ∙ ap (λ (h : Option (Format × Dirs)). rotten_files blocks reels marks (found_in h) files) (sym some))

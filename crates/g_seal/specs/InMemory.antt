@@ -12,7 +12,7 @@ use Rattle.g_restore.specs.KnownDumps.{Known, known}
 use Rattle.g_seal.specs.declared.entries.SealedDump.{SealedDump}
 use Rattle.g_seal.specs.declared.entries.SealedFile.{SealedFile}
 use Rattle.g_seal.specs.declared.versions.FoundVersion.{FoundVersion}
-use Rattle.g_seal.specs.Rotten.{found_version, version_lines}
+use Rattle.g_seal.specs.Rotten.{Marks, found_version, version_lines}
 use Rattle.g_seal.specs.Sealing.{bytes_on, sealed_file}
 use Rattle.g_seal.specs.SealText.{dump_line, file_line}
 
@@ -39,13 +39,13 @@ abbrev pub rec_line : List (List ℕ) → List Reel → List UserRec → List (�
 rec_line blocks reels users online r = file_line (sealed_file blocks reels users (r, copy_at online r.number))
 
 -- A sealed version as it is found, by the records and the copies on disc.
-abbrev pub rec_version : List (List ℕ) → List Reel → List SealedDump → List UserRec → List (ℕ × DiscCopy) → SealedFile → FileRec → FoundVersion
-rec_version blocks reels rotten users online s r = found_version blocks reels rotten users s (r, copy_at online r.number)
+abbrev pub rec_version : List (List ℕ) → List Reel → Marks → List UserRec → List (ℕ × DiscCopy) → SealedFile → FileRec → FoundVersion
+rec_version blocks reels marks users online s r = found_version blocks reels marks users s (r, copy_at online r.number)
 
 -- The record with this stamp.
 abbrev pub rec_of : List FileRec → ℕ → Option FileRec
 rec_of files stamp = find (λ r. r.stamp == stamp) files
 
 -- The lines of a sealed file, by the records and the copies on disc.
-abbrev pub rec_lines : List (List ℕ) → List Reel → List SealedDump → List UserRec → List (ℕ × DiscCopy) → List FileRec → SealedFile → List (List ℕ)
-rec_lines blocks reels rotten users online files s = version_lines (option_map (rec_version blocks reels rotten users online s) (rec_of files s.stamp))
+abbrev pub rec_lines : List (List ℕ) → List Reel → Marks → List UserRec → List (ℕ × DiscCopy) → List FileRec → SealedFile → List (List ℕ)
+rec_lines blocks reels marks users online files s = version_lines (option_map (rec_version blocks reels marks users online s) (rec_of files s.stamp))

@@ -25,6 +25,7 @@ use Rattle.g_look.specs.FileLines.{taped_text}
 use Rattle.g_look.specs.Text.{IsFoundOn, told}
 use Rattle.g_seal.specs.declared.entries.SealedDump.{SealedDump}
 use Rattle.g_seal.specs.declared.entries.SealedFile.{SealedFile}
+use Rattle.g_seal.specs.declared.twins.Twins.{Twins}
 use Rattle.g_seal.specs.declared.versions.CopyState.{CopyState}
 use Rattle.g_seal.specs.declared.versions.CopyState.TheVariants.{Sealed, Other, Absent}
 use Rattle.g_seal.specs.declared.versions.FoundVersion.{FoundVersion}
@@ -120,6 +121,24 @@ abbrev pub tape_state : List Reel → List SealedDump → SealedFile → CopySta
 tape_state reels rotten s disc len None = Absent
 tape_state reels rotten s disc len (Some copy) = if is_left_out rotten s disc copy then Absent else reel_state reels copy len s.sum
 
+-- The stamp is one of these.
+abbrev pub is_among : List ℕ → ℕ → Bool
+is_among stamps stamp = list_any (λ n. n == stamp) stamps
+
+-- The state that was found of the file with this stamp.
+abbrev pub state_found : Twins → ℕ → CopyState
+state_found twins stamp = if is_among twins.sealed.items stamp then Sealed else (if is_among twins.other.items stamp then Other else Absent)
+
+-- Other bytes aren't reported of a copy that is left out.
+abbrev pub unless_left : Bool → CopyState → CopyState
+unless_left left state = if left && is_other state then Absent else state
+
+-- THE STATE OF A VERSION'S COPY IN THE SECOND RACK, if the version is still at the place on tape where it was sealed.
+abbrev pub twin_state : Twins → SealedFile → CopyState → Option TapeCopy → CopyState
+twin_state twins s disc None = Absent
+twin_state twins s disc (Some copy) =
+    if is_same_place copy s.tape then unless_left (is_left_out twins.rotten.items s disc copy) (state_found twins s.stamp) else Absent
+
 -- THE LINE OF A ROTTEN DUMP, with words after its reel that say in which rack it is.
 abbrev pub rotten_dump_line : List ℕ → SealedDump → List ℕ
 rotten_dump_line rack d = told (codes "ROTTEN DUMP ") d.number ++ told (codes " ON ") d.serial ++ rack
@@ -128,28 +147,39 @@ rotten_dump_line rack d = told (codes "ROTTEN DUMP ") d.number ++ told (codes " 
 abbrev pub tape_if : Bool → Option TapeCopy → List ℕ
 tape_if listed tape = if listed then taped_text tape else []
 
+-- The place in the second rack, if the copy there is one of those that are listed.
+abbrev pub twin_if : Bool → Option TapeCopy → List ℕ
+twin_if listed tape = if listed then taped_text tape ++ codes " IN THE SECOND RACK" else []
+
 -- No copy has the sealed bytes.
 abbrev pub nowhere_text : FoundVersion → List ℕ
-nowhere_text v = if is_sealed v.disc || is_sealed v.tape then [] else codes " NOWHERE"
+nowhere_text v = if is_sealed v.disc || is_sealed v.tape || is_sealed v.twin then [] else codes " NOWHERE"
 
 -- THE LINE OF A ROTTEN FILE: the places with other bytes, and after the word GOOD those with the sealed ones.
 abbrev pub rotten_file_line : FoundVersion → List ℕ
 rotten_file_line v =
-    codes "ROTTEN FILE " ++ full_text v.full ++ told (codes " STAMP ") v.stamp ++ online_text (is_other v.disc) ++ tape_if (is_other v.tape) v.place ++ codes " GOOD"
-    ++ online_text (is_sealed v.disc) ++ tape_if (is_sealed v.tape) v.place ++ nowhere_text v
+    codes "ROTTEN FILE " ++ full_text v.full ++ told (codes " STAMP ") v.stamp ++ online_text (is_other v.disc) ++ tape_if (is_other v.tape) v.place
+    ++ twin_if (is_other v.twin) v.place ++ codes " GOOD" ++ online_text (is_sealed v.disc) ++ tape_if (is_sealed v.tape) v.place
+    ++ twin_if (is_sealed v.twin) v.place ++ nowhere_text v
 
--- A FILE IS ROTTEN if one of its copies has other bytes.
+-- A FILE IS ROTTEN if its copy on the disc or that in the first rack has other bytes.
 abbrev pub rotten_if : FoundVersion → List (List ℕ)
 rotten_if v = if is_other v.disc || is_other v.tape then rotten_file_line v ∷ [] else []
 
+-- The rotten dumps of the first rack, and what was found of the seal in a second one.
+pub record Marks : Type 0 where
+  pub rotten : List SealedDump
+  pub twins : Twins
+
 -- A sealed version as it is found: its present name, and the states of its copies.
-abbrev pub found_version : List (List ℕ) → List Reel → List SealedDump → List UserRec → SealedFile → FileEntry → FoundVersion
-found_version blocks reels rotten users s f = record {
+abbrev pub found_version : List (List ℕ) → List Reel → Marks → List UserRec → SealedFile → FileEntry → FoundVersion
+found_version blocks reels marks users s f = record {
   full = full_of users f.0;
   stamp = f.0.stamp;
   place = f.0.tape;
   disc = disc_state blocks s.sum f.1;
-  tape = tape_state reels rotten s (disc_state blocks s.sum f.1) f.0.len f.0.tape;
+  tape = tape_state reels marks.rotten s (disc_state blocks s.sum f.1) f.0.len f.0.tape;
+  twin = twin_state marks.twins s (disc_state blocks s.sum f.1) f.0.tape;
 }
 
 -- The lines of a version, if the disc still has it.
@@ -162,30 +192,56 @@ abbrev pub version_of : List FileEntry → ℕ → Option FileEntry
 version_of files stamp = find (λ f. f.0.stamp == stamp) files
 
 -- The lines of a sealed file.
-abbrev pub file_lines : List (List ℕ) → List Reel → List SealedDump → Directory → SealedFile → List (List ℕ)
-file_lines blocks reels rotten d s = version_lines (option_map (found_version blocks reels rotten d.users s) (version_of d.files s.stamp))
+abbrev pub file_lines : List (List ℕ) → List Reel → Marks → Directory → SealedFile → List (List ℕ)
+file_lines blocks reels marks d s = version_lines (option_map (found_version blocks reels marks d.users s) (version_of d.files s.stamp))
 
 -- The lines of the sealed files of what the disc holds.
-abbrev pub rotten_files : List (List ℕ) → List Reel → List SealedDump → Option (Format × Directory) → List SealedFile → List (List ℕ)
-rotten_files blocks reels rotten None files = []
-rotten_files blocks reels rotten (Some (format, d)) files = flat_map (file_lines blocks reels rotten d) files
+abbrev pub rotten_files : List (List ℕ) → List Reel → Marks → Option (Format × Directory) → List SealedFile → List (List ℕ)
+rotten_files blocks reels marks None files = []
+rotten_files blocks reels marks (Some (format, d)) files = flat_map (file_lines blocks reels marks d) files
 
 -- THE LINES OF A CHECK AGAINST A SEAL: those of rotten dumps, and those of rotten files, each in the order of the seal.
-abbrev pub rotten_lines : List (List ℕ) → List Reel → Option (Format × Directory) → List SealedDump → List SealedFile → List (List ℕ)
-rotten_lines blocks reels found dumps files =
-    map (rotten_dump_line []) (rotten_dumps reels dumps) ++ rotten_files blocks reels (rotten_dumps reels dumps) found files
+abbrev pub rotten_lines : List (List ℕ) → List Reel → Twins → Option (Format × Directory) → List SealedDump → List SealedFile → List (List ℕ)
+rotten_lines blocks reels twins found dumps files =
+    map (rotten_dump_line []) (rotten_dumps reels dumps)
+    ++ rotten_files blocks reels (record { rotten = rotten_dumps reels dumps; twins = twins }) found files
+
+-- The state of bytes at a place on tape, if there is one.
+abbrev pub state_at : List Reel → ℕ → List ℕ → Option TapeCopy → CopyState
+state_at reels len sum None = Absent
+state_at reels len sum (Some copy) = reel_state reels copy len sum
+
+-- THE STATE OF A FILE IN THE SECOND RACK, at the place where it was sealed.
+abbrev pub twin_here : List Reel → SealedFile → CopyState
+twin_here reels s = state_at reels s.len s.sum s.tape
+
+-- The stamps of the files that are so in the second rack.
+abbrev pub stamps_in : (CopyState → Bool) → List Reel → List SealedFile → List ℕ
+stamps_in is_so reels files = map (λ s. s.stamp) (filter (λ s. is_so (twin_here reels s)) files)
+
+-- WHAT A SECOND RACK HAS OF A SEAL.
+pub record AreTwins (reels : List Reel) (dumps : List SealedDump) (files : List SealedFile) (twins : Twins) : Type 0 where
+  pub rotten : twins.rotten.items ≡ rotten_dumps reels dumps
+  pub sealed : twins.sealed.items ≡ stamps_in is_sealed reels files
+  pub other : twins.other.items ≡ stamps_in is_other reels files
+
+-- There is no second rack.
+pub record HasNoTwins (twins : Twins) : Type 0 where
+  pub rotten : twins.rotten.items ≡ []
+  pub sealed : twins.sealed.items ≡ []
+  pub other : twins.other.items ≡ []
 
 -- THE LINES OF A SECOND RACK: those of the sealed dumps that are rotten on its reels.
-abbrev pub twin_lines : List Reel → List SealedDump → List (List ℕ)
-twin_lines reels dumps = map (rotten_dump_line (codes " IN THE SECOND RACK")) (rotten_dumps reels dumps)
+abbrev pub twin_lines : Twins → List (List ℕ)
+twin_lines twins = map (rotten_dump_line (codes " IN THE SECOND RACK")) twins.rotten.items
 
 -- THE TEXT OF THESE LINES, for devices that expose their contents.
-pub record IsReport (held : Option (List (List ℕ))) (reels : List Reel) (dumps : List SealedDump) (files : List SealedFile) (text : List ℕ) : Type 0 where
+pub record IsReport (held : Option (List (List ℕ))) (reels : List Reel) (twins : Twins) (dumps : List SealedDump) (files : List SealedFile) (text : List ℕ) : Type 0 where
   pub blocks : List (List ℕ)
   pub is_told : held ≡ Some blocks
   pub found : Option (Format × Directory)
   pub found_is : IsFoundOn blocks found
-  pub text_is : text ≡ text_of (rotten_lines blocks reels found dumps files)
+  pub text_is : text ≡ text_of (rotten_lines blocks reels twins found dumps files)
 
 -- THE DUMPS AND FILES OF THE SEAL of devices that expose their contents.
 pub record IsSealing (held : Option (List (List ℕ))) (reels : List Reel) (dumps : List SealedDump) (files : List SealedFile) : Type 0 where
@@ -201,5 +257,5 @@ pub record IsSealing (held : Option (List (List ℕ))) (reels : List Reel) (dump
 -- A STORE THAT HASN'T CHANGED has nothing to report against the text of its own seal.
 abbrev pub OwnIsQuiet : Type 0
 OwnIsQuiet =
-    (held : Option (List (List ℕ))) (rack : Rack) (dumps : List SealedDump) (files : List SealedFile) (text : List ℕ) → AreReels rack.reels → AllTold held (told_reels rack)
-    → AreEntries dumps files → IsSealed held (told_reels rack) (sealed_text dumps files) → IsReport held (told_reels rack) dumps files text → text ≡ []
+    (held : Option (List (List ℕ))) (rack : Rack) (twins : Twins) (dumps : List SealedDump) (files : List SealedFile) (text : List ℕ) → AreReels rack.reels → AllTold held (told_reels rack)
+    → AreEntries dumps files → IsSealed held (told_reels rack) (sealed_text dumps files) → IsReport held (told_reels rack) twins dumps files text → text ≡ []

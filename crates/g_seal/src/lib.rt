@@ -18,6 +18,7 @@ mod rotten_dumps;
 mod rotten_files;
 mod rotten_line;
 mod sealing;
+mod twins;
 mod versions;
 
 ghost use Rattle.g_seal.specs.Entries.{TextIsOne};
@@ -25,8 +26,9 @@ ghost use Rattle.g_seal.specs.Rotten.{OwnIsQuiet};
 
 pub use entries::{SealedDump, SealedFile};
 pub use parse::{Seal, SealFault, parse_seal};
-pub use reporting::{rotten, rotten_twins};
+pub use reporting::rotten;
 pub use sealing::{Sealed, seal};
+pub use twins::{Twins, twins_of};
 
 /// The text of a seal determines its dumps and files.
 #[tactic(auto, using(crate::proofs::EntryLemmas::text_is_one))]

@@ -1,5 +1,5 @@
 //! The lines of a seal, read back.
-ghost use Rattle.std.specs.Prelude.{◌≡◌, ◌≢◌, ◌<◌, ◌≤◌, ◌^◌, ◌++◌, ℕ, All, Bool, IfNone, IfOk, IfSome, List, MatchOption, Option, Some, codes, drop};
+ghost use Rattle.std.specs.Prelude.{◌≡◌, ◌≢◌, ◌<◌, ◌^◌, ◌++◌, ℕ, All, Bool, IfNone, IfOk, IfSome, List, MatchOption, Option, Some, codes, drop};
 ghost use Rattle.hex.specs.Hex.{encode_lower};
 ghost use Rattle.g_entry.specs.declared.file_rec.TapeCopy.{TapeCopy};
 ghost use Rattle.g_look.specs.FileLines.{taped_text};

@@ -17,7 +17,7 @@ use crate::disc_sum::disc_sum;
 use crate::reel_state::{reel_state, sum_state};
 use crate::rotten_line::push_version;
 use crate::versions::{CopyState, FoundVersion};
-use crate::{SealedDump, SealedFile};
+use crate::{SealedDump, SealedFile, Twins};
 use g_copy::DiscCopy;
 use g_dirs::Dirs;
 use g_disc::Disc;
@@ -27,10 +27,11 @@ use g_name::Text;
 use g_tape::Tapes;
 use g_tree::full_of;
 
-/// The rotten dumps and the files of a seal.
+/// The rotten dumps of the first rack, what a second one has, and the files of a seal.
 #[derive(Drop)]
 pub(crate) struct Sought<'a> {
     pub rotten: &'a [SealedDump],
+    pub twins: &'a Twins,
     pub files: &'a [SealedFile],
 }
 
@@ -46,7 +47,8 @@ pub(crate) fn push_rotten_held<D: Disc, T: Tapes>(
     requires sound { IfSome held.now (λ f. IsSound (D.state disc.old).size f.1) }
     requires mounted { All (λ r. r.mounted ≡ true) (told_reels (T.rack tapes.old)) }
     ensures text { ReelsTold (told_reels (T.rack tapes.old)) → ForSome (D.state disc.old).held (λ blocks. OnOk result (text.new ≡ text.old
-        ++ text_of (rotten_files blocks (told_reels (T.rack tapes.old)) sought.now.rotten.now (found_in held.now) sought.now.files.now))) }
+        ++ text_of (rotten_files blocks (told_reels (T.rack tapes.old))
+        (record { rotten = sought.now.rotten.now; twins = sought.now.twins.now }) (found_in held.now) sought.now.files.now))) }
     ensures disc { ReadsByCause (result ≡ Err LookFault.DiscUnread) (D.state disc.old) (D.state disc.new) }
     ensures tapes { ReadsRackByCause (result ≡ Err LookFault.TapeUnread) (T.rack tapes.old) (T.rack tapes.new) }
     ensures faults { IfErr result IsOfReport }
@@ -69,14 +71,14 @@ fn push_rotten_files<D: Disc, T: Tapes>(
     requires sound { IsSound (D.state disc.old).size dirs.now }
     requires mounted { All (λ r. r.mounted ≡ true) (told_reels (T.rack tapes.old)) }
     ensures text { ReelsTold (told_reels (T.rack tapes.old)) → ForSome (D.state disc.old).held (λ blocks. OnOk result (text.new ≡ text.old
-        ++ text_of (flat_map (rec_lines blocks (told_reels (T.rack tapes.old)) sought.now.rotten.now dirs.now.users.items dirs.now.online.items dirs.now.files.items)
-        sought.now.files.now))) }
+        ++ text_of (flat_map (rec_lines blocks (told_reels (T.rack tapes.old)) (record { rotten = sought.now.rotten.now; twins = sought.now.twins.now })
+        dirs.now.users.items dirs.now.online.items dirs.now.files.items) sought.now.files.now))) }
     ensures disc { ReadsByCause (result ≡ Err LookFault.DiscUnread) (D.state disc.old) (D.state disc.new) }
     ensures tapes { ReadsRackByCause (result ≡ Err LookFault.TapeUnread) (T.rack tapes.old) (T.rack tapes.new) }
     ensures faults { IfErr result IsOfReport }
 {
     for sealed in sought.files {
-        match found_version(disc, tapes, dirs, sought.rotten, sealed) {
+        match found_version(disc, tapes, dirs, sought, sealed) {
             Ok(found) => match push_version(text, &found) {
                 Ok(()) => {}
                 Err(_) => return Err(LookFault::NoMemory),
@@ -92,14 +94,15 @@ fn found_version<D: Disc, T: Tapes>(
     disc: &mut D,
     tapes: &mut T,
     dirs: &Dirs,
-    rotten: &[SealedDump],
+    sought: &Sought,
     sealed: &SealedFile,
 ) -> Result<Option<FoundVersion>, LookFault>
     requires size { 2177 < (D.state disc.old).size }
     requires sound { IsSound (D.state disc.old).size dirs.now }
     requires mounted { All (λ r. r.mounted ≡ true) (told_reels (T.rack tapes.old)) }
     ensures version { ReelsTold (told_reels (T.rack tapes.old)) → ForSome (D.state disc.old).held (λ blocks. IfOk result (λ found. found
-        ≡ option_map (rec_version blocks (told_reels (T.rack tapes.old)) rotten.now dirs.now.users.items dirs.now.online.items sealed.now)
+        ≡ option_map (rec_version blocks (told_reels (T.rack tapes.old)) (record { rotten = sought.now.rotten.now; twins = sought.now.twins.now })
+        dirs.now.users.items dirs.now.online.items sealed.now)
         (rec_of dirs.now.files.items sealed.now.stamp))) }
     ensures disc { ReadsByCause (result ≡ Err LookFault.DiscUnread) (D.state disc.old) (D.state disc.new) }
     ensures tapes { ReadsRackByCause (result ≡ Err LookFault.TapeUnread) (T.rack tapes.old) (T.rack tapes.new) }
@@ -114,7 +117,7 @@ fn found_version<D: Disc, T: Tapes>(
         Ok(state) => state,
         Err(fault) => return Err(fault),
     };
-    let on_tape = match tape_state(tapes, rotten, sealed, on_disc, file) {
+    let on_tape = match tape_state(tapes, sought.rotten, sealed, on_disc, file) {
         Ok(state) => state,
         Err(fault) => return Err(fault),
     };
@@ -124,6 +127,7 @@ fn found_version<D: Disc, T: Tapes>(
         place: file.tape,
         disc: on_disc,
         tape: on_tape,
+        twin: sought.twins.state_of(sealed, on_disc, &file.tape),
     }))
 }
 
@@ -188,7 +192,12 @@ fn tape_state<T: Tapes>(
 }
 
 /// Whether a copy on tape isn't compared: it was sealed only as part of its dump, which isn't rotten, and the disc's copy has the sealed bytes.
-fn is_left_out(rotten: &[SealedDump], sealed: &SealedFile, disc: CopyState, copy: &TapeCopy) -> bool
+pub(crate) fn is_left_out(
+    rotten: &[SealedDump],
+    sealed: &SealedFile,
+    disc: CopyState,
+    copy: &TapeCopy,
+) -> bool
     ensures { result ≡ is_left_out rotten.now sealed.now disc copy.now }
 {
     sealed.online
@@ -198,7 +207,7 @@ fn is_left_out(rotten: &[SealedDump], sealed: &SealedFile, disc: CopyState, copy
 }
 
 /// Whether the copies are at the same place.
-fn is_same_place(copy: &TapeCopy, other: &Option<TapeCopy>) -> bool
+pub(crate) fn is_same_place(copy: &TapeCopy, other: &Option<TapeCopy>) -> bool
     ensures { result ≡ is_same_place copy.now other.now }
 {
     match other {

@@ -13,7 +13,7 @@ pub(crate) enum CopyState {
     Absent,
 }
 
-/// A version with its present name, the place of its copy on tape, and the states of its copies on disc and on tape.
+/// A version with its present name, the place of its copy on tape, and the states of its copies on disc, on tape and in the second rack.
 #[derive(Drop)]
 pub(crate) struct FoundVersion {
     pub full: Full,
@@ -21,6 +21,7 @@ pub(crate) struct FoundVersion {
     pub place: Option<TapeCopy>,
     pub disc: CopyState,
     pub tape: CopyState,
+    pub twin: CopyState,
 }
 
 impl CopyState {

@@ -9,5 +9,8 @@ returns-in-Err c d = inr (record { status = NoMemory; so = tt; code_is = d.code.
 pub tell_twins-status-requires-clause-mounted : goal.tell_twins-status-requires-clause-mounted
 tell_twins-status-requires-clause-mounted g c = all_mounted_after _ _ c.look_against-status.ensures.devices.rack_left (c.if-not-mount_all.ensures.mounted (cc))
 
-pub tell_rotten_twins-requires-clause-mounted : goal.tell_rotten_twins-requires-clause-mounted
-tell_rotten_twins-requires-clause-mounted g c = all_mounted_after _ _ c.tell_twins-status.ensures.second (c.if-not-mount_all-2.ensures.mounted (cc))
+pub returns-in-Err-twins_of : goal.returns-in-Err-twins_of
+returns-in-Err-twins_of g c = inr (record { status = NoMemory; so = tt; code_is = c.code-in-Err-twins_of.ensures })
+
+pub tell_twins-status-requires-clause-mounted_too : goal.tell_twins-status-requires-clause-mounted_too
+tell_twins-status-requires-clause-mounted_too g c = all_mounted_after _ _ c.in-Ok-twins_of.ensures.second.only (c.if-not-mount_all-2.ensures.mounted (cc))

@@ -3,32 +3,32 @@ use Rattle.g_look_program.proofs.ReportLemmas.{check_faults, report_failed, repo
 use Rattle.g_look_program.proofs.against.look_against.Goals as goal
 
 pub returns-in-Err-clause-report : goal.returns-in-Err-clause-report
-returns-in-Err-clause-report g c = λ told. report_failed _ _ _ _ _ c.tell_check.result _ c.in-Err.fault c.in-Err.ensures.faults c.tell_check.ensures
+returns-in-Err-clause-report g c = λ told. report_failed _ _ _ _ _ _ c.tell_check.result _ c.in-Err.fault c.in-Err.ensures.faults c.tell_check.ensures
 
 pub rotten-requires-clause-mounted : goal.rotten-requires-clause-mounted
 rotten-requires-clause-mounted g c = all_mounted_after _ _ c.in-Ok.ensures.tapes.only c.requires.mounted
 
 pub returns-in-Ok-rotten-clause-report : goal.returns-in-Ok-rotten-clause-report
 returns-in-Ok-rotten-clause-report g c = λ told.
-    report_found _ _ _ _ _ c.tell_report.result _ c.in-Ok.checked c.in-Ok-rotten.report (c.in-Ok.ensures.right told) c.in-Ok.ensures.filestore
-    (report_mid _ _ _ _ _ _ _ c.in-Ok.ensures.disc.held c.in-Ok.ensures.tapes.only.reels told c.in-Ok-rotten.ensures.text) c.tell_report.ensures
+    report_found _ _ _ _ _ _ c.tell_report.result _ c.in-Ok.checked c.in-Ok-rotten.report (c.in-Ok.ensures.right told) c.in-Ok.ensures.filestore
+    (report_mid _ _ _ _ _ _ _ _ c.in-Ok.ensures.disc.held c.in-Ok.ensures.tapes.only.reels told c.in-Ok-rotten.ensures.text) c.tell_report.ensures
 
 pub returns-in-Err-rotten-clause-report : goal.returns-in-Err-rotten-clause-report
 returns-in-Err-rotten-clause-report g c = λ told.
-    report_failed _ _ _ _ _ c.tell_check-in-Err-rotten.result _ c.in-Err-rotten.fault (check_faults _ c.in-Err-rotten.ensures.faults) c.tell_check-in-Err-rotten.ensures
+    report_failed _ _ _ _ _ _ c.tell_check-in-Err-rotten.result _ c.in-Err-rotten.fault (check_faults _ c.in-Err-rotten.ensures.faults) c.tell_check-in-Err-rotten.ensures
 
 pub returns-in-Err-clause-own : goal.returns-in-Err-clause-own
 returns-in-Err-clause-own g c = λ told entries sealed.
-    report_own _ _ (g.T.Tapes.rack c.args.tapes.now) _ _ c.tell_check.result _ (g.met.T.Tapes.well_formed _) told entries sealed (
-    report_failed _ _ _ c.args.seal.now.dumps.items c.args.seal.now.files.items c.tell_check.result _ c.in-Err.fault c.in-Err.ensures.faults c.tell_check.ensures)
+    report_own _ _ (g.T.Tapes.rack c.args.tapes.now) c.args.against.now.twins _ _ c.tell_check.result _ (g.met.T.Tapes.well_formed _) told entries sealed (
+    report_failed _ _ _ c.args.against.now.twins c.args.against.now.seal.dumps.items c.args.against.now.seal.files.items c.tell_check.result _ c.in-Err.fault c.in-Err.ensures.faults c.tell_check.ensures)
 
 pub returns-in-Ok-rotten-clause-own : goal.returns-in-Ok-rotten-clause-own
 returns-in-Ok-rotten-clause-own g c = λ told entries sealed.
-    report_own _ _ (g.T.Tapes.rack c.args.tapes.now) _ _ c.tell_report.result _ (g.met.T.Tapes.well_formed _) told entries sealed (
-    report_found _ _ _ _ _ c.tell_report.result _ c.in-Ok.checked c.in-Ok-rotten.report (c.in-Ok.ensures.right told) c.in-Ok.ensures.filestore
-    (report_mid _ _ _ _ _ _ _ c.in-Ok.ensures.disc.held c.in-Ok.ensures.tapes.only.reels told c.in-Ok-rotten.ensures.text) c.tell_report.ensures)
+    report_own _ _ (g.T.Tapes.rack c.args.tapes.now) c.args.against.now.twins _ _ c.tell_report.result _ (g.met.T.Tapes.well_formed _) told entries sealed (
+    report_found _ _ _ _ _ _ c.tell_report.result _ c.in-Ok.checked c.in-Ok-rotten.report (c.in-Ok.ensures.right told) c.in-Ok.ensures.filestore
+    (report_mid _ _ _ _ _ _ _ _ c.in-Ok.ensures.disc.held c.in-Ok.ensures.tapes.only.reels told c.in-Ok-rotten.ensures.text) c.tell_report.ensures)
 
 pub returns-in-Err-rotten-clause-own : goal.returns-in-Err-rotten-clause-own
 returns-in-Err-rotten-clause-own g c = λ told entries sealed.
-    report_own _ _ (g.T.Tapes.rack c.args.tapes.now) _ _ c.tell_check-in-Err-rotten.result _ (g.met.T.Tapes.well_formed _) told entries sealed (
-    report_failed _ _ _ c.args.seal.now.dumps.items c.args.seal.now.files.items c.tell_check-in-Err-rotten.result _ c.in-Err-rotten.fault (check_faults _ c.in-Err-rotten.ensures.faults) c.tell_check-in-Err-rotten.ensures)
+    report_own _ _ (g.T.Tapes.rack c.args.tapes.now) c.args.against.now.twins _ _ c.tell_check-in-Err-rotten.result _ (g.met.T.Tapes.well_formed _) told entries sealed (
+    report_failed _ _ _ c.args.against.now.twins c.args.against.now.seal.dumps.items c.args.against.now.seal.files.items c.tell_check-in-Err-rotten.result _ c.in-Err-rotten.fault (check_faults _ c.in-Err-rotten.ensures.faults) c.tell_check-in-Err-rotten.ensures)

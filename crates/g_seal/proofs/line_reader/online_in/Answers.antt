@@ -1,4 +1,3 @@
-use Rattle.std.proofs.Common.{◌++◌, drop, length}
 use Rattle.std.specs.Prelude.{codes}
 use Rattle.std.proofs.lemmas.Bool.Decides.{Decides-eqb}
 use Rattle.std.proofs.lemmas.Slice.Eq.{starts_is}

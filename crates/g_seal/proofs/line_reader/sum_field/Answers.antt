@@ -1,4 +1,4 @@
-use Rattle.std.proofs.Common.{◌++◌, Some, refl, sym, ◌∙◌}
+use Rattle.std.proofs.Common.{◌++◌, Some, sym, ◌∙◌}
 use Rattle.std.specs.Prelude.{codes}
 use Rattle.std.proofs.lemmas.Bool.Decides.{Decides-eqb}
 use Rattle.std.proofs.lemmas.List.{append_cancel_left}

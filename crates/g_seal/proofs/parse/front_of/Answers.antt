@@ -1,6 +1,4 @@
-use Rattle.std.proofs.Common.{List, ℕ, ◌++◌, refl, sym, ◌∙◌, ap}
-use Rattle.g_lines.specs.Lines.{ended}
-use Rattle.g_seal.specs.SealText.{last_line}
+use Rattle.std.proofs.Common.{refl}
 use Rattle.g_seal.proofs.ParseLemmas.{due_is}
 use Rattle.g_seal.proofs.parse.front_of.Goals as goal
 

@@ -1,7 +1,5 @@
-use Rattle.std.proofs.Common.{ℕ, ◌≡◌, ◌++◌, length}
+use Rattle.std.proofs.Common.{length}
 use Rattle.g_lines.specs.Lines.{lines_of}
-use Rattle.g_seal.specs.Entries.{AreEntries}
-use Rattle.g_seal.specs.SealText.{sealed_lines}
 use Rattle.g_seal.proofs.EntryLemmas.{HasParsed}
 use Rattle.g_seal.proofs.parse.lines_in.Given as goal
 
