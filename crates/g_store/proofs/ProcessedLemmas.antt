@@ -119,6 +119,7 @@ process_early serial s fault is_store running is =
       keeps = is_store;
       told = λ told. told;
       belongs = λ told was. was;
+      dumps = λ told was safe. safe;
       exit = λ told text shelf shelved up unspent. leaves_all text shelf serial fault s early;
       spent = (λ spent. absurd (let no : ⊥ = cc in no), λ same. absurd (unlike fault Stopped early (λ no. no) same));
       dump = λ _. refl;
