@@ -219,6 +219,18 @@ only_then old mid new a b =
       durable = still_no_more old mid new a.durable b.durable;
     }
 
+-- reads of a rack that didn't fail, and then others, for the cause that these have
+pub rack_reads_then : (P Q R : Type 0) (old mid new : Rack) → (P → ⊥) → (R → Q) → (Q → R) → ReadsRackByCause P old mid → ReadsRackByCause Q mid new → ReadsRackByCause R old new
+rack_reads_then P Q R old mid new not_p from to one two = record {
+  only = only_then old mid new one.only two.only;
+  kept = λ not_r. two.kept (λ q. not_r (to q)) ∙ one.kept not_p;
+  rose = λ r. subst (λ (n : ℕ). Rose n new.read_faults) (one.kept not_p) (two.rose (from r));
+}
+
+-- the same fault in the answer of another call
+pub same_fault : {A B : Type 0} (e f : LookFault) → (let r : Result A LookFault = Err e in r ≡ Err f) → (let r : Result B LookFault = Err e in r ≡ Err f)
+same_fault {A} {B} e f is = let same : e ≡ f = cc in ap (λ (x : LookFault). let r : Result B LookFault = Err x in r) same
+
 pub compared_step : (P Q : Type 0) (disc mid now : DiscState) (old rmid rnew : Rack) (online : List (ℕ × DiscCopy)) (dumped files slice : List FileRec) (i : ℕ) (r : FileRec) → slice ≡ files → i < length slice → r ≡ get_or slice i r
     → ComparedSoFar disc mid old rmid online dumped files i → ReadsByCause P mid now → (P → ⊥) → ReadsRackByCause Q rmid rnew → (Q → ⊥) → FileAgrees mid.held (told_reels rmid) online dumped r
     → ComparedSoFar disc now old rnew online dumped files (i + 1)
