@@ -1,5 +1,5 @@
 -- Each block that disc and dumps name is read by a check that finds no rule broken.
--- serves: compare_file (read), compare_files, compare_texts (first, second), judge (read), judge_bytes (read), read_others, tape_text (read), and 2 more
+-- serves: check (tapes), compare_file (read), compare_files, compare_texts (first, second), judge (read), judge_bytes (read), read_others, and 3 more
 use Rattle.std.proofs.Common.{◌≡◌, ◌≢◌, ◌⊎◌, inl, inr, ℕ, zero, suc, ◌+◌, ◌<◌, ◌≤◌, Bool, true, false, List, [], length, Option, Some, None, Result, Ok, Err, IfOk, refl, sym, ◌∙◌, ap, arith, subst, All}
 use Rattle.std.specs.Prelude.{◌==◌, AllPairs, Contains, IfSome, get_or, is_some}
 use Rattle.std.specs.Option.{ForSome}
