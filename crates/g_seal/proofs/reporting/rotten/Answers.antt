@@ -1,5 +1,6 @@
 use Rattle.g_tape.proofs.ReadLemmas.{nothing_read}
 use Rattle.g_look.proofs.CheckedLemmas.{mounted_told}
+use Rattle.g_look.proofs.ReadLemmas.{ok_not_err, rack_reads_then, same_fault}
 use Rattle.g_seal.proofs.OwnLemmas.{own_report}
 use Rattle.g_seal.proofs.OwnTextLemmas.{own_is_quiet}
 use Rattle.g_seal.proofs.ReportLemmas.{report_at}
@@ -30,3 +31,7 @@ returns-in-Ok-push_rotten_held-clause-own g c = λ told entries sealed.
     report_at _ (g.D.Disc.state c.args.disc.now) (g.D.Disc.state c.see_disc.new.disc) (g.T.Tapes.rack c.args.tapes.now) (g.T.Tapes.rack c.rotten_dumps.new.tapes) c.args.twins.now _ c.args.seal.now.dumps.items c.in-Ok-rotten_dumps.rotten.items _ _ _
     c.args.seal.now.files.items _ _ _ _ c.as_slice.ensures.value c.as_slice-2.ensures.value c.as_slice-3.ensures.value c.as_slice-4.ensures.value told c.in-Ok-rotten_dumps.ensures.tapes.only.reels c.in-Ok.ensures.reads.held
     c.in-Ok.ensures.standing c.new-text.ensures c.in-Ok-rotten_dumps.ensures.rotten c.in-Ok-push_rotten_dumps.ensures c.in-Ok-push_rotten_held.ensures.text)
+
+pub returns-clause-tapes : goal.returns-clause-tapes
+returns-clause-tapes g c =
+    rack_reads_then _ _ _ _ _ _ (ok_not_err _ _) (same_fault _ _) (same_fault _ _) c.in-Ok-rotten_dumps.ensures.tapes c.in-Err-push_rotten_held.ensures.tapes

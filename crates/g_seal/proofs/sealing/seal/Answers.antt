@@ -1,6 +1,6 @@
 use Rattle.g_tape.proofs.ReadLemmas.{more_reads}
 use Rattle.g_look.proofs.CheckedLemmas.{holds_filestore, mounted_told}
-use Rattle.g_look.proofs.ReadLemmas.{ok_not_err}
+use Rattle.g_look.proofs.ReadLemmas.{ok_not_err, rack_reads_then, same_fault}
 use Rattle.g_seal.proofs.SealLemmas.{disc_then, from_sealed, lost_at, sealed_at}
 use Rattle.g_seal.proofs.sealing.seal.Goals as goal
 
@@ -26,3 +26,18 @@ returns-in-Ok-push_seal-clause-text g c = λ told.
 
 pub returns-in-Ok-push_seal-clause-filestore : goal.returns-in-Ok-push_seal-clause-filestore
 returns-in-Ok-push_seal-clause-filestore g c = λ blocks told. rw c.is_some.ensures (holds_filestore _ _ _ blocks c.in-Ok-see_disc.ensures.standing told)
+
+pub returns-in-Err-push_held-clause-tapes : goal.returns-in-Err-push_held-clause-tapes
+returns-in-Err-push_held-clause-tapes g c =
+    rack_reads_then _ _ _ _ _ _ (ok_not_err _ _) (same_fault _ _) (same_fault _ _) c.in-Ok.ensures.tapes
+    (rack_reads_then _ _ _ _ _ _ (ok_not_err _ _) (λ e. e) (λ e. e) c.in-Ok-push_dumps.ensures.tapes c.in-Err-push_held.ensures.tapes)
+
+pub returns-in-Ok-push_seal-clause-tapes : goal.returns-in-Ok-push_seal-clause-tapes
+returns-in-Ok-push_seal-clause-tapes g c =
+    rack_reads_then _ _ _ _ _ _ (ok_not_err _ _) (λ e. absurd (ok_not_err _ _ e)) (λ e. absurd (ok_not_err _ _ e)) c.in-Ok.ensures.tapes
+    (rack_reads_then _ _ _ _ _ _ (ok_not_err _ _) (λ e. e) (λ e. e) c.in-Ok-push_dumps.ensures.tapes c.in-Ok-push_held.ensures.tapes)
+
+pub returns-clause-tapes : goal.returns-clause-tapes
+returns-clause-tapes g c =
+    rack_reads_then _ _ _ _ _ _ (ok_not_err _ _) (λ e. let no : ⊥ = cc in absurd no) (λ e. absurd (ok_not_err _ _ e)) c.in-Ok.ensures.tapes
+    (rack_reads_then _ _ _ _ _ _ (ok_not_err _ _) (λ e. e) (λ e. e) c.in-Ok-push_dumps.ensures.tapes c.in-Ok-push_held.ensures.tapes)
