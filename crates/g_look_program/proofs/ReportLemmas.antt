@@ -1,10 +1,13 @@
 -- The end of a check against a seal.
--- serves: look_against (own, report)
-use Rattle.std.proofs.Common.{◌≡◌, ◌⊎◌, ◌↔◌, inl, inr, ℕ, List, [], ◌∷◌, ◌++◌, Option, Result, Ok, Err, IsTrue, refl, subst}
+-- serves: look_against (devices, own, report)
+use Rattle.std.proofs.Common.{◌≡◌, ◌⊎◌, ◌↔◌, inl, inr, ℕ, List, [], ◌∷◌, ◌++◌, Option, Result, Ok, Err, IsTrue, refl, ap, subst, ◌∙◌}
 use Rattle.std.specs.Option.{ForSome}
 use Rattle.g_dirs.specs.Directory.{Directory}
 use Rattle.g_dirs.specs.Image.{StandsFor}
+use Rattle.g_base.specs.Counts.{Rose}
+use Rattle.g_disc.specs.Disc.{DiscState, ReadsByCause}
 use Rattle.g_tape.specs.Rack.{AreReels, Rack}
+use Rattle.g_tape.specs.Reads.{OnlyReads}
 use Rattle.g_tape.specs.Reel.{Reel}
 use Rattle.g_store_meaning.specs.Meaning.{told_reels}
 use Rattle.g_store_meaning.specs.Reading.{AllTold}
@@ -22,7 +25,7 @@ use Rattle.g_seal.specs.Sealing.{IsOfReport, IsSealed}
 use Rattle.g_seal.proofs.OwnTextLemmas.{own_is_quiet}
 use Rattle.g_look_program.specs.declared.status.Status.{Status}
 use Rattle.g_look_program.specs.declared.status.Status.TheVariants as status
-use Rattle.g_look_program.specs.Telling.{EndsCheck, EndsReport, IsFailed, TellsCheck, TellsFault, TellsReport, Written}
+use Rattle.g_look_program.specs.Telling.{EndsCheck, EndsReport, IsFailed, LeavesDisc, Looked, TellsCheck, TellsFault, TellsReport, Written}
 use Rattle.g_look_program.proofs.LookLemmas.{CheckFaults, ends_check, ends_fault, put_ends, quiet_ends}
 
 -- FAULTS
@@ -78,3 +81,43 @@ pub report_own : (size : ℕ) (held : Option (List (List ℕ))) (rack : Rack) (t
 report_own size held rack twins dumps files ended w are told entries sealed (inl check) = check.0
 report_own size held rack twins dumps files ended w are told entries sealed (inr (text, compared, puts)) =
     absurd (compared.some (own_is_quiet held rack twins dumps files compared.report are told entries sealed compared.reported))
+
+-- WHAT A LOOK DID that ended with this fault, from the reads of disc and rack
+module _ (d0 d2 : DiscState) (r0 r2 : Rack) (disc : LeavesDisc d0 d2) (rack : OnlyReads r0 r2) where
+  looked_unread : Rose d0.read_faults d2.read_faults ⊎ Rose r0.read_faults r2.read_faults → Looked status.Unread d0 d2 r0 r2
+  looked_unread rose = record { disc_left = disc; rack_left = rack; cause = λ is. rose; quiet = λ other out. absurd (other refl) }
+
+  looked_unprinted : Looked status.OutputFault d0 d2 r0 r2
+  looked_unprinted = record { disc_left = disc; rack_left = rack; cause = λ is. absurd (let no : ⊥ = cc in no); quiet = λ other out. absurd (out refl) }
+
+  looked_starved : d2.read_faults ≡ d0.read_faults → r2.read_faults ≡ r0.read_faults → Looked status.NoMemory d0 d2 r0 r2
+  looked_starved same_disc same_rack =
+      record { disc_left = disc; rack_left = rack; cause = λ is. absurd (let no : ⊥ = cc in no); quiet = λ other out. (same_disc, same_rack) }
+
+  pub looked_fault : (why : LookFault) (ended : Status) (w : Written) → CheckFaults why → (why ≡ fault.DiscUnread → Rose d0.read_faults d2.read_faults) → (why ≡ fault.TapeUnread → Rose r0.read_faults r2.read_faults)
+      → ((why ≡ fault.DiscUnread → ⊥) → d2.read_faults ≡ d0.read_faults) → ((why ≡ fault.TapeUnread → ⊥) → r2.read_faults ≡ r0.read_faults) → TellsFault why ended w → Looked ended d0 d2 r0 r2
+  looked_fault why ended w (inl is) disc_rose rack_rose disc_kept rack_kept tells =
+      put_ends (λ s. Looked s d0 d2 r0 r2) status.Unread ended _ w (λ _. looked_unread (inl (disc_rose is))) (λ _. looked_unprinted) (subst (λ (f : LookFault). TellsFault f ended w) is tells)
+  looked_fault why ended w (inr (inl is)) disc_rose rack_rose disc_kept rack_kept tells =
+      put_ends (λ s. Looked s d0 d2 r0 r2) status.Unread ended _ w (λ _. looked_unread (inr (rack_rose is))) (λ _. looked_unprinted) (subst (λ (f : LookFault). TellsFault f ended w) is tells)
+  looked_fault why ended w (inr (inr is)) disc_rose rack_rose disc_kept rack_kept tells =
+      quiet_ends (λ s. Looked s d0 d2 r0 r2) status.NoMemory ended w
+      (λ _. looked_starved (disc_kept (λ e. let no : ⊥ = cc in no)) (rack_kept (λ e. let no : ⊥ = cc in no))) (subst (λ (f : LookFault). TellsFault f ended w) is tells)
+
+-- reads of the disc that didn't fail, and then others
+pub disc_left_then : (P Q : Type 0) (d0 d1 d2 : DiscState) → ReadsByCause P d0 d1 → ReadsByCause Q d1 d2 → LeavesDisc d0 d2
+disc_left_then P Q d0 d1 d2 one two = record {
+  held = two.held ∙ one.held;
+  size = two.size ∙ one.size;
+  write_faults = two.write_faults ∙ one.write_faults;
+  writes = two.writes ∙ one.writes;
+  fuse = two.fuse ∙ one.fuse;
+  arms = two.arms ∙ one.arms;
+}
+
+-- a fault and the error that it is
+pub as_err : {A : Type 0} (e f : LookFault) → e ≡ f → (let r : Result A LookFault = Err e in r ≡ Err f)
+as_err {A} e f is = ap (λ (x : LookFault). let r : Result A LookFault = Err x in r) is
+
+pub err_same : {A : Type 0} (e f : LookFault) → (let r : Result A LookFault = Err e in r ≡ Err f) → e ≡ f
+err_same {A} e f is = cc
