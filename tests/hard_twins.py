@@ -405,6 +405,7 @@ def tests(hard):
     def begun_again():
         """To begin again over two racks both are moved away, or both are emptied; the manual says so."""
         script, refused = b"0 FORMAT\n", b"0 REFUSED 34 RACK NOT EMPTY 1\n"
+        warned = b"george: george.disc knows of dump 1, but no reel in george.tapes holds anything. If the rack was moved away, end this and put it back\n"
         with with_pair() as (whole, _):
             with copy_of(whole) as folder:
                 shutil.rmtree(folder.at(RACK))
@@ -413,11 +414,11 @@ def tests(hard):
             with copy_of(whole) as folder:
                 for rack in (RACK, SECOND):
                     shutil.rmtree(folder.at(rack))
-                check_told("FORMAT with both racks moved away", folder.run(script), 0, b"0 FORMATTED\n", b"")
+                check_told("FORMAT with both racks moved away", folder.run(script), 0, b"0 FORMATTED\n", warned)
             with copy_of(whole) as folder:
                 for rack in (RACK, SECOND):
                     os.truncate(folder.at(f"{rack}/1.tape"), 0)
-                check_told("FORMAT with both racks emptied", folder.run(script), 0, b"0 FORMATTED\n", b"")
+                check_told("FORMAT with both racks emptied", folder.run(script), 0, b"0 FORMATTED\n", warned)
         with open(f"{hard.TOP}/docs/MANUAL.md", encoding="ascii") as it:
             said = [line for line in it if "`george.tapes` away" in line]
         check("the manual says how to begin again", len(said) > 1, said)
