@@ -10,7 +10,7 @@ use Rattle.g_tape.specs.Reel.{Reel, Remains, Shortened, Torn, Unchanged, ending,
 use Rattle.g_tape.specs.Rack.{Rack, Writing, reel, refuses_write, with_reel}
 use Rattle.g_tape.specs.Reads.{LeavesNoMore, MayLeave, blocks_in, blocks_of, is_syncable}
 use Rattle.g_tape.specs.Risk.{IsSynced, Leaves, Risk, risk, syncs}
-use Rattle.g_tape.specs.Durable.{IsBegun, IsDurable, OthersAsDurable, SecuresDurably, WritesDurably}
+use Rattle.g_tape.specs.Durable.{IsDurable, MayBeBegun, OthersAsDurable, SecuresDurably, WritesDurably}
 use Rattle.g_tape.proofs.ReadLemmas.{no_more, reel-with_reel, reel-with_reel_other}
 use Rattle.g_duplex.specs.Twins.{leader, of_leader, of_other, of_twin}
 use Rattle.g_duplex.specs.Pair.{ArePaired, Pair, shown, standing, standing_in, stands}
@@ -58,13 +58,13 @@ pub record WritesAt (k : ℕ) (block : List ℕ) (result : Answer) (o : Option B
   pub synced : IsSynced k block → SyncableTo k o r → OnOk result (Durable o' r')
   pub failed : OnErr result (Left o' r' (λ left. May o r left ⊎ Begun k block o r left))
 
-begun_at : (s k : ℕ) (block : List ℕ) (old : Rack) (left : Blocks) → MayLeave s old left ⊎ IsBegun s k block old left
+begun_at : (s k : ℕ) (block : List ℕ) (old : Rack) (left : Blocks) → MayLeave s old left ⊎ MayBeBegun s k block old left
     → May (blocks_of s old) (risk s old.risks) left ⊎ Begun k block (blocks_of s old) (risk s old.risks) left
 begun_at s k block old left (inl may) = inl may
 begun_at s k block old left (inr begun) = inr (begun.short, begun.synced)
 
 begun_of : (s k : ℕ) (block : List ℕ) (old : Rack) (left : Blocks) → May (blocks_of s old) (risk s old.risks) left ⊎ Begun k block (blocks_of s old) (risk s old.risks) left
-    → MayLeave s old left ⊎ IsBegun s k block old left
+    → MayLeave s old left ⊎ MayBeBegun s k block old left
 begun_of s k block old left (inl may) = inl may
 begun_of s k block old left (inr (short, synced)) = inr (record { short = short; synced = synced })
 

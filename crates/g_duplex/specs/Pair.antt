@@ -58,7 +58,7 @@ standing s [] ts = None
 standing s (a ∷ xs) [] = None
 standing s (a ∷ xs) (t ∷ ts) = if s == a.serial then Some t else standing s xs ts
 
--- This twin leads, and the pair shows the blocks of the reel.
+-- This twin leads, and the pair shows the blocks of the reel. (Other reels show no risk, so they count as syncable.)
 abbrev pub leads : Twin → Option Standing → Option (List (List ℕ)) → Bool
 leads twin None blocks = false
 leads twin (Some t) None = false
@@ -68,7 +68,8 @@ leads twin (Some t) (Some blocks) = of_twin twin (of_leader t true false) (of_le
 abbrev pub led_by : Twin → List Standing → List Reel → List Risk → List Risk
 led_by twin ts reels risks = filter (λ r. leads twin (standing r.serial reels ts) (blocks_in (reel r.serial reels))) risks
 
--- What a power loss may leave of the reels that the pair shows: what it may leave of their leading twins.
+-- What a power loss may leave of the reels that the pair shows: what it may leave of their leading twins. It assumes that the same twins lead
+-- after the next start, which chooses them again.
 abbrev pub pair_risks : List Standing → List Reel → List Risk → List Risk → List Risk
 pair_risks ts reels first second = led_by First ts reels first ++ led_by Second ts reels second
 

@@ -29,7 +29,7 @@ filled (b ∷ bs) r = record r { len = length (b ∷ bs); blocks = option_map (�
 abbrev pub IsBeside : Rack → Rack → Type 0
 IsBeside old new = OnlyReads (record old { fuse = new.fuse; risks = new.risks }) new
 
--- Nothing more may be left of this reel by a power loss, and it stays syncable.
+-- Nothing more may be left of this reel by a power loss, and if it was syncable, it still is.
 abbrev pub LeavesNoMoreOf : ℕ → Rack → Rack → Type 0
 LeavesNoMoreOf t old new = ((left : List (List ℕ)) → MayLeave t new left → MayLeave t old left) × (is_syncable t old ≡ true → is_syncable t new ≡ true)
 

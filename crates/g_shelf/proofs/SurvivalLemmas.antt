@@ -7,7 +7,7 @@ use Rattle.std.proofs.lemmas.List.{take-take, length-take, length-take-le, take-
 use Rattle.g_base.specs.Fields.{padded}
 use Rattle.g_tape.specs.declared.fault.TapeFault.{TapeFault}
 use Rattle.g_tape.specs.declared.fault.TapeFault.TheVariants.{WriteFailed}
-use Rattle.g_tape.specs.Durable.{AfterPowerLoss, HasFront, IsBegun as IsBegunWrite, IsDurable, IsDurableTo, WritesDurably}
+use Rattle.g_tape.specs.Durable.{AfterPowerLoss, HasFront, IsDurable, IsDurableTo, MayBeBegun, WritesDurably}
 use Rattle.g_tape.specs.Rack.{Rack, reel, refuses_write}
 use Rattle.g_tape.specs.Reads.{LeavesNoMore, MayLeave, blocks_in, blocks_of, is_syncable}
 use Rattle.g_tape.specs.Reel.{Reel, Remains, Unchanged, Shortened, Torn}
@@ -131,7 +131,7 @@ module _ (serial j : ℕ) (ds : List Dump) (d : Dump) (block : List ℕ) (old ne
         all_survive serial new (left_in how (d.place + j) blocks) ds there (quiet_blocks serial blocks ds j d how all begun early)
         (λ left leaves. by left leaves (failed.failed (left_in how (d.place + j) blocks) there left leaves))
       where
-        by : (left : List (List ℕ)) → Leaves (risk serial new.risks) (left_in how (d.place + j) blocks) left → MayLeave serial old left ⊎ IsBegunWrite serial (d.place + j) block old left → AreCompleted serial left ds
+        by : (left : List (List ℕ)) → Leaves (risk serial new.risks) (left_in how (d.place + j) blocks) left → MayLeave serial old left ⊎ MayBeBegun serial (d.place + j) block old left → AreCompleted serial left ds
         by left leaves (inl may) = survive blocks at ds all blocks at left (may blocks at)
         by left leaves (inr more) = quiet_left how there left early more.short leaves failed.front
 
@@ -150,7 +150,7 @@ module _ (serial j : ℕ) (ds : List Dump) (d : Dump) (block : List ℕ) (old ne
         at_mark : d.place + j ≡ d.place + (count_of d + 1)
         at_mark = ap (λ (n : ℕ). d.place + n) last
 
-        by : (left : List (List ℕ)) → MayLeave serial old left ⊎ IsBegunWrite serial (d.place + j) block old left → AreCompleted serial left ds ⊎ AreCompleted serial left (ds ++ d ∷ [])
+        by : (left : List (List ℕ)) → MayLeave serial old left ⊎ MayBeBegun serial (d.place + j) block old left → AreCompleted serial left ds ⊎ AreCompleted serial left (ds ++ d ∷ [])
         by left (inl may) = inl (survive blocks at ds all blocks at left (may blocks at))
         by left (inr more) =
             all_but_the_mark serial blocks left ds d all whole

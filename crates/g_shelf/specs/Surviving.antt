@@ -13,7 +13,7 @@ abbrev pub DumpsSurvive : ℕ → Rack → Type 0
 DumpsSurvive serial rack =
     ForSome (blocks_of serial rack) (λ blocks. (dumps : List Dump) → AreCompleted serial blocks dumps → AfterPowerLoss serial rack (λ left. AreCompleted serial left dumps))
 
--- They survive, or will once the reel was secured, since the device still has its blocks.
+-- They survive, or will once the reel has been secured, since the device still has its blocks.
 abbrev pub CanSurvive : ℕ → Rack → Type 0
 CanSurvive serial rack = DumpsSurvive serial rack ⊎ (is_syncable serial rack ≡ true)
 
@@ -21,8 +21,8 @@ CanSurvive serial rack = DumpsSurvive serial rack ⊎ (is_syncable serial rack �
 abbrev pub LeavesWithOrWithout : ℕ → Rack → List Dump → Dump → Type 0
 LeavesWithOrWithout serial rack dumps d = AfterPowerLoss serial rack (λ left. AreCompleted serial left dumps ⊎ AreCompleted serial left (dumps ++ d ∷ []))
 
--- A dump whose first j blocks are written, from block `place` on: its header is durable, so no mark but its own can complete it; nothing
--- follows on the device; and the device still has the rest.
+-- A dump whose first j blocks are written, from block `place` on: its header is durable, so no mark but its own can complete it; no block
+-- follows them on the device; and the device still has the rest.
 pub record IsBegunDurably (serial place j : ℕ) (rack : Rack) : Type 0 where
   pub header : IsDurableTo (place + 1) serial rack
   pub short : AfterPowerLoss serial rack (λ left. length left ≤ place + j)

@@ -11,7 +11,7 @@ use Rattle.g_tape.specs.Reel.{IsReel, Reel, Remains, Unchanged, Shortened, Torn,
 use Rattle.g_tape.specs.Rack.{AreReels, Rack, Writing, reel, refuses_write, with_reel}
 use Rattle.g_tape.specs.Reads.{LeavesNoMore, MayLeave, blocks_in, blocks_of, is_syncable}
 use Rattle.g_tape.specs.Risk.{Leaves, Risk, risk, syncs}
-use Rattle.g_tape.specs.Durable.{AfterPowerLoss, HasFront, IsBegun, IsDurable, IsDurableTo, SecuresDurably, WritesDurably}
+use Rattle.g_tape.specs.Durable.{AfterPowerLoss, HasFront, IsDurable, IsDurableTo, MayBeBegun, SecuresDurably, WritesDurably}
 use Rattle.g_tape.proofs.ReadLemmas.{is_reel, reel-with_reel}
 use Rattle.g_tape.proofs.ReelLemmas.{allowed-write}
 
@@ -76,7 +76,7 @@ enough k (Some r) was is free at =
     let long = (is r refl).told was at in
     omega (arith, on, long)
 
-begun : (s k : ℕ) (block : List ℕ) (old : Rack) (was left : List (List ℕ)) → blocks_of s old ≡ Some was → length left ≤ k + 1 → take k left ≡ take k was → IsBegun s k block old left
+begun : (s k : ℕ) (block : List ℕ) (old : Rack) (was left : List (List ℕ)) → blocks_of s old ≡ Some was → length left ≤ k + 1 → take k left ≡ take k was → MayBeBegun s k block old left
 begun s k block old was left at short front = record { short = short; synced = λ synced able. has_front k s old was left at front }
 
 with_reel-same : (s : ℕ) (rs : List Reel) → with_reel s (λ r. r) rs ≡ rs
@@ -94,7 +94,7 @@ module _ (s k : ℕ) (block : List ℕ) (old new : Rack) (before : old.risks ≡
 
   -- what a failed write left
   leaves_begun : (how : Remains) → refuses_write k (reel s old.reels) ≡ None → new.reels ≡ with_reel s (left_by how k) old.reels
-      → AfterPowerLoss s new (λ left. MayLeave s old left ⊎ IsBegun s k block old left)
+      → AfterPowerLoss s new (λ left. MayLeave s old left ⊎ MayBeBegun s k block old left)
   leaves_begun Unchanged free is blocks at left leaves = inl (same_before left (is ∙ with_reel-same s old.reels) blocks at (all_left s new after blocks left leaves))
   leaves_begun Shortened free is blocks at left leaves =
       let (was, there, cut) = cut_blocks k (reel s old.reels) blocks (sym (blocks_changed s (left_by Shortened k) (λ r. refl) old new is) ∙ at) in
@@ -108,7 +108,7 @@ module _ (s k : ℕ) (block : List ℕ) (old new : Rack) (before : old.risks ≡
       inr (begun s k block old was left there (omega (arith, ap (λ (x : List (List ℕ)). length x) same, not_longer k bytes was))
       (ap (take k) same ∙ take-append-le k (take k was) (bytes ∷ []) (omega (arith, whole)) ∙ take-take k k was (omega arith)))
 
-  failed_leaves : (fault : TapeFault) → Writing s k block old (Err fault) new → AfterPowerLoss s new (λ left. MayLeave s old left ⊎ IsBegun s k block old left)
+  failed_leaves : (fault : TapeFault) → Writing s k block old (Err fault) new → AfterPowerLoss s new (λ left. MayLeave s old left ⊎ MayBeBegun s k block old left)
   failed_leaves WriteFailed (free, rose, left) = leaves_begun left.0 free (ap (λ (r : Rack). r.reels) left.1)
   failed_leaves ReadFailed never = absurd never
   failed_leaves NoTape (refused, is) = λ blocks at left leaves. inl (same_before left (ap (λ (r : Rack). r.reels) is) blocks at (all_left s new after blocks left leaves))

@@ -14,7 +14,7 @@ AfterPowerLoss s rack P = ForSome (blocks_of s rack) (λ blocks. (left : List (L
 abbrev pub HasFront : ℕ → ℕ → Rack → List (List ℕ) → Type 0
 HasFront n s rack left = ForSome (blocks_of s rack) (λ blocks. take n left ≡ take n blocks)
 
--- The first n blocks of the reel survive.
+-- The first n blocks of the reel survive. (If it has fewer, it survives whole, and nothing follows it.)
 abbrev pub IsDurableTo : ℕ → ℕ → Rack → Type 0
 IsDurableTo n s rack = AfterPowerLoss s rack (HasFront n s rack)
 
@@ -30,14 +30,14 @@ IsSyncableTo n s rack = (is_syncable s rack ≡ true) ⊎ IsDurableTo n s rack
 abbrev pub OthersAsDurable : ℕ → Rack → Rack → Type 0
 OthersAsDurable s old new = (t : ℕ) → (t ≡ s → ⊥) → risk t new.risks ≡ risk t old.risks
 
--- What a power loss may leave of a reel after a write of block k: nothing after that block. If the write is synced and failed, this is what
--- was there before, or the first k blocks are durable.
-pub record IsBegun (s k : ℕ) (block : List ℕ) (old : Rack) (left : List (List ℕ)) : Type 0 where
+-- What a power loss may leave once a write of block k was begun: nothing after block k; and if the write is synced and the device still had
+-- the blocks before it, these.
+pub record MayBeBegun (s k : ℕ) (block : List ℕ) (old : Rack) (left : List (List ℕ)) : Type 0 where
   pub short : length left ≤ k + 1
   pub synced : IsSynced k block → IsSyncableTo k s old → HasFront k s old left
 
 -- A WRITE of block k, whether it failed or not: of the blocks before it, those that were durable stay durable. A syncable reel stays so; and
--- if all blocks before it were durable, the reel is syncable. If the write is Ok, nothing follows the block on the device; and if it is
+-- if all blocks before it were durable and the write isn't refused, the reel is syncable. If the write is Ok, nothing follows the block on the device; and if it is
 -- synced, the reel is durable, provided that the device still had the blocks before it. If the write failed, a power loss leaves what it
 -- could have left before, or what was begun.
 pub record WritesDurably (s k : ℕ) (block : List ℕ) (old : Rack) (result : Result (Unit {0}) TapeFault) (new : Rack) : Type 0 where
@@ -47,15 +47,15 @@ pub record WritesDurably (s k : ℕ) (block : List ℕ) (old : Rack) (result : R
   pub fresh : refuses_write k (reel s old.reels) ≡ None → IsDurableTo k s old → is_syncable s new ≡ true
   pub short : OnOk result (AfterPowerLoss s new (λ left. length left ≤ k + 1))
   pub synced : IsSynced k block → IsSyncableTo k s old → OnOk result (IsDurable s new)
-  pub failed : OnErr result (AfterPowerLoss s new (λ left. MayLeave s old left ⊎ IsBegun s k block old left))
+  pub failed : OnErr result (AfterPowerLoss s new (λ left. MayLeave s old left ⊎ MayBeBegun s k block old left))
 
--- A reel was made durable, or that failed.
+-- A reel was made durable if the device still had its blocks, or that failed.
 pub record SecuresDurably (s : ℕ) (old : Rack) (result : Result (Unit {0}) TapeFault) (new : Rack) : Type 0 where
   pub others : OthersAsDurable s old new
   pub no_more : LeavesNoMore old new
   pub durable : OnOk result (is_syncable s old ≡ true → IsDurable s new)
 
--- All reels were made durable, or that failed.
+-- Every reel of which the device still had its blocks was made durable, or that failed.
 pub record AllSecureDurably (old : Rack) (result : Result (Unit {0}) TapeFault) (new : Rack) : Type 0 where
   pub no_more : LeavesNoMore old new
   pub durable : (s : ℕ) → OnOk result (is_syncable s old ≡ true → IsDurable s new)

@@ -14,7 +14,7 @@ use Rattle.g_tape.specs.Durable.{SecuresDurably, WritesDurably}
 use Rattle.g_tape.specs.Rack.{Rack, reel, with_reel, refuses_read, refuses_write, Reading, Writing, Securing}
 
 -- A rack, what its failing writes leave, the numbers of the reads that fail, the number of reads so far, and the serials of
--- the reels that can't be made durable.
+-- the reels whose `secure` fails.
 pub record Memory : Type 0 where
   pub rack : Rack
   pub leave : TapeLeave

@@ -102,7 +102,8 @@ Writing s k block old (Err WriteFailed) new =
 Writing s k block old (Err ReadFailed) new = ⊥
 Writing s k block old (Err fault) new = (refuses_write k (reel s old.reels) ≡ Some fault) × (new ≡ old)
 
--- The reel was made durable, which changes nothing else; or the device failed, which counts as a failed read; or the rack has no such reel.
+-- `secure` was called: nothing that reads see changed (`SecuresDurably` says what is durable); or the device failed, which counts as a failed
+-- read; or the rack has no such reel.
 abbrev pub Securing : ℕ → Rack → Result (Unit {0}) TapeFault → Rack → Type 0
 Securing s old (Ok _) new = (is_some (reel s old.reels) ≡ true) × (new ≡ record old { risks = new.risks })
 Securing s old (Err ReadFailed) new =

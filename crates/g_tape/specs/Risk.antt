@@ -30,12 +30,12 @@ abbrev pub Leaves : Option Risk → List (List ℕ) → List (List ℕ) → Type
 Leaves None blocks left = left ≡ blocks
 Leaves (Some r) blocks left = (m : Remnant) × Contains r.remnants m × IsRemnant m left
 
--- whether the device still has what isn't durable
+-- whether the device can still make all blocks durable; true if there is no risk
 abbrev pub syncs : Option Risk → Bool
 syncs None = true
 syncs (Some r) = r.syncable
 
--- THE WRITES THAT ARE SYNCED, with all before them, when they return: those of block 0, and of a block that begins as a dump's header
--- ("G3HD") or its mark ("G3MK") does.
+-- THE WRITES THAT ARE SYNCED: when they return `Ok`, the block and all before it are durable if the device still had them. These are writes
+-- of block 0 and of blocks that begin as a dump's header ("G3HD") or its mark ("G3MK") does, content blocks among them.
 abbrev pub IsSynced : ℕ → List ℕ → Type 0
 IsSynced k block = (k ≡ 0) ⊎ ((rest : List ℕ) × ((block ≡ 71 ∷ 51 ∷ 72 ∷ 68 ∷ rest) ⊎ (block ≡ 71 ∷ 51 ∷ 77 ∷ 75 ∷ rest)))

@@ -69,7 +69,7 @@ impl MemoryTapes {
         self.fail = calls;
     }
 
-    /// Sets the serials of the reels that can't be made durable from now on. It replaces an earlier setting.
+    /// Sets the serials of the reels whose `secure` fails from now on. It replaces an earlier setting.
     pub fn set_insecure(&mut self, serials: Vec<u32>)
         ensures { memory_of self.new ≡ record (memory_of self.old) { insecure = serials.items } }
     {

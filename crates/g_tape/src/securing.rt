@@ -6,7 +6,7 @@ use crate::fault::TapeFault;
 use crate::tapes::Tapes;
 
 /// Makes every reel of the rack durable, as `Tapes::secure` does, by increasing serial and whether mounted or not. `ReadFailed` at
-/// the first reel whose device fails; the reels before it are durable then.
+/// the first reel whose device fails. A power loss may then leave nothing that it couldn't have left before.
 pub fn secure_all<T: Tapes>(tapes: &mut T) -> Result<(), TapeFault>
     ensures secured { SecuringAll (T.rack tapes.old) result (T.rack tapes.new) }
     ensures durable { AllSecureDurably (T.rack tapes.old) result (T.rack tapes.new) }

@@ -57,10 +57,9 @@ pub trait Tapes {
         ensures written { Writing serial k from.now (rack self.old) result (rack self.new) }
         ensures durable { WritesDurably serial k from.now (rack self.old) result (rack self.new) };
 
-    /// Makes the reel durable, mounted or not. After `Ok` its completed dumps survive a power loss as they are read, and a power loss
-    /// completes no other dump on it, whatever failed before (docs/FORMATS.md, "Durability"). Reads, writes and mounts see no
-    /// difference, and the fuse doesn't burn. `NoTape`; `ReadFailed` if the device fails: the blocks that were written last are then
-    /// unspecified after a power loss.
+    /// Makes the reel durable, mounted or not. After `Ok` it is durable if the device still had its blocks (docs/FORMATS.md,
+    /// "Durability"). Whether it fails or not, a power loss may leave nothing that it couldn't have left before. Reads, writes and
+    /// mounts see no difference, and the fuse doesn't burn. `NoTape`; `ReadFailed` if the device fails.
     fn secure(&mut self, serial: u32) -> Result<(), TapeFault>
         ensures secured { Securing serial (rack self.old) result (rack self.new) }
         ensures durable { SecuresDurably serial (rack self.old) result (rack self.new) };
