@@ -28,6 +28,7 @@ use Rattle.g_store_meaning.specs.StoreInvariant.{StoreFacts, IsOpen, IsUp}
 use Rattle.g_tree.specs.Records.{full_of}
 use Rattle.g_store_meaning.specs.Meaning.{IsContent, told_reels}
 use Rattle.g_store_meaning.specs.Reading.{AllTold, StandsForState}
+use Rattle.g_store_meaning.specs.Surviving.{SurvivesOnDisc}
 
 -- If the outcome isn't the plain one, its fault count rose.
 abbrev pub Raised : Outcome → StoreFacts → StoreFacts → Type 0
@@ -137,6 +138,11 @@ pub record HasCause {A : Type 0} (old new : StoreFacts) (answer : Result A Store
   -- a refusal that isn't a failed write writes nothing
   pub writes : (fault : StoreFault) → answer ≡ Err fault → fault ≢ Stopped → new.online.disc.writes ≡ old.online.disc.writes
 
+-- The call took its step to what the store represents now; and if disc and rack belonged together, they still do.
+pub record IsAnswered (old : StoreFacts) (who : List ℕ) (call : StoreCall) (answer : Result StoreReply StoreFault) (new : StoreFacts) : Type 0 where
+  pub step : (Told old → Belongs old) → (s : State) → StandsForState old s → From s old who call answer new
+  pub belongs : Told old → Belongs old → Belongs new
+
 -- How a store answers a call.
 pub record Answers (old : StoreFacts) (who : List ℕ) (call : StoreCall) (answer : Result StoreReply StoreFault) (new : StoreFacts) : Type 0 where
   pub step : (Told old → Belongs old) → (s : State) → StandsForState old s → From s old who call answer new
@@ -148,3 +154,5 @@ pub record Answers (old : StoreFacts) (who : List ℕ) (call : StoreCall) (answe
   pub no_copy : Told old → Belongs old → (full : Full) (serial : ℕ) → answer ≡ Err (NoCopy full serial) → ⊥
   pub dump : (answer ≡ Err Stopped → ⊥) → new.dump ≡ old.dump
   pub spent : (new.spent ≡ true) ↔ (answer ≡ Err Stopped)
+  -- after a failed write, whatever a power loss leaves on the disc, the call was answered as if its failed write had left that
+  pub survives : SurvivesOnDisc (IsAnswered old who call answer) old new
