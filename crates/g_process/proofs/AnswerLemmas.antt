@@ -102,8 +102,8 @@ module _ (job : Job) (o : OnlineFacts) (old mid : Rack) (live : o.live ≡ true)
   labels_written : (begun : OnlineFacts) (k : ℕ) (new : Rack) → HasWritten serial plan rs begun k mid new → labels new.reels ≡ labels old.reels
   labels_written begun k new so = labels_beside serial so.written mid new so.rack ∙ labels_mid
 
-  labels_failed : (k : ℕ) (s : ℕ) (x new : Rack) → FailedAt s k x new → labels x.reels ≡ labels old.reels → labels new.reels ≡ labels old.reels
-  labels_failed k s x new failed same =
+  labels_failed : (begun : OnlineFacts) (k : ℕ) (s : ℕ) (x new : Rack) → FailedAt s plan rs begun k x new → labels x.reels ≡ labels old.reels → labels new.reels ≡ labels old.reels
+  labels_failed begun k s x new failed same =
       labels_changed s (left_by failed.how k) (label_left failed.how k) failed.mid new (ap (λ (y : Rack). y.reels) failed.rack) ∙ labels_reads x failed.mid failed.reads.reels ∙ same
 
   become_written : (begun : OnlineFacts) (k : ℕ) (new : Rack) → (so : HasWritten serial plan rs begun k mid new) → Becomes (at_serial serial (filled so.written)) old new
@@ -551,13 +551,13 @@ module _ (job : Job) (o : OnlineFacts) (old mid : Rack) (live : o.live ≡ true)
         let all = becomes_then (at_serial serial (filled so.written)) (at_serial serial (left_by failed.how k)) old failed.mid new second third in
         let beside = both_at serial (filled so.written) (left_by failed.how k) old new (filled_serial so.written) all in
         a_stop (λ told is_together. let (text, shelf, shelved, up) = is_together.up refl in
-        torn_belongs told text shelf shelved up k m so intended failed.how less beside (labels_failed k serial m new failed same_m))
+        torn_belongs told text shelf shelved up k m so intended failed.how less beside (labels_failed o' k serial m new failed same_m))
         (λ safe. can_failed serial k failed.block failed.mid new failed.how (still_begun m failed.mid failed.reads (begun_dumps o' k m so)) failed.free (left_name failed.how k) (ap (λ (x : Rack). x.reels) failed.rack) failed.durably
         (λ n apart. inl (survive_reads n m failed.mid failed.reads.durable (blocks_after_reads n m failed.mid failed.reads) (written_dumps o' k m so safe n apart))))
-        (λ told text shelf shelved up. torn_exits told text shelf shelved up k m so intended failed.how less beside (labels_failed k serial m new failed same_m))
+        (λ told text shelf shelved up. torn_exits told text shelf shelved up k m so intended failed.how less beside (labels_failed o' k serial m new failed same_m))
         (CutDump intended.live (intended.contents ∙ begun_is)
         (reels_read serial (λ r. left_by failed.how k (filled so.written r)) old new (both_at serial (filled so.written) (left_by failed.how k) old new (filled_serial so.written) all)))
-        (labels_failed k serial m new failed same_m) intended.told intended.causes.size intended.causes.later intended.causes.arms
+        (labels_failed o' k serial m new failed same_m) intended.told intended.causes.size intended.causes.later intended.causes.arms
         (ap (λ (x : Rack). x.arms) failed.rack ∙ failed.reads.arms ∙ so.rack.arms ∙ only.arms) (intended.causes.reads_kept (λ no. no))
         (ap (λ (x : Rack). x.read_faults) failed.rack ∙ failed.kept ∙ so.kept ∙ ready.kept)
         (inr (subst (λ (n : ℕ). Rose n new.write_faults) (failed.reads.write_faults ∙ so.rack.write_faults ∙ only.write_faults) failed.rose, intended.causes.writes_kept (λ no. no)))

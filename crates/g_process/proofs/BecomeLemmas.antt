@@ -1,5 +1,5 @@
 -- What became of each reel, but for reads; and that serials, capacities and mountings never change.
--- serves: release, AnswerLemmas, BelongLemmas, CarryLemmas, DoneLemmas, EndLemmas, ExitLemmas, PrepareLemmas, ProcessLemmas, crates above
+-- serves: release, AnswerLemmas, BelongLemmas, CarryLemmas, DoneLemmas, EndLemmas, ExitLemmas, LossLemmas, PrepareLemmas, ProcessLemmas, crates above
 use Rattle.std.proofs.Common.{◌≡◌, ℕ, zero, suc, ◌<◌, ◌≤◌, ◌==◌, Bool, true, false, List, [], ◌∷◌, ◌++◌, map, take, Option, Some, None, refl, sym, ◌∙◌, ap, arith, inl, inr, option_map, if◌then◌else◌, eq-eqb}
 use Rattle.std.specs.Prelude.{All, AllPairs, Contains, is_some}
 use Rattle.std.specs.List.{AllZip}

@@ -26,7 +26,7 @@ use Rattle.g_dumper.specs.Beginning.{intent_of}
 use Rattle.g_dumper.proofs.IntentLemmas.{intends, may_intend, intended}
 use Rattle.g_process.specs.declared.job.Job.{Job}
 use Rattle.g_process.specs.Preparation.{AtBlock, AtCopies, AtIntent, CarriesOut, HasIntended, HasMoved, MayCarry, StoppedIntending, StopsAt, copies_of}
-use Rattle.g_process.specs.Progress.{HasWritten, IsReadable, MayWrite, WritesBlocks}
+use Rattle.g_process.specs.Progress.{FailedAt, HasWritten, IsReadable, MayWrite, WritesBlocks}
 use Rattle.g_process.proofs.BecomeLemmas.{labels_beside, same_mounted, same_serials}
 use Rattle.g_disc.proofs.CallLemmas.{Causes-for}
 
@@ -112,7 +112,8 @@ module _ (job : Job) (o : OnlineFacts) (old : Rack) where
       → (let r : Result (Unit {0}) StoreFault = Err fault in WritesBlocks job.serial job.writer job.versions.items begun old r o' new) → (let r : Result ℕ StoreFault = Err fault in CarriesOut job o old r o' new)
   blocks_fail begun o' new store.Stopped was_intended (same, k, less, mid, so, failed) =
       AtBlock (subst (HasIntended the_intent o) (sym same) was_intended) k less mid
-      (subst (λ (x : OnlineFacts). HasWritten job.serial job.writer job.versions.items x k old mid) (sym same) so) failed
+      (subst (λ (x : OnlineFacts). HasWritten job.serial job.writer job.versions.items x k old mid) (sym same) so)
+      (subst (λ (x : OnlineFacts). FailedAt job.serial job.writer job.versions.items x k mid new) (sym same) failed)
   blocks_fail begun o' new fault was_intended ended =
       let (k, less, mid, so, fails) = ended in
       record { begun = begun; intended = was_intended; at = k; less = less; mid = mid; written = so; fails = fails }

@@ -1,5 +1,5 @@
 -- Which block of the dump is which block of which version; and that each of them was read.
--- serves: AnswerLemmas, DumpLemmas, ExitLemmas, WholeLemmas
+-- serves: AnswerLemmas, DumpLemmas, ExitLemmas, LossLemmas, WholeLemmas
 use Rattle.std.proofs.Common.{◌≡◌, ℕ, zero, suc, ◌+◌, ◌<◌, ◌≤◌, List, [], ◌∷◌, length, map, take, Some, refl, sym, ◌∙◌, ap, arith, subst, inl, inr, slice_get}
 use Rattle.std.specs.Prelude.{replicate}
 use Rattle.std.proofs.lemmas.List.Sums.{sum_by-cons}

@@ -1,5 +1,5 @@
 -- What a power loss may leave while PROCESS writes its dump and releases the other reels.
--- serves: AnswerLemmas, ReleaseLemmas, SafeLemmas, WriteLemmas
+-- serves: AnswerLemmas, LossLemmas, ReleaseLemmas, SafeLemmas, WriteLemmas
 use Rattle.std.proofs.Common.{◌≡◌, ◌≢◌, ℕ, zero, suc, ◌+◌, ◌<◌, ◌≤◌, Bool, true, false, List, [], ◌∷◌, ◌++◌, length, take, Option, Some, None, Ok, Err, refl, sym, ◌∙◌, ap, arith, subst, inl, inr, option_map, slice_get, true≢false}
 use Rattle.std.specs.Prelude.{◌⊎◌, ◌||◌, ◌==◌}
 use Rattle.std.specs.Option.{ForSome}

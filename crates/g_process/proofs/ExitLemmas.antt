@@ -192,7 +192,7 @@ two_true true false x y = absurd (let no : ⊥ = cc in no)
 two_true false b x y = absurd (let no : ⊥ = cc in no)
 
 -- and those of the reels that are free weren't there
-cleared_same : (ns : List ℕ) (serial until : ℕ) (w : ℕ → List Dump) (n : ℕ) → (has ns n ≡ true → (n < until) × (n ≢ serial)) → (n < until → n ≢ serial → has ns n ≡ false → w n ≡ [])
+pub cleared_same : (ns : List ℕ) (serial until : ℕ) (w : ℕ → List Dump) (n : ℕ) → (has ns n ≡ true → (n < until) × (n ≢ serial)) → (n < until → n ≢ serial → has ns n ≡ false → w n ≡ [])
     → without_all ns w n ≡ cleared serial until w n
 cleared_same ns serial until w n below free = by_has (cases_Bool (has ns n))
   where
@@ -320,7 +320,7 @@ module _ (serial : ℕ) (o : OnlineFacts) (old mid : Rack) (live : o.live ≡ tr
   abbrev rs : List FileRec
   rs = versions o.contents
 
-  none_here : shelf serial ≡ []
+  pub none_here : shelf serial ≡ []
   none_here = none_on serial o old live tied rules on on_is free told text shelf shelved up
 
   up_here : (x : Rack) → labels x.reels ≡ labels old.reels → IsUp text shelf (up_with o x None)
@@ -394,7 +394,7 @@ module _ (serial : ℕ) (o : OnlineFacts) (old mid : Rack) (live : o.live ≡ tr
     labels_w = labels_beside serial so.written mid m so.rack ∙ labels_reads old mid only.reels
 
     -- the first of them is the header
-    header : (b : List ℕ) → slice_get so.written 0 ≡ Some b → IsReadyAt plan 0 b
+    pub header : (b : List ℕ) → slice_get so.written 0 ≡ Some b → IsReadyAt plan 0 b
     header b is = by_block (so.each 0 b is)
       where
         by_block : IsBlockOf plan rs begun_o mid m 0 b → IsReadyAt plan 0 b
@@ -425,7 +425,7 @@ module _ (serial : ℕ) (o : OnlineFacts) (old mid : Rack) (live : o.live ≡ tr
             subst (λ (z : List (List ℕ)). AreCompleted serial z []) same
             (none_short serial plan rules (process_away serial o) refl refl (b ∷ bs) b refl (first b refl) (omega (arith, long, less)))
 
-    quiet_m : k < needs plan → AreShelved shelf (told_reels m)
+    pub quiet_m : k < needs plan → AreShelved shelf (told_reels m)
     quiet_m less = shelved_at (filled so.written) m shelf becomes_w (filled_serial so.written) (λ n apart. refl)
         (λ q was. subst (λ (ds : List Dump). ForSome (filled so.written q).blocks (λ bs. AreCompleted serial bs ds)) (sym none_here) (filled_none less q was))
 
@@ -455,7 +455,7 @@ module _ (serial : ℕ) (o : OnlineFacts) (old mid : Rack) (live : o.live ≡ tr
       abbrev the_dump : Dump
       the_dump = dump_of plan content
 
-      long_content : length content ≡ content_blocks plan
+      pub long_content : length content ≡ content_blocks plan
       long_content = content_is_long serial plan rs begun_o mid m rules (process_away serial o) k enough so
 
       whole_content : All IsBlock content
@@ -486,16 +486,16 @@ module _ (serial : ℕ) (o : OnlineFacts) (old mid : Rack) (live : o.live ≡ tr
           let it = source_part shelf mid (subst (AreShelved shelf) (sym only.reels) shelved) (subst (λ (reels : List Reel). ReelsTold reels) (sym only.reels) told.each) text serial o begun_o m r part block live tied told.disc files keeps_mid readable_r less source in
           subst (IsPart (text r.stamp) part) (sym same) it.1
 
-      its_content : IsContentOf text serial o content
+      pub its_content : IsContentOf text serial o content
       its_content = record { long = long_content; blocks = whole_content; lens = lens; parts = parts }
 
       abbrev with_it : ℕ → List Dump
       with_it = with_dump (dump_of (process_plan serial o) (content_of (process_plan serial o) so.written)) shelf
 
-      its_reel : with_it serial ≡ the_dump ∷ []
+      pub its_reel : with_it serial ≡ the_dump ∷ []
       its_reel = cond-true (serial == serial) (shelf serial ++ the_dump ∷ []) (shelf serial) (eq-eqb serial serial refl) ∙ ap (λ (ds : List Dump). ds ++ the_dump ∷ []) none_here
 
-      others_keep : (n : ℕ) → n ≢ serial → with_it n ≡ shelf n
+      pub others_keep : (n : ℕ) → n ≢ serial → with_it n ≡ shelf n
       others_keep n apart = cond-false (n == serial) (shelf n ++ the_dump ∷ []) (shelf n) (ne_eqb n serial apart)
 
       rack_with : (x : Rack) → labels x.reels ≡ labels old.reels → RackBelongs text (all_dumps with_it (told_reels x))

@@ -10,6 +10,7 @@ pub mod EndLemmas
 pub mod ExitLemmas
 pub mod JobLemmas
 pub mod ListLemmas
+pub mod LossLemmas
 pub mod PinsLemmas
 pub mod PlanLemmas
 pub mod PrepareLemmas

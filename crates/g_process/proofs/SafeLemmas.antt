@@ -1,5 +1,5 @@
 -- The completed dumps of all reels are safe, wherever PROCESS ends.
--- serves: AnswerLemmas, ProcessLemmas
+-- serves: AnswerLemmas, LossLemmas, ProcessLemmas
 use Rattle.std.proofs.Common.{◌≡◌, ℕ, ◌+◌, ◌<◌, Bool, true, false, List, [], ◌∷◌, length, take, Option, Some, None, Err, refl, sym, ◌∙◌, ap, arith, subst, inl, inr, option_map, if◌then◌else◌, slice_get, true≢false}
 use Rattle.std.specs.Prelude.{◌⊎◌}
 use Rattle.std.specs.Option.{ForSome}
@@ -79,7 +79,7 @@ whole_durable serial p rs o old new rules away so =
     so.durably.last (count_of made + 1) (mark_block made) mark (let all = so.long in omega (arith, all, size)) (mark_synced (count_of made + 1) made)
 
 -- A DUMP THAT ISN'T COMPLETE, on a reel without dumps
-get_first : (left w : List (List ℕ)) (b : List ℕ) → take 1 left ≡ take 1 w → slice_get w 0 ≡ Some b → slice_get left 0 ≡ Some b
+pub get_first : (left w : List (List ℕ)) (b : List ℕ) → take 1 left ≡ take 1 w → slice_get w 0 ≡ Some b → slice_get left 0 ≡ Some b
 get_first left [] b same is = absurd (let no : ⊥ = cc in no)
 get_first [] (x ∷ w) b same is = absurd (let long = ap (λ (xs : List (List ℕ)). length xs) same in let no : ⊥ = omega (arith, long) in no)
 get_first (y ∷ left) (x ∷ w) b same is = ap (λ (xs : List (List ℕ)). slice_get xs 0) same ∙ is
@@ -95,7 +95,7 @@ partial_survives serial p rack w b rules away named at begun are first ready sho
     subst (AreCompleted serial left) (sym none) (none_short serial p rules away named at left b (get_first left w b front first) ready (omega (arith, long, short)))
 
 -- THE DUMPS ARE SAFE
-each_reel : (serial : ℕ) (P : ℕ → Type 0) → P serial → ((n : ℕ) → (n ≡ serial → ⊥) → P n) → (n : ℕ) → P n
+pub each_reel : (serial : ℕ) (P : ℕ → Type 0) → P serial → ((n : ℕ) → (n ≡ serial → ⊥) → P n) → (n : ℕ) → P n
 each_reel serial P this other n = elim (cases_eq n serial) [
   | inl same ↦ subst P (sym same) this
   | inr apart ↦ other n apart

@@ -203,9 +203,9 @@ it_failed s k block old new tapes.NoTape free (refused, is) durably = absurd (le
 it_failed s k block old new tapes.NotMounted free (refused, is) durably = absurd (let no : ⊥ = cc in no)
 it_failed s k block old new tapes.End free (refused, is) durably = absurd (let no : ⊥ = cc in no)
 
-pub failed_at : (serial k : ℕ) (block : List ℕ) (old mid new : Rack) (fault : TapeFault) → refuses_write k (reel serial old.reels) ≡ None → OnlyReads old mid → mid.read_faults ≡ old.read_faults
-    → (let r : Result (Unit {0}) TapeFault = Err fault in Writing serial k block mid r new) → (let r : Result (Unit {0}) TapeFault = Err fault in WritesDurably serial k block mid r new) → FailedAt serial k old new
-failed_at serial k block old mid new fault granted only kept writing durably =
+pub failed_at : (serial : ℕ) (p : Plan) (rs : List FileRec) (o : OnlineFacts) (k : ℕ) (block : List ℕ) (old mid new : Rack) (fault : TapeFault) → IsBlockOf p rs o old mid k block → refuses_write k (reel serial old.reels) ≡ None → OnlyReads old mid → mid.read_faults ≡ old.read_faults
+    → (let r : Result (Unit {0}) TapeFault = Err fault in Writing serial k block mid r new) → (let r : Result (Unit {0}) TapeFault = Err fault in WritesDurably serial k block mid r new) → FailedAt serial p rs o k old new
+failed_at serial p rs o k block old mid new fault is_block granted only kept writing durably =
     let free = free_after serial k old mid only granted in
     let (rose, (how, is)) = write_fails serial k block mid new fault free writing in
     record {
@@ -217,6 +217,7 @@ failed_at serial k block old mid new fault granted only kept writing durably =
       rack = is;
       free = free;
       block = block;
+      block_is = is_block;
       durably = it_failed serial k block mid new fault free writing durably;
     }
 

@@ -1,6 +1,6 @@
 -- The completed dumps of the reel that is written: none before the mark, for any outcome of a failed write, and that dump
 -- after it.
--- serves: ExitLemmas, SafeLemmas
+-- serves: ExitLemmas, LossLemmas, SafeLemmas
 use Rattle.std.proofs.Common.{◌≡◌, ℕ, zero, suc, ◌<◌, List, [], ◌∷◌, drop, length, Some, sym, ◌∙◌, ap, arith, slice_get}
 use Rattle.std.specs.Prelude.{All, replicate}
 use Rattle.std.proofs.lemmas.Option.{same_Some}

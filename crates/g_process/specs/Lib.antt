@@ -1,6 +1,7 @@
 pub mod Exits
 pub mod Lists
 pub mod NamedCopies
+pub mod PowerLosses
 pub mod Preparation
 pub mod ProcessPlan
 pub mod Processing

@@ -134,7 +134,7 @@ pub record HasMoved (job : Job) (o : OnlineFacts) (old : Rack) (o' : OnlineFacts
 pub data StopsAt (job : Job) (o : OnlineFacts) (old : Rack) (o' : OnlineFacts) (new : Rack) : Type 0 where
   AtIntent : StoppedIntending (intent_of job.writer) o o' → new ≡ old → StopsAt job o old o' new
   AtBlock : HasIntended (intent_of job.writer) o o' → (k : ℕ) → k < needs job.writer → (mid : Rack) → HasWritten job.serial job.writer job.versions.items o' k old mid
-      → FailedAt job.serial k mid new → StopsAt job o old o' new
+      → FailedAt job.serial job.writer job.versions.items o' k mid new → StopsAt job o old o' new
   AtCopies : (begun : OnlineFacts) → HasIntended (intent_of job.writer) o begun → HasWritten job.serial job.writer job.versions.items begun (needs job.writer) old new
       → IsAdopting job.number (copies_of job o) begun o' (Err online.Stopped) → StopsAt job o old o' new
   AtRelease : (mid : Rack) → HasMoved job o old o' mid → IsCutAt job.serial job.lists.items mid new → StopsAt job o old o' new

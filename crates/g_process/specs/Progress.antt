@@ -99,7 +99,7 @@ Fills p rs k o old (Ok _) block o' new = (o' ≡ o) × IsBlockOf p rs o old new 
 Fills p rs k o old (Err fault) block o' new = FailsReading fault o o' old new
 
 -- A write failed after reads.
-pub record FailedAt (serial k : ℕ) (old new : Rack) : Type 0 where
+pub record FailedAt (serial : ℕ) (p : Plan) (rs : List FileRec) (o : OnlineFacts) (k : ℕ) (old new : Rack) : Type 0 where
   pub mid : Rack
   pub reads : OnlyReads old mid
   pub kept : mid.read_faults ≡ old.read_faults
@@ -108,6 +108,7 @@ pub record FailedAt (serial k : ℕ) (old new : Rack) : Type 0 where
   pub rack : new ≡ record (changed serial (left_by how k) mid) { write_faults = new.write_faults; fuse = new.fuse; risks = new.risks }
   pub free : refuses_write k (reel serial mid.reels) ≡ None
   pub block : List ℕ
+  pub block_is : IsBlockOf p rs o old mid k block
   pub durably : WritesDurably serial k block mid (Err WriteFailed) new
 
 -- The block was written.
@@ -124,13 +125,13 @@ pub record WroteAt (serial : ℕ) (p : Plan) (rs : List FileRec) (o : OnlineFact
 -- Block k of the dump was written, or its write failed, or a read failed.
 abbrev pub WritesBlock : ℕ → Plan → List FileRec → ℕ → OnlineFacts → Rack → Result (Unit {0}) StoreFault → OnlineFacts → Rack → Type 0
 WritesBlock serial p rs k o old (Ok _) o' new = (o' ≡ o) × WroteAt serial p rs o k old new
-WritesBlock serial p rs k o old (Err Stopped) o' new = (o' ≡ o) × FailedAt serial k old new
+WritesBlock serial p rs k o old (Err Stopped) o' new = (o' ≡ o) × FailedAt serial p rs o k old new
 WritesBlock serial p rs k o old (Err fault) o' new = FailsReading fault o o' old new
 
 -- How the writing ended: at the mark, at a block whose version couldn't be read, or at a failed write.
 abbrev pub WritesBlocks : ℕ → Plan → List FileRec → OnlineFacts → Rack → Result (Unit {0}) StoreFault → OnlineFacts → Rack → Type 0
 WritesBlocks serial p rs o old (Ok _) o' new = (o' ≡ o) × HasWritten serial p rs o (needs p) old new
 WritesBlocks serial p rs o old (Err Stopped) o' new =
-    (o' ≡ o) × (k : ℕ) × (k < needs p) × (mid : Rack) × HasWritten serial p rs o k old mid × FailedAt serial k mid new
+    (o' ≡ o) × (k : ℕ) × (k < needs p) × (mid : Rack) × HasWritten serial p rs o k old mid × FailedAt serial p rs o k mid new
 WritesBlocks serial p rs o old (Err fault) o' new =
     (k : ℕ) × (k < needs p) × (mid : Rack) × HasWritten serial p rs o k old mid × FailsReading fault o o' mid new

@@ -2,6 +2,7 @@ pub mod AnswerLemmas
 pub mod BelongLemmas
 pub mod BestLemmas
 pub mod DirectoryLemmas
+pub mod DurableLemmas
 pub mod FoldLemmas
 pub mod GatherLemmas
 pub mod KnownLemmas

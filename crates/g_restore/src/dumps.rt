@@ -4,6 +4,7 @@ ghost use Rattle.g_base.specs.Counts.{Rose};
 ghost use Rattle.g_tape.specs.Reads.{OnlyReads};
 ghost use Rattle.g_incr.specs.Layout.{Dump};
 ghost use Rattle.g_restore.specs.KnownDumps.{known, known_of};
+ghost use Rattle.g_store_meaning.specs.Surviving.{DumpsMadeSafe};
 ghost use Rattle.g_restore.specs.Reels.{AreOnReels};
 
 use g_incr::{DumpDir, ShelfFault};
@@ -65,6 +66,7 @@ pub(crate) fn read_durable_rack<T: Tapes>(
     ensures faults { OnErr result ((result ≡ Err ShelfFault.ReadFault) ⊎ (result ≡ Err ShelfFault.NoMemory)) }
     ensures kept { (result ≡ Err ShelfFault.ReadFault → ⊥) → (T.rack tapes.new).read_faults ≡ (T.rack tapes.old).read_faults }
     ensures rose { result ≡ Err ShelfFault.ReadFault → Rose (T.rack tapes.old).read_faults (T.rack tapes.new).read_faults }
+    ensures durable { IfOk result (λ found. DumpsMadeSafe (T.rack tapes.old) (T.rack tapes.new)) }
 {
     match secure_all(tapes) {
         Ok(()) => read_rack(alloc, tapes),

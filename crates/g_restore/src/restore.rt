@@ -13,6 +13,7 @@ ghost use Rattle.g_shelf.specs.LastDump.{first_unmounted};
 ghost use Rattle.g_store_meaning.specs.Belonging.{Belong};
 ghost use Rattle.g_store_meaning.specs.Meaning.{told_reels};
 ghost use Rattle.g_store_meaning.specs.Reading.{ReelsTold};
+ghost use Rattle.g_store_meaning.specs.Surviving.{DumpsMadeSafe, DumpsMadeSafeBy};
 ghost use Rattle.g_online.specs.Beginning.{AsBeforeOr, HasMade, first_contents};
 ghost use Rattle.g_restore.specs.Reels.{AreOnReels};
 ghost use Rattle.g_restore.specs.Losses.{LostIsNamed};
@@ -69,6 +70,7 @@ pub fn rebuild<D: Disc, T: Tapes>(
         → (T.rack tapes.new).read_faults ≡ (T.rack tapes.old).read_faults }
     ensures rose { answer_of result ≡ Err StoreFault.TapeReadFault
         → Rose (T.rack tapes.old).read_faults (T.rack tapes.new).read_faults }
+    ensures durable { DumpsMadeSafeBy (answer_of result) (T.rack tapes.old) (T.rack tapes.new) }
     ensures same { IfErr result (λ e. e.0 ≢ StoreFault.Stopped
         → ((D.state e.1).held ≡ (D.state disc).held) × ((D.state e.1).writes ≡ (D.state disc).writes)) }
     ensures causes { IfErr result (λ e. Causes (e.0 ≡ StoreFault.DiscReadFault) (e.0 ≡ StoreFault.Stopped)
@@ -101,6 +103,7 @@ fn dumped_directory<T: Tapes>(alloc: Global, tapes: &mut T) -> Result<Dumped, St
     ensures rose { result ≡ Err StoreFault.TapeReadFault
         → Rose (T.rack tapes.old).read_faults (T.rack tapes.new).read_faults }
     ensures only { IfErr result IsOfReels }
+    ensures durable { IfOk result (λ dumped. DumpsMadeSafe (T.rack tapes.old) (T.rack tapes.new)) }
 {
     match first_unmounted(tapes) {
         Some(serial) => return Err(StoreFault::RackNotMounted(serial)),

@@ -25,6 +25,7 @@ mod ProcessedTreeLemmas
 mod ProcessingLemmas
 mod RestoreLemmas
 mod RestoredLemmas
+mod SafeLemmas
 mod ShelvesLemmas
 mod StartLemmas
 mod StartedLemmas

@@ -1,5 +1,5 @@
 -- The dump of the intent is adopted, or isn't.
--- serves: find_named (only), take_named, take_over
+-- serves: find_named (only), take_named, take_over (takes)
 use Rattle.std.proofs.Common.{◌≡◌, ℕ, true, false, List, Option, Some, None, Ok, Err, refl, subst, ◌∙◌, ap, inl, inr}
 use Rattle.std.specs.Prelude.{◌⊎◌, Bool, IfSome, Result, if◌then◌else◌}
 use Rattle.std.specs.Option.{ForSome}

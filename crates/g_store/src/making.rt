@@ -1,5 +1,6 @@
 //! A store is made of a disc and a rack of reels.
 ghost use Rattle.std.specs.Prelude.{◌≡◌, ◌<◌, ◌≤◌, IfErr, IfOk};
+ghost use Rattle.g_store_meaning.specs.Surviving.{DumpsMadeSafe};
 ghost use Rattle.g_store.specs.Making.{Formats, RefusesFormat, RefusesRestore, Restored};
 ghost use Rattle.g_tape.specs.Rack.{reel};
 ghost use Rattle.g_store.specs.Refusing.{first_used, is_used};
@@ -100,6 +101,9 @@ pub fn restore<D: Disc, T: Tapes>(
     requires high { (D.state disc).size ≤ 1_048_576 }
     ensures ok { IfOk result (λ p. Restored (D.state disc) (T.rack tapes) p.1 p.0) }
     ensures refused { IfErr result (λ e. RefusesRestore (D.state disc) (T.rack tapes) e.fault (D.state e.disc) (T.rack e.tapes)) }
+    // The dumps survive a power loss before the disc may name one of them.
+    ensures durable { IfOk result (λ p. DumpsMadeSafe (T.rack tapes) p.0.rack) }
+    ensures durable_stopped { IfErr result (λ e. e.fault ≡ StoreFault.Stopped → DumpsMadeSafe (T.rack tapes) (T.rack e.tapes)) }
 {
     match rebuild(alloc, disc, &mut tapes) {
         Ok((online, number)) => Ok((

@@ -6,6 +6,7 @@ ghost use Rattle.g_entry.specs.FileFields.{IsFile};
 ghost use Rattle.g_tape.specs.Rack.{is_mounted, reel};
 ghost use Rattle.g_tape.specs.Reads.{OnlyReads};
 ghost use Rattle.g_disc_contents.specs.Facts.{IsTied};
+ghost use Rattle.g_store_meaning.specs.Surviving.{DumpsMadeSafe, DumpsMadeSafeBy};
 ghost use Rattle.g_store.specs.Making.{Begun, RefusesStart};
 ghost use Rattle.g_store.specs.Starting.{Adopts, HasNamed, IsIntent, NamesNone, TakesOver, copies_named, copy_named, has_empty, names};
 
@@ -40,6 +41,9 @@ pub fn start<D: Disc, T: Tapes>(
     requires high { (D.state disc).size ≤ 1_048_576 }
     ensures ok { IfOk result (λ p. Begun (D.state disc) (T.rack tapes) p.1 p.0) }
     ensures refused { IfErr result (λ e. RefusesStart (D.state disc) (T.rack tapes) e.fault (D.state e.disc) (T.rack e.tapes)) }
+    // The dumps survive a power loss before the disc may name one of them.
+    ensures durable { IfOk result (λ p. DumpsMadeSafe (T.rack tapes) p.0.rack) }
+    ensures durable_stopped { IfErr result (λ e. e.fault ≡ StoreFault.Stopped → DumpsMadeSafe (T.rack tapes) (T.rack e.tapes)) }
 {
     let mut online = match Online::load(alloc, disc) {
         Ok(online) => online,
@@ -79,7 +83,8 @@ fn take_over<D: Disc, T: Tapes>(
     requires live { online.old.live ≡ true }
     requires pins { online.old.pins ≡ None }
     requires tied { IsTied online.old }
-    ensures { TakesOver online.old (T.rack tapes.old) result online.new (T.rack tapes.new) }
+    ensures takes { TakesOver online.old (T.rack tapes.old) result online.new (T.rack tapes.new) }
+    ensures durable { DumpsMadeSafeBy result (T.rack tapes.old) (T.rack tapes.new) }
 {
     let intent = online.head().intent;
     if let Some(named) = intent {

@@ -2,6 +2,7 @@ use Rattle.g_plain.specs.declared.faults.StoreFault.TheVariants.{TapeReadFault}
 use Rattle.g_tape.proofs.ReadLemmas.{nothing_read}
 use Rattle.g_restore.specs.declared.directory.Dumped.{Dumped}
 use Rattle.g_restore.proofs.DirectoryLemmas.{down_of, few_read, given_of, is_one, named_of, none_of, of_dumps, of_reels, shelf_kept, shelf_named, shelf_of_reels, shelf_rose, shelf_some, shelf_up, up_of}
+use Rattle.g_restore.proofs.DurableLemmas.{if_ok}
 use Rattle.g_restore.proofs.restore.dumped_directory.Goals as goal
 
 pub fold-requires : goal.fold-requires
@@ -54,3 +55,6 @@ returns-in-Err-clause-rose g c = rw c.into.ensures (shelf_rose _ _ _ c.in-Err.en
 
 pub returns-in-Err-clause-only : goal.returns-in-Err-clause-only
 returns-in-Err-clause-only g c = rw c.into.ensures (shelf_of_reels _ (is_one _ c.in-Err.ensures.faults))
+
+pub returns-in-Ok-clause-durable : goal.returns-in-Ok-clause-durable
+returns-in-Ok-clause-durable g c = if_ok c.fold.result c.in-Ok.ensures.durable

@@ -4,6 +4,7 @@ use Rattle.g_disc_contents.specs.Facts.{OnlineFacts}
 use Rattle.g_restore.specs.declared.directory.Dumped.{Dumped}
 use Rattle.g_restore.proofs.AnswerLemmas.{belongs_of, found_of, kept_of, lost_over, not_of_reels, ok_of, one_of, one_over, other_over, refused_of, stopped_of, unmounted_of, unmounted_over, unread_of}
 use Rattle.g_restore.proofs.BelongLemmas.{belongs_same}
+use Rattle.g_restore.proofs.DurableLemmas.{made_by, none_by}
 use Rattle.g_restore.proofs.NeverLemmas.{nothing_lost}
 use Rattle.g_restore.proofs.RebuildLemmas.{idle, made_named, of_disc}
 use Rattle.g_restore.proofs.restore.rebuild.Goals as goal
@@ -101,3 +102,9 @@ returns-in-Err-clause-belongs_refused g c = belongs_same _ _ _ _ c.in-Err.ensure
 
 pub returns-in-Err-clause-found : goal.returns-in-Err-clause-found
 returns-in-Err-clause-found g c = λ told belong. nothing_lost {A = OnlineFacts × ℕ} _ _ (Err c.in-Err.fault) (lost_over Dumped (OnlineFacts × ℕ) _ _ c.in-Err.ensures.lost) told belong
+
+pub returns-in-Ok-clause-durable : goal.returns-in-Ok-clause-durable
+returns-in-Ok-clause-durable g c = made_by (g.T.Tapes.rack c.args.tapes.now) (g.T.Tapes.rack c.dumped_directory.new.tapes) _ c.in-Ok.ensures.durable
+
+pub returns-in-Err-clause-durable : goal.returns-in-Err-clause-durable
+returns-in-Err-clause-durable g c = none_by (g.T.Tapes.rack c.args.tapes.now) (g.T.Tapes.rack c.dumped_directory.new.tapes) {A = OnlineFacts × ℕ} c.in-Err.fault c.in-Err.ensures.only

@@ -1,4 +1,6 @@
-use Rattle.std.proofs.Common.{Err, ap}
+use Rattle.std.proofs.Common.{ℕ, Err, ap}
+use Rattle.g_disc_contents.specs.Facts.{OnlineFacts}
+use Rattle.g_store.proofs.SafeLemmas.{made_at_stop}
 use Rattle.g_store.proofs.RestoredLemmas.{none_unmounted, restore_refused, restored_is, same_refusal}
 use Rattle.g_store.proofs.making.restore.Goals as goal
 
@@ -27,3 +29,9 @@ returns-in-Err-clause-refused g c =
       belongs = c.in-Err.ensures.belongs_refused;
       found = c.in-Err.ensures.found;
     })
+
+pub returns-in-Ok-clause-durable : goal.returns-in-Ok-clause-durable
+returns-in-Ok-clause-durable g c = c.in-Ok.ensures.durable
+
+pub returns-in-Err-clause-durable_stopped : goal.returns-in-Err-clause-durable_stopped
+returns-in-Err-clause-durable_stopped g c = λ is. made_at_stop {A = OnlineFacts × ℕ} c.in-Err.fault (g.T.Tapes.rack c.args.tapes) (g.T.Tapes.rack c.rebuild.new.tapes) c.in-Err.ensures.durable is
