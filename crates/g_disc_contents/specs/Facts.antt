@@ -7,6 +7,7 @@ use Rattle.g_base.specs.Block.{IsBlock, blocks_for}
 use Rattle.g_disc.specs.Disc.{DiscState}
 use Rattle.g_entry.specs.declared.file_rec.TapeCopy.{TapeCopy}
 use Rattle.g_slots.specs.declared.side.Side.{Side}
+use Rattle.g_slots.specs.Layout.{GateNames}
 use Rattle.g_dirs.specs.Directory.{AreRecords, Directory, IsDirectory}
 use Rattle.g_dirs.specs.Image.{StandsFor}
 use Rattle.g_dirs.specs.Pages.{Remembered, Remembers}
@@ -75,6 +76,9 @@ pub record IsTied (o : OnlineFacts) : Type 0 where
   pub touched_changed : o.live ≡ true → All (λ n. has o.changed n ≡ true) o.touched
   pub waits : o.live ≡ true → All (WaitsByUser o.changed) o.contents.files
   pub pinned : o.live ≡ true → IfSome o.pins (All (IsPinOf (is_some o.disc.held) o.contents.head.next_stamp o.contents.files))
+  -- the gate names the slot of the directory, and the disc has whole blocks, as many as it says
+  pub gate : o.live ≡ true → GateNames o.layout.side o.disc.held
+  pub whole : ForSome o.disc.held (λ blocks. (length blocks ≡ o.disc.size) × All IsBlock blocks)
 
 -- The number of blocks of the files on the disc.
 abbrev pub online_blocks : List File → ℕ

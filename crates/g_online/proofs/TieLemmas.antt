@@ -99,6 +99,8 @@ tied disc m kept = record {
   touched_changed = λ live. (kept.agreed live).noted.touched_changed;
   waits = λ live. all_files (WaitsFor m.changed) disc.held (facts_of disc m).layout.directory.files (kept.agreed live).noted.waits;
   pinned = λ live. pins_tied disc.held disc.size m.head.next_stamp (facts_of disc m).layout.directory.files m.touched m.pins kept.whole (kept.agreed live).pins;
+  gate = λ live. (kept.agreed live).stored.gate;
+  whole = kept.whole;
 }
 
 -- IF THE DISC HOLDS WHAT IT HELD memory agrees with it as before

@@ -211,7 +211,7 @@ cleared_same ns serial until w n below free = by_has (cases_Bool (has ns n))
     by_has (inr no_is) = stays_all ns w n no_is ∙ by_test no_is (cases_Bool (nat_lt n until && not (n == serial)))
 
 -- a shelf that has the same for each reel
-shelved_same : (old new : Rack) (a b : ℕ → List Dump) → map (λ (r : Reel). r.serial) new.reels ≡ map (λ (r : Reel). r.serial) old.reels → ((r : Reel) → Contains old.reels r → a r.serial ≡ b r.serial)
+pub shelved_same : (old new : Rack) (a b : ℕ → List Dump) → map (λ (r : Reel). r.serial) new.reels ≡ map (λ (r : Reel). r.serial) old.reels → ((r : Reel) → Contains old.reels r → a r.serial ≡ b r.serial)
     → AreShelved a (told_reels new) → AreShelved b (told_reels new)
 shelved_same old new a b serials same shelved = record {
   each = λ q there. subst (λ (ds : List Dump). ForSome q.blocks (λ bs. AreCompleted q.serial bs ds)) (by_name q (from_map_there new.reels q there)) (shelved.each q there);
@@ -330,7 +330,7 @@ module _ (serial : ℕ) (o : OnlineFacts) (old mid : Rack) (live : o.live ≡ tr
   intended_here x same = disc_intended serial o old live tied rules on on_is free told text shelf shelved up x same
 
   -- a reel without a dump
-  none_at : (r : Reel) → Contains old.reels r → IsFree r.serial old → shelf r.serial ≡ []
+  pub none_at : (r : Reel) → Contains old.reels r → IsFree r.serial old → shelf r.serial ≡ []
   none_at r there free_r =
       let at : reel r.serial old.reels ≡ Some r = found_itself old.reels r (apart_of old.reels are.rising) there in
       let in_told = reel_there r.serial old.reels r at in

@@ -1,7 +1,7 @@
 -- What a power loss leaves of the reels when PROCESS stops at a write of tape.
--- serves: 
+-- serves:
 use Rattle.std.proofs.Common.{◌≡◌, ◌≢◌, ℕ, zero, suc, ◌+◌, ◌<◌, ◌≤◌, ◌==◌, Bool, true, false, List, [], ◌∷◌, ◌++◌, length, take, Option, Some, None, Ok, Err, refl, sym, ◌∙◌, ap, arith, subst, inl, inr, option_map, slice_get, if◌then◌else◌}
-use Rattle.std.specs.Prelude.{◌⊎◌, ◌&&◌, All, nat_lt, not}
+use Rattle.std.specs.Prelude.{◌⊎◌, ◌&&◌, All, Contains, map, nat_lt, not}
 use Rattle.std.specs.Option.{ForSome}
 use Rattle.std.proofs.lemmas.Bool.{cases_eq, cases_order, cond-false, cond-true, eq-eqb, lt-ltb, ne_eqb}
 use Rattle.std.proofs.lemmas.List.{length-take-le}
@@ -10,31 +10,45 @@ use Rattle.g_base.specs.Block.{IsBlock}
 use Rattle.g_entry.specs.declared.file_rec.FileRec.{FileRec}
 use Rattle.g_tape.specs.declared.fault.TapeFault.TheVariants.{WriteFailed}
 use Rattle.g_tape.specs.Durable.{MayBeBegun, WritesDurably}
-use Rattle.g_tape.specs.Rack.{Rack, changed, reel}
-use Rattle.g_tape.specs.Reads.{MayLeave, OnlyReads, blocks_in, blocks_of}
+use Rattle.g_tape.specs.Rack.{AreReels, Rack, changed, reel}
+use Rattle.g_tape.specs.Reads.{MayLeave, OnlyReads, blocks_in, blocks_of, unread}
 use Rattle.g_tape.specs.Reel.{Reel, Remains, Shortened, Torn, Unchanged, left_by}
 use Rattle.g_tape.specs.Risk.{IsSynced, Leaves, risk}
 use Rattle.g_tape.proofs.ReadLemmas.{blocks_after_reads, reel-with_reel}
-use Rattle.g_disc_contents.specs.Facts.{OnlineFacts}
+use Rattle.g_disc_contents.specs.Contents.{Holds}
+use Rattle.g_disc_contents.specs.Facts.{IsTied, OnlineFacts}
 use Rattle.g_incr.specs.Layout.{Dump, count_of, dump_blocks, mark_block}
 use Rattle.g_incr.specs.Plan.{IsAway, IsPlan, IsReadyAt, Plan, blocks_of as size_in, content_blocks, dump_of, first_content, needs, waiting}
 use Rattle.g_incr.proofs.PieceLemmas.{at_mark}
 use Rattle.g_incr.proofs.PlanLemmas.{length-made}
+use Rattle.g_known.specs.ReelNotes.{AreListed}
 use Rattle.g_shelf.specs.CompletedDumps.{AreCompleted, AreShelved}
+use Rattle.g_shelf.specs.declared.rack.Listed.{Listed}
 use Rattle.g_shelf.specs.QuietWrites.{IsBegun, left_in}
 use Rattle.g_shelf.specs.Surviving.{DumpsSurvive, IsBegunDurably}
 use Rattle.g_shelf.proofs.SurvivalLemmas.{front_stays, mark_synced, other_survives}
 use Rattle.g_shelf.proofs.SurvivingLemmas.{all_but_the_mark, begun_reads, front_left}
 use Rattle.g_laws_store.proofs.ReleaseLemmas.{one_block_is_none}
 use Rattle.g_store_meaning.specs.Meaning.{told_reels}
+use Rattle.g_store_meaning.specs.Reading.{AllTold}
+use Rattle.g_store_meaning.specs.StoreInvariant.{IsUp, StoreFacts, with_dump}
 use Rattle.g_store_meaning.specs.Surviving.{PowerLossLeavesDumps, PowerLossLeavesEither}
 use Rattle.g_dumper.proofs.SafeLemmas.{left_shelved, shelved_at}
-use Rattle.g_process.specs.Exits.{cleared}
-use Rattle.g_process.specs.Progress.{IsBlockOf}
-use Rattle.g_process.proofs.BecomeLemmas.{left_name}
+use Rattle.g_dumper.specs.Invariant.{up_with}
+use Rattle.g_process.specs.Exits.{IsContentOf, cleared}
+use Rattle.g_process.specs.NamedCopies.{intended_by, moved_by}
+use Rattle.g_process.specs.PowerLosses.{LeavesMark, LeavesNew, LeavesOld, LeavesReleasing, LossLeaves}
+use Rattle.g_process.specs.ProcessPlan.{IsFree, process_plan, versions}
+use Rattle.g_process.specs.Progress.{AreReadable, HasWritten, IsBlockOf}
+use Rattle.g_process.specs.Releases.{AreReleased, is_taken, taken, zeros}
+use Rattle.g_process.proofs.BecomeLemmas.{labels_released, left_name, same_serials}
+use Rattle.g_process.proofs.BelongLemmas.{without_all}
 use Rattle.g_process.proofs.ContentLemmas.{within_content}
+use Rattle.g_process.proofs.DumpLemmas.{begun, content_is_long, content_of}
 use Rattle.g_process.proofs.DurableLemmas.{other_blocks}
-use Rattle.g_process.proofs.SafeLemmas.{each_reel, get_first}
+use Rattle.g_process.proofs.EndLemmas.{l_taken, part_below, part_free}
+use Rattle.g_process.proofs.ExitLemmas.{cleared_same, header, its_content, its_reel, labels_w, none_at, none_here, others_keep, process_away, quiet_m, shelved_released, shelved_same, shelved_with}
+use Rattle.g_process.proofs.SafeLemmas.{each_reel, filled_blocks, get_first}
 use Rattle.g_process.proofs.WholeLemmas.{none_short}
 
 -- WHERE THE DUMPS SURVIVE, they are what is left
@@ -166,3 +180,150 @@ cleared_beside serial last n shelf apart = by (cases_order n last)
     by (inl same) = absurd (apart same)
     by (inr (inl less)) = below less
     by (inr (inr more)) = ap (λ (b : Bool). if b && not (n == serial) then [] else shelf n) (not_below n (last + 1) (omega (arith, more)) ∙ sym (not_below n last (omega (arith, more))))
+
+-- THE STOPS OF PROCESS
+module _ (serial : ℕ) (o : OnlineFacts) (old mid : Rack) (live : o.live ≡ true) (tied : IsTied o) (are : AreReels old.reels) (only : OnlyReads old mid) (rules : IsPlan (process_plan serial o)) (free : IsFree serial old)
+    (on : Reel) (on_is : reel serial old.reels ≡ Some on) (mounted : on.mounted ≡ true) (room : needs (process_plan serial o) ≤ on.capacity) (readable : AreReadable serial (process_plan serial o) (versions o.contents) o mid)
+    (told : AllTold o.disc.held (told_reels old)) (text : ℕ → List ℕ) (shelf : ℕ → List Dump) (shelved : AreShelved shelf (told_reels old)) (up : IsUp text shelf (up_with o old None)) where
+  abbrev plan : Plan
+  plan = process_plan serial o
+
+  abbrev rs : List FileRec
+  rs = versions o.contents
+
+  abbrev Losses : StoreFacts → Type 0
+  Losses end = LossLeaves text shelf serial (up_with o old None) end
+
+  no_dumps : shelf serial ≡ []
+  no_dumps = none_here serial o old mid live tied are only rules free on on_is mounted room readable told text shelf shelved up
+
+  -- at the intent
+  pub loss_intent : (end : StoreFacts) → map unread end.rack.reels ≡ map unread old.reels → ForSome end.online.disc.held (λ blocks. Holds blocks o.contents ⊎ Holds blocks (intended_by serial o))
+      → ((n : ℕ) → DumpsSurvive n end.rack) → Losses end
+  loss_intent end same either survive = LeavesOld either (leaves_shelf shelf end.rack (subst (AreShelved shelf) (sym same) shelved) survive)
+
+  module _ (begun_o : OnlineFacts) (files : begun_o.contents.files ≡ o.contents.files) (k : ℕ) (m : Rack) (so : HasWritten serial plan rs begun_o k mid m) where
+    -- at a block
+    module _ (less : k < needs plan) (x new : Rack) (reads : OnlyReads m x) (how : Remains) (block : List ℕ) (is_block : IsBlockOf plan rs begun_o m x k block)
+        (reels_are : new.reels ≡ (changed serial (left_by how k) x).reels) (failed : WritesDurably serial k block x (Err WriteFailed) new) (survive : (n : ℕ) → DumpsSurvive n x) where
+      shelved_x : AreShelved shelf (told_reels x)
+      shelved_x = subst (AreShelved shelf) (sym reads.reels) (quiet_m serial o old mid live tied are only rules free on on_is mounted room readable told text shelf shelved up begun_o files k m so less)
+
+      theirs : (n : ℕ) → (n ≡ serial → ⊥) → PowerLossLeavesDumps n new (shelf n)
+      theirs n apart = theirs_left serial k block how x new reels_are failed survive n (shelf n) apart (λ blocks at. shelved_at n x shelf blocks shelved_x at)
+
+      none_x : ForSome (blocks_of serial x) (λ blocks. AreCompleted serial blocks [])
+      none_x blocks at = subst (AreCompleted serial blocks) no_dumps (shelved_at serial x shelf blocks shelved_x at)
+
+      some_written : 0 < k → 0 < length so.written
+      some_written some = let long = so.long in omega (arith, some, long)
+
+      there : 0 < k → ForSome (blocks_of serial x) (λ blocks. blocks ≡ so.written)
+      there some blocks at = filled_blocks serial so.written mid m (some_written some) so.rack blocks (sym (blocks_after_reads serial m x reads) ∙ at)
+
+      begun_x : 0 < k → IsBegunDurably serial 0 k x
+      begun_x some =
+          subst (λ (n : ℕ). IsBegunDurably serial 0 n x) so.long
+          (begun_reads serial 0 (length so.written) m x reads.durable (blocks_after_reads serial m x reads) (so.durably.some (some_written some)))
+
+      first : (b : List ℕ) → slice_get so.written 0 ≡ Some b → IsReadyAt plan 0 b
+      first = header serial o old mid live tied are only rules free on on_is mounted room readable told text shelf shelved up begun_o files k m so
+
+      pub loss_before : (end : StoreFacts) → end.rack ≡ new → k + 1 < needs plan → ForSome end.online.disc.held (λ blocks. Holds blocks (intended_by serial o)) → Losses end
+      loss_before end rack_is early holds =
+          LeavesOld (λ blocks at. inr (holds blocks at))
+          (subst (λ (r : Rack). (n : ℕ) → PowerLossLeavesDumps n r (shelf n)) (sym rack_is)
+          (each_reel serial (λ n. PowerLossLeavesDumps n new (shelf n))
+          (subst (PowerLossLeavesDumps serial new) (sym no_dumps)
+          (before_left serial k block how x new reels_are failed survive plan so.written rules (process_away serial o) refl refl so.long first there none_x begun_x early)) theirs))
+
+      abbrev made : Dump
+      made = dump_of plan (content_of plan so.written)
+
+      abbrev with_it : ℕ → List Dump
+      with_it = with_dump (dump_of plan (content_of plan so.written)) shelf
+
+      pub loss_mark : All IsBlock so.written → (end : StoreFacts) → end.rack ≡ new → k + 1 ≡ needs plan → ForSome end.online.disc.held (λ blocks. Holds blocks (intended_by serial o)) → Losses end
+      loss_mark whole end rack_is last holds =
+          LeavesMark holds (content_of plan so.written) (its_content serial o old mid live tied are only rules free on on_is mounted room readable told text shelf shelved up begun_o files k m so enough whole)
+          (subst (λ (r : Rack). (n : ℕ) → PowerLossLeavesEither n r (shelf n) (with_it n)) (sym rack_is) (each_reel serial (λ n. PowerLossLeavesEither n new (shelf n) (with_it n)) here beside))
+        where
+          enough : needs plan ≤ k + 1
+          enough = omega (arith, last)
+
+          long_content : length (content_of plan so.written) ≡ content_blocks plan
+          long_content = content_is_long serial plan rs begun_o mid m rules (process_away serial o) k enough so
+
+          at_k : 0 + (count_of made + 1) ≡ k
+          at_k =
+              let long = long_content in
+              let files_long = length-made serial 0 (first_content plan) plan.files in
+              omega (arith, last, long, files_long)
+
+          here : PowerLossLeavesEither serial new (shelf serial) (with_it serial)
+          here =
+              subst (λ (ds : List Dump). PowerLossLeavesEither serial new ds (with_it serial)) (sym no_dumps)
+              (subst (λ (ds : List Dump). PowerLossLeavesEither serial new [] ds)
+              (sym (its_reel serial o old mid live tied are only rules free on on_is mounted room readable told text shelf shelved up begun_o files k m so enough whole))
+              (mark_left serial k block how x new reels_are failed survive plan so.written rules (process_away serial o) refl refl so.long first there none_x begun_x made
+              (begun serial plan rs begun_o mid m rules (process_away serial o) k enough so whole last refl refl) at_k (let e = at_k in omega (arith, e))
+              (last_is_mark plan rs begun_o m x k block (content_of plan so.written) long_content last is_block)))
+
+          beside : (n : ℕ) → (n ≡ serial → ⊥) → PowerLossLeavesEither n new (shelf n) (with_it n)
+          beside n apart = either_left n new (shelf n) (with_it n) (theirs n apart)
+
+    -- at the new copies, and at a release
+    module _ (all : k ≡ needs plan) (whole : All IsBlock so.written) (survive : (n : ℕ) → DumpsSurvive n m) where
+      abbrev enough : needs plan ≤ k + 1
+      enough = omega (arith, all)
+
+      abbrev with_it : ℕ → List Dump
+      with_it = with_dump (dump_of plan (content_of plan so.written)) shelf
+
+      its : IsContentOf text serial o (content_of plan so.written)
+      its = its_content serial o old mid live tied are only rules free on on_is mounted room readable told text shelf shelved up begun_o files k m so enough whole
+
+      shelved_m : AreShelved with_it (told_reels m)
+      shelved_m = shelved_with serial o old mid live tied are only rules free on on_is mounted room readable told text shelf shelved up begun_o files k m so enough whole all
+
+      pub loss_copies : (end : StoreFacts) → end.rack ≡ m → ForSome end.online.disc.held (λ blocks. Holds blocks (intended_by serial o) ⊎ Holds blocks (moved_by serial o)) → Losses end
+      loss_copies end rack_is either =
+          LeavesNew either (content_of plan so.written) its
+          (subst (λ (r : Rack). (n : ℕ) → PowerLossLeavesDumps n r (with_it n)) (sym rack_is) (leaves_shelf with_it m shelved_m survive))
+
+      -- the releases before it are durable
+      module _ (lists : List Listed) (listed : AreListed old lists) (i : ℕ) (l : Listed) (at : slice_get lists i ≡ Some l) (taken_l : is_taken serial l ≡ true) (x : Rack) (gone : AreReleased (taken serial (take i lists)) m x)
+          (survive_x : (n : ℕ) → DumpsSurvive n x) (how : Remains) (new : Rack) (reels_are : new.reels ≡ (changed l.serial (left_by how 0) x).reels)
+          (failed : WritesDurably l.serial 0 zeros x (Err WriteFailed) new) where
+        abbrev before : List ℕ
+        before = taken serial (take i lists)
+
+        apart_l : l.serial ≢ serial
+        apart_l = (l_taken serial old mid lists listed are i l at taken_l).1
+
+        -- what the reels had before the failed release
+        shelved_x : AreShelved (cleared serial l.serial with_it) (told_reels x)
+        shelved_x =
+            shelved_same old x (without_all before with_it) (cleared serial l.serial with_it) (same_serials old.reels x.reels (labels_released before m x gone ∙ labels_w serial o old mid live tied are only rules free on on_is mounted room readable told text shelf shelved up begun_o files k m so))
+            (λ r there. cleared_same before serial l.serial with_it r.serial (part_below serial old mid lists listed are i l at taken_l r.serial)
+            (λ less apart isnt.
+            others_keep serial o old mid live tied are only rules free on on_is mounted room readable told text shelf shelved up begun_o files k m so enough whole r.serial apart
+            ∙ none_at serial o old mid live tied are only rules free on on_is mounted room readable told text shelf shelved up r there (part_free serial old mid lists listed are i l at taken_l r there less apart isnt)))
+            (shelved_released before m x with_it gone shelved_m)
+
+        had_x : (n : ℕ) → ForSome (blocks_of n x) (λ blocks. AreCompleted n blocks (cleared serial l.serial with_it n))
+        had_x n blocks here = shelved_at n x (cleared serial l.serial with_it) blocks shelved_x here
+
+        this : PowerLossLeavesEither l.serial new (cleared serial l.serial with_it l.serial) (cleared serial (l.serial + 1) with_it l.serial)
+        this = subst (PowerLossLeavesEither l.serial new (cleared serial l.serial with_it l.serial)) (sym (cleared_past serial l.serial with_it apart_l))
+            (release_left l.serial 0 zeros how x new reels_are failed survive_x refl (cleared serial l.serial with_it l.serial) (had_x l.serial))
+
+        those : (n : ℕ) → (n ≡ l.serial → ⊥) → PowerLossLeavesEither n new (cleared serial l.serial with_it n) (cleared serial (l.serial + 1) with_it n)
+        those n apart = either_left n new (cleared serial l.serial with_it n) (cleared serial (l.serial + 1) with_it n)
+            (theirs_left l.serial 0 zeros how x new reels_are failed survive_x n (cleared serial l.serial with_it n) apart (had_x n))
+
+        pub loss_release : (end : StoreFacts) → end.rack ≡ new → ForSome end.online.disc.held (λ blocks. Holds blocks (moved_by serial o)) → Losses end
+        loss_release end rack_is holds =
+            LeavesReleasing holds (content_of plan so.written) its l.serial
+            (subst (λ (r : Rack). (n : ℕ) → PowerLossLeavesEither n r (cleared serial l.serial with_it n) (cleared serial (l.serial + 1) with_it n)) (sym rack_is)
+            (each_reel l.serial (λ n. PowerLossLeavesEither n new (cleared serial l.serial with_it n) (cleared serial (l.serial + 1) with_it n)) this those))

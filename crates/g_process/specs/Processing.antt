@@ -29,6 +29,7 @@ use Rattle.g_store_meaning.specs.Surviving.{AreDumpsSafe}
 use Rattle.g_dumper.specs.Invariant.{spent_with, up_with}
 use Rattle.g_process.specs.Exits.{Exits, IsReadBy}
 use Rattle.g_process.specs.NamedCopies.{intended_by, moved_by}
+use Rattle.g_process.specs.PowerLosses.{LossLeaves}
 use Rattle.g_process.specs.ProcessPlan.{IsFirstLost, IsFree, IsTaken, process_plan, versions}
 use Rattle.g_process.specs.Releases.{zeros}
 use Rattle.g_process.specs.Progress.{IsSource}
@@ -190,5 +191,7 @@ pub record Processes (serial : ℕ) (old : StoreFacts) (answer : Result ℕ Stor
   pub dumps : Told old → Belongs old → AreDumpsSafe old → AreDumpsSafe new
   -- where it ended, in terms of the bytes and the dumps that the store had
   pub exit : Told old → (text : ℕ → List ℕ) (shelf : ℕ → List Dump) → AreShelved shelf (told_reels old.rack) → IsUp text shelf old → old.spent ≡ false → Exits text shelf serial old answer new
+  -- what a power loss leaves of the reels after a stop
+  pub left : Told old → (text : ℕ → List ℕ) (shelf : ℕ → List Dump) → AreShelved shelf (told_reels old.rack) → IsUp text shelf old → old.spent ≡ false → AreDumpsSafe old → answer ≡ Err Stopped → LossLeaves text shelf serial old new
   pub spent : (new.spent ≡ true) ↔ (answer ≡ Err Stopped)
   pub dump : (answer ≡ Err Stopped → ⊥) → new.dump ≡ old.dump
