@@ -39,17 +39,17 @@ dumps_by shelf [] = refl
 dumps_by shelf (r ∷ rs) = ap (λ (ds : List Dump). shelf r.serial ++ ds) (dumps_by shelf rs)
 
 module _ (old new : List Reel) (same : serials new ≡ serials old) where
-  moved_dumps : (shelf : ℕ → List Dump) → all_dumps shelf old ≡ all_dumps shelf new
+  pub moved_dumps : (shelf : ℕ → List Dump) → all_dumps shelf old ≡ all_dumps shelf new
   moved_dumps shelf = dumps_by shelf old ∙ ap (by_serials shelf) (sym same) ∙ sym (dumps_by shelf new)
 
-  moved_rack : (text : ℕ → List ℕ) (shelf : ℕ → List Dump) → RackBelongs text (all_dumps shelf old) → RackBelongs text (all_dumps shelf new)
+  pub moved_rack : (text : ℕ → List ℕ) (shelf : ℕ → List Dump) → RackBelongs text (all_dumps shelf old) → RackBelongs text (all_dumps shelf new)
   moved_rack text shelf is = subst (RackBelongs text) (moved_dumps shelf) is
 
   moved_place : (shelf : ℕ → List Dump) (last : ℕ) (intent : Option Intent) → IfSome intent (IsPlaced shelf old last) → IfSome intent (IsPlaced shelf new last)
   moved_place shelf last None is = tt
   moved_place shelf last (Some i) is = record { reel = subst (λ (ns : List ℕ). Contains ns i.serial) (sym same) is.reel; number = is.number; place = is.place }
 
-  moved_disc : (text : ℕ → List ℕ) (shelf : ℕ → List Dump) (c : Contents) → DiscBelongs text shelf old c → DiscBelongs text shelf new c
+  pub moved_disc : (text : ℕ → List ℕ) (shelf : ℕ → List Dump) (c : Contents) → DiscBelongs text shelf old c → DiscBelongs text shelf new c
   moved_disc text shelf c is =
       let dumps = moved_dumps shelf in record {
         files = subst (λ (ds : List Dump). All (λ f. KeepsFile (text f.rec.stamp) ds f) c.files) dumps is.files;
