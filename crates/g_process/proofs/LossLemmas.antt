@@ -3,8 +3,7 @@
 use Rattle.std.proofs.Common.{◌≡◌, ◌≢◌, ℕ, zero, suc, ◌+◌, ◌<◌, ◌≤◌, ◌==◌, Bool, true, false, List, [], ◌∷◌, ◌++◌, length, take, Option, Some, None, Ok, Err, refl, sym, ◌∙◌, ap, arith, subst, inl, inr, option_map, slice_get, if◌then◌else◌}
 use Rattle.std.specs.Prelude.{◌⊎◌, ◌&&◌, All, Contains, map, nat_lt, not}
 use Rattle.std.specs.Option.{ForSome}
-use Rattle.std.proofs.lemmas.Bool.{cases_eq, cases_order, cond-false, cond-true, eq-eqb, lt-ltb, ne_eqb}
-use Rattle.std.proofs.lemmas.List.{length-take-le}
+use Rattle.std.proofs.lemmas.Bool.{cases_Bool, cases_order, lt-ltb, ltb-true, ne_eqb}
 use Rattle.std.proofs.lemmas.Option.{none-some, same_Some}
 use Rattle.g_base.specs.Block.{IsBlock}
 use Rattle.g_entry.specs.declared.file_rec.FileRec.{FileRec}
@@ -148,12 +147,15 @@ last_is_mark p rs o old new k block content long last (inr (i, part, r, there, s
     absurd (let no : ⊥ = omega (arith, low, at, last) in no)
 
 -- RELEASES UP TO A REEL, and with it
-pub cleared_at : (serial last : ℕ) (shelf : ℕ → List Dump) → last ≢ serial → cleared serial last shelf last ≡ shelf last
-cleared_at serial last shelf apart = ap (λ (b : Bool). if b && not (last == serial) then [] else shelf last) (never last)
+not_below : (a b : ℕ) → b ≤ a → nat_lt a b ≡ false
+not_below a b most = by (cases_Bool (nat_lt a b))
   where
-    never : (n : ℕ) → nat_lt n n ≡ false
-    never zero = refl
-    never (suc n) = never n
+    by : (nat_lt a b ≡ true) ⊎ (nat_lt a b ≡ false) → nat_lt a b ≡ false
+    by (inl is) = absurd (let less = ltb-true a b is in let no : ⊥ = omega (arith, less, most) in no)
+    by (inr isnt) = isnt
+
+pub cleared_at : (serial last : ℕ) (shelf : ℕ → List Dump) → last ≢ serial → cleared serial last shelf last ≡ shelf last
+cleared_at serial last shelf apart = ap (λ (b : Bool). if b && not (last == serial) then [] else shelf last) (not_below last last (omega arith))
 
 pub cleared_past : (serial last : ℕ) (shelf : ℕ → List Dump) → last ≢ serial → cleared serial (last + 1) shelf last ≡ []
 cleared_past serial last shelf apart =
@@ -166,15 +168,6 @@ cleared_beside serial last n shelf apart = by (cases_order n last)
     below : n < last → cleared serial (last + 1) shelf n ≡ cleared serial last shelf n
     below less =
         ap (λ (b : Bool). if b && not (n == serial) then [] else shelf n) (lt-ltb n (last + 1) (omega (arith, less)) ∙ sym (lt-ltb n last less))
-
-    not_below : (a b : ℕ) → b ≤ a → nat_lt a b ≡ false
-    not_below a zero most = by_zero a
-      where
-        by_zero : (a : ℕ) → nat_lt a zero ≡ false
-        by_zero zero = refl
-        by_zero (suc a) = refl
-    not_below zero (suc b) most = absurd (let no : ⊥ = omega (arith, most) in no)
-    not_below (suc a) (suc b) most = not_below a b (omega (arith, most))
 
     by : (n ≡ last) ⊎ ((n < last) ⊎ (last < n)) → cleared serial (last + 1) shelf n ≡ cleared serial last shelf n
     by (inl same) = absurd (apart same)
@@ -277,19 +270,19 @@ module _ (serial : ℕ) (o : OnlineFacts) (old mid : Rack) (live : o.live ≡ tr
       abbrev enough : needs plan ≤ k + 1
       enough = omega (arith, all)
 
-      abbrev with_it : ℕ → List Dump
-      with_it = with_dump (dump_of plan (content_of plan so.written)) shelf
+      abbrev with_new : ℕ → List Dump
+      with_new = with_dump (dump_of plan (content_of plan so.written)) shelf
 
       its : IsContentOf text serial o (content_of plan so.written)
       its = its_content serial o old mid live tied are only rules free on on_is mounted room readable told text shelf shelved up begun_o files k m so enough whole
 
-      shelved_m : AreShelved with_it (told_reels m)
+      shelved_m : AreShelved with_new (told_reels m)
       shelved_m = shelved_with serial o old mid live tied are only rules free on on_is mounted room readable told text shelf shelved up begun_o files k m so enough whole all
 
       pub loss_copies : (end : StoreFacts) → end.rack ≡ m → ForSome end.online.disc.held (λ blocks. Holds blocks (intended_by serial o) ⊎ Holds blocks (moved_by serial o)) → Losses end
       loss_copies end rack_is either =
           LeavesNew either (content_of plan so.written) its
-          (subst (λ (r : Rack). (n : ℕ) → PowerLossLeavesDumps n r (with_it n)) (sym rack_is) (leaves_shelf with_it m shelved_m survive))
+          (subst (λ (r : Rack). (n : ℕ) → PowerLossLeavesDumps n r (with_new n)) (sym rack_is) (leaves_shelf with_new m shelved_m survive))
 
       -- the releases before it are durable
       module _ (lists : List Listed) (listed : AreListed old lists) (i : ℕ) (l : Listed) (at : slice_get lists i ≡ Some l) (taken_l : is_taken serial l ≡ true) (x : Rack) (gone : AreReleased (taken serial (take i lists)) m x)
@@ -302,28 +295,28 @@ module _ (serial : ℕ) (o : OnlineFacts) (old mid : Rack) (live : o.live ≡ tr
         apart_l = (l_taken serial old mid lists listed are i l at taken_l).1
 
         -- what the reels had before the failed release
-        shelved_x : AreShelved (cleared serial l.serial with_it) (told_reels x)
-        shelved_x =
-            shelved_same old x (without_all before with_it) (cleared serial l.serial with_it) (same_serials old.reels x.reels (labels_released before m x gone ∙ labels_w serial o old mid live tied are only rules free on on_is mounted room readable told text shelf shelved up begun_o files k m so))
-            (λ r there. cleared_same before serial l.serial with_it r.serial (part_below serial old mid lists listed are i l at taken_l r.serial)
+        shelved_gone : AreShelved (cleared serial l.serial with_new) (told_reels x)
+        shelved_gone =
+            shelved_same old x (without_all before with_new) (cleared serial l.serial with_new) (same_serials old.reels x.reels (labels_released before m x gone ∙ labels_w serial o old mid live tied are only rules free on on_is mounted room readable told text shelf shelved up begun_o files k m so))
+            (λ r there. cleared_same before serial l.serial with_new r.serial (part_below serial old mid lists listed are i l at taken_l r.serial)
             (λ less apart isnt.
             others_keep serial o old mid live tied are only rules free on on_is mounted room readable told text shelf shelved up begun_o files k m so enough whole r.serial apart
             ∙ none_at serial o old mid live tied are only rules free on on_is mounted room readable told text shelf shelved up r there (part_free serial old mid lists listed are i l at taken_l r there less apart isnt)))
-            (shelved_released before m x with_it gone shelved_m)
+            (shelved_released before m x with_new gone shelved_m)
 
-        had_x : (n : ℕ) → ForSome (blocks_of n x) (λ blocks. AreCompleted n blocks (cleared serial l.serial with_it n))
-        had_x n blocks here = shelved_at n x (cleared serial l.serial with_it) blocks shelved_x here
+        had_x : (n : ℕ) → ForSome (blocks_of n x) (λ blocks. AreCompleted n blocks (cleared serial l.serial with_new n))
+        had_x n blocks here = shelved_at n x (cleared serial l.serial with_new) blocks shelved_gone here
 
-        this : PowerLossLeavesEither l.serial new (cleared serial l.serial with_it l.serial) (cleared serial (l.serial + 1) with_it l.serial)
-        this = subst (PowerLossLeavesEither l.serial new (cleared serial l.serial with_it l.serial)) (sym (cleared_past serial l.serial with_it apart_l))
-            (release_left l.serial 0 zeros how x new reels_are failed survive_x refl (cleared serial l.serial with_it l.serial) (had_x l.serial))
+        this : PowerLossLeavesEither l.serial new (cleared serial l.serial with_new l.serial) (cleared serial (l.serial + 1) with_new l.serial)
+        this = subst (PowerLossLeavesEither l.serial new (cleared serial l.serial with_new l.serial)) (sym (cleared_past serial l.serial with_new apart_l))
+            (release_left l.serial 0 zeros how x new reels_are failed survive_x refl (cleared serial l.serial with_new l.serial) (had_x l.serial))
 
-        those : (n : ℕ) → (n ≡ l.serial → ⊥) → PowerLossLeavesEither n new (cleared serial l.serial with_it n) (cleared serial (l.serial + 1) with_it n)
-        those n apart = either_left n new (cleared serial l.serial with_it n) (cleared serial (l.serial + 1) with_it n)
-            (theirs_left l.serial 0 zeros how x new reels_are failed survive_x n (cleared serial l.serial with_it n) apart (had_x n))
+        those : (n : ℕ) → (n ≡ l.serial → ⊥) → PowerLossLeavesEither n new (cleared serial l.serial with_new n) (cleared serial (l.serial + 1) with_new n)
+        those n apart = either_left n new (cleared serial l.serial with_new n) (cleared serial (l.serial + 1) with_new n)
+            (theirs_left l.serial 0 zeros how x new reels_are failed survive_x n (cleared serial l.serial with_new n) apart (had_x n))
 
         pub loss_release : (end : StoreFacts) → end.rack ≡ new → ForSome end.online.disc.held (λ blocks. Holds blocks (moved_by serial o)) → Losses end
         loss_release end rack_is holds =
             LeavesReleasing holds (content_of plan so.written) its l.serial
-            (subst (λ (r : Rack). (n : ℕ) → PowerLossLeavesEither n r (cleared serial l.serial with_it n) (cleared serial (l.serial + 1) with_it n)) (sym rack_is)
-            (each_reel l.serial (λ n. PowerLossLeavesEither n new (cleared serial l.serial with_it n) (cleared serial (l.serial + 1) with_it n)) this those))
+            (subst (λ (r : Rack). (n : ℕ) → PowerLossLeavesEither n r (cleared serial l.serial with_new n) (cleared serial (l.serial + 1) with_new n)) (sym rack_is)
+            (each_reel l.serial (λ n. PowerLossLeavesEither n new (cleared serial l.serial with_new n) (cleared serial (l.serial + 1) with_new n)) this those))

@@ -1,0 +1,161 @@
+-- Reels after a power loss have the dumps that survive it, and belong to the same states.
+-- serves: SurvivalLemmas
+use Rattle.std.proofs.Common.{◌≡◌, ℕ, zero, suc, ◌<◌, Bool, true, false, List, [], ◌∷◌, map, Option, Some, None, is_some, refl, sym, ◌∙◌, ap, arith, subst, inl, inr, if◌then◌else◌}
+use Rattle.std.specs.Prelude.{◌⊎◌, ◌==◌, All, Contains, IfSome}
+use Rattle.std.specs.List.{AllZip}
+use Rattle.std.specs.Option.{ForSome}
+use Rattle.std.proofs.lemmas.Bool.{cases_Bool, eq-eqb, eqb-true}
+use Rattle.std.proofs.lemmas.List.Elements.{All-head, All-tail, All-weaker}
+use Rattle.g_tape.specs.Rack.{Rack, reel}
+use Rattle.g_tape.specs.Reads.{MayLeave, blocks_in, blocks_of, unread}
+use Rattle.g_tape.specs.Reel.{Reel}
+use Rattle.g_disc_contents.specs.Contents.{Contents, File, Holds}
+use Rattle.g_incr.specs.Layout.{Dump}
+use Rattle.g_shelf.specs.CompletedDumps.{AreCompleted, AreShelved}
+use Rattle.g_shelf.specs.Surviving.{DumpsSurvive}
+use Rattle.g_store_model.specs.State.{ReelRow, State}
+use Rattle.g_store_meaning.specs.Belonging.{BelongWith}
+use Rattle.g_store_meaning.specs.Meaning.{told_reels}
+use Rattle.g_store_meaning.specs.Reading.{AllTold, DevicesStandFor, HasText, IsRackView, IsView, ReelsTold, View, row_of, state_down}
+use Rattle.g_laws_store.proofs.DumpingLemmas.{moved_disc, moved_dumps, moved_rack}
+use Rattle.g_laws_power.specs.Losses.{IsLike, IsRackLeft, IsReelLeft, IsRowLike, StandLike}
+
+-- A REEL AMONG OTHERS is found by its serial, if all of them expose their blocks
+found_told : (rs : List Reel) (r : Reel) → Contains rs r → All (λ x. is_some x.blocks ≡ true) (map unread rs) → (blocks : List (List ℕ)) × (blocks_in (reel r.serial rs) ≡ Some blocks)
+found_told [] r (i, inside, at) told = absurd (let no : ⊥ = omega (arith, inside) in no)
+found_told (x ∷ xs) r there told =
+    by_first (cases_Bool (r.serial == x.serial)) there (λ more. found_told xs r more (All-tail (λ (y : Reel). is_some y.blocks ≡ true) (unread x) (map unread xs) told))
+  where
+    some_in : (o : Option (List (List ℕ))) → is_some o ≡ true → (blocks : List (List ℕ)) × (o ≡ Some blocks)
+    some_in None is = absurd (let no : ⊥ = cc in no)
+    some_in (Some blocks) is = (blocks, refl)
+
+    by_first : ((r.serial == x.serial) ≡ true) ⊎ ((r.serial == x.serial) ≡ false) → Contains (x ∷ xs) r
+        → (Contains xs r → (blocks : List (List ℕ)) × (blocks_in (reel r.serial xs) ≡ Some blocks)) → (blocks : List (List ℕ)) × (blocks_in (reel r.serial (x ∷ xs)) ≡ Some blocks)
+    by_first (inl same) there rest =
+        let (blocks, is) = some_in x.blocks (All-head (λ (y : Reel). is_some y.blocks ≡ true) (unread x) (map unread xs) told) in
+        (blocks, ap (λ (b : Bool). blocks_in (if b then Some x else reel r.serial xs)) same ∙ is)
+    by_first (inr other) (zero, inside, at) rest =
+        absurd (let same : (r.serial == x.serial) ≡ true = eq-eqb r.serial x.serial (ap (λ (y : Reel). y.serial) (sym at)) in let no : ⊥ = cc in no)
+    by_first (inr other) (suc i, inside, at) rest =
+        let (blocks, is) = rest (i, omega (arith, inside), at) in
+        (blocks, ap (λ (b : Bool). blocks_in (if b then Some x else reel r.serial xs)) other ∙ is)
+
+-- it is one of the exposed reels
+there_told : (rs : List Reel) (n : ℕ) (blocks : List (List ℕ)) → blocks_in (reel n rs) ≡ Some blocks → (r : Reel) × Contains (map unread rs) r × (r.serial ≡ n) × (r.blocks ≡ Some blocks)
+there_told [] n blocks is = absurd (let no : ⊥ = cc in no)
+there_told (x ∷ xs) n blocks is = by_first (cases_Bool (n == x.serial)) (there_told xs n blocks)
+  where
+    by_first : ((n == x.serial) ≡ true) ⊎ ((n == x.serial) ≡ false)
+        → (blocks_in (reel n xs) ≡ Some blocks → (r : Reel) × Contains (map unread xs) r × (r.serial ≡ n) × (r.blocks ≡ Some blocks)) → (r : Reel) × Contains (map unread (x ∷ xs)) r × (r.serial ≡ n) × (r.blocks ≡ Some blocks)
+    by_first (inl same) rest = (
+      unread x,
+      (0, omega arith, refl),
+      sym (eqb-true n x.serial same),
+      sym (ap (λ (b : Bool). blocks_in (if b then Some x else reel n xs)) same) ∙ is,
+    )
+    by_first (inr other) rest =
+        let (r, (i, inside, at), named, has) = rest (sym (ap (λ (b : Bool). blocks_in (if b then Some x else reel n xs)) other) ∙ is) in
+        (r, (suc i, omega (arith, inside), at), named, has)
+
+module _ (old new : Rack) (left : IsRackLeft old new) (told : ReelsTold (told_reels old)) (survive : (n : ℕ) → DumpsSurvive n old) where
+  -- what is left of a reel has its dumps
+  completed_left : (shelf : ℕ → List Dump) → AreShelved shelf (told_reels old) → (was now : Reel) → Contains old.reels was → IsReelLeft old was now → ForSome now.blocks (λ blocks. AreCompleted now.serial blocks (shelf now.serial))
+  completed_left shelf shelved was now there is blocks at =
+      let (had, found) = found_told old.reels was there told.each in
+      let (r, on, named, has) = there_told old.reels was.serial had found in
+      let completed : AreCompleted was.serial had (shelf was.serial) = subst (λ (n : ℕ). AreCompleted n had (shelf n)) named (shelved.each r on had has) in
+      subst (λ (n : ℕ). AreCompleted n blocks (shelf n)) (sym is.serial) (survive was.serial had found (shelf was.serial) completed had found blocks (is.blocks blocks at had found))
+
+  shelved_in : (shelf : ℕ → List Dump) → AreShelved shelf (told_reels old) → (xs ys : List Reel) → AllZip (IsReelLeft old) xs ys → ((x : Reel) → Contains xs x → Contains old.reels x)
+      → (r : Reel) → Contains (map unread ys) r → ForSome r.blocks (λ blocks. AreCompleted r.serial blocks (shelf r.serial))
+  shelved_in shelf shelved xs [] zip among r (i, inside, at) = absurd (let no : ⊥ = omega (arith, inside) in no)
+  shelved_in shelf shelved [] (y ∷ ys) zip among r there = absurd zip
+  shelved_in shelf shelved (x ∷ xs) (y ∷ ys) (one, zip) among r (zero, inside, at) =
+      subst (λ (q : Reel). ForSome q.blocks (λ blocks. AreCompleted q.serial blocks (shelf q.serial))) at (completed_left shelf shelved x y (among x (0, omega arith, refl)) one)
+  shelved_in shelf shelved (x ∷ xs) (y ∷ ys) (one, zip) among r (suc i, inside, at) =
+      shelved_in shelf shelved xs ys zip (λ z there. among z (later z there)) r (i, omega (arith, inside), at)
+    where
+      later : (z : Reel) → Contains xs z → Contains (x ∷ xs) z
+      later z (j, within, is) = (suc j, omega (arith, within), is)
+
+  pub shelved_left : (shelf : ℕ → List Dump) → AreShelved shelf (told_reels old) → AreShelved shelf (told_reels new)
+  shelved_left shelf shelved = record { each = shelved_in shelf shelved old.reels new.reels left.reels (λ r there. there) }
+
+  -- the same serials
+  serials_in : (xs ys : List Reel) → AllZip (IsReelLeft old) xs ys → map (λ (r : Reel). r.serial) (map unread ys) ≡ map (λ (r : Reel). r.serial) (map unread xs)
+  serials_in [] [] zip = refl
+  serials_in [] (y ∷ ys) zip = absurd zip
+  serials_in (x ∷ xs) [] zip = absurd zip
+  serials_in (x ∷ xs) (y ∷ ys) (one, zip) =
+      ap (λ (n : ℕ). n ∷ map (λ (r : Reel). r.serial) (map unread ys)) one.serial ∙ ap (λ (ns : List ℕ). x.serial ∷ ns) (serials_in xs ys zip)
+
+  serials_left : map (λ (r : Reel). r.serial) (told_reels new) ≡ map (λ (r : Reel). r.serial) (told_reels old)
+  serials_left = serials_in old.reels new.reels left.reels
+
+  told_in : (xs ys : List Reel) → AllZip (IsReelLeft old) xs ys → All (λ r. is_some r.blocks ≡ true) (map unread ys)
+  told_in xs [] zip = λ k d inside. absurd (let no : ⊥ = omega (arith, inside) in no)
+  told_in [] (y ∷ ys) zip = absurd zip
+  told_in (x ∷ xs) (y ∷ ys) (one, zip) = by (told_in xs ys zip)
+    where
+      by : All (λ r. is_some r.blocks ≡ true) (map unread ys) → All (λ r. is_some r.blocks ≡ true) (map unread (y ∷ ys))
+      by rest zero d inside = one.told
+      by rest (suc k) d inside = rest k d (omega (arith, inside))
+
+  pub told_left : ReelsTold (told_reels new)
+  told_left = record { each = told_in old.reels new.reels left.reels }
+
+  -- DISC AND RACK BELONG TOGETHER as before
+  pub belong_left : (held : Option (List (List ℕ))) → BelongWith held (told_reels old) → BelongWith held (told_reels new)
+  belong_left held is = record {
+    text = is.text;
+    shelf = is.shelf;
+    shelved = shelved_left is.shelf is.shelved;
+    rack = moved_rack (told_reels old) (told_reels new) serials_left is.text is.shelf is.rack;
+    disc = λ blocks c at holds. moved_disc (told_reels old) (told_reels new) serials_left is.text is.shelf c (is.disc blocks c at holds);
+  }
+
+  -- and represent a state like the one before
+  rack_left : (held : Option (List (List ℕ))) (v : View) → is_some held ≡ true → IsRackView held (told_reels old) v → IsRackView held (told_reels new) v
+  rack_left held v exposed is = record {
+    shelved = shelved_left v.shelf is.shelved;
+    all = is.all ∙ moved_dumps (told_reels old) (told_reels new) serials_left v.shelf;
+    dumped = λ told_now. is.dumped (record { disc = exposed; each = told });
+    none = λ told_now empty. is.none (record { disc = exposed; each = told }) empty;
+  }
+
+  view_left : (held : Option (List (List ℕ))) (c : Contents) (v : View) → is_some held ≡ true → IsView held (told_reels old) c v → IsView held (told_reels new) c v
+  view_left held c v exposed is = record {
+    rack = rack_left held v exposed is.rack;
+    files = All-weaker (λ (f : File). HasText (AllTold held (told_reels old)) (v.text f.rec.stamp) v.dumps f) (λ (f : File). HasText (AllTold held (told_reels new)) (v.text f.rec.stamp) v.dumps f)
+        (λ f has. record { len = has.len; bytes = has.bytes; tape = λ told_now. has.tape (record { disc = exposed; each = told }) }) c.files is.files;
+  }
+
+  contents_left : (held : Option (List (List ℕ))) (v : View) → is_some held ≡ true → (contents : Option Contents)
+      → IfSome contents (λ c. (blocks : List (List ℕ)) × (held ≡ Some blocks) × Holds blocks c × IsView held (told_reels old) c v)
+      → IfSome contents (λ c. (blocks : List (List ℕ)) × (held ≡ Some blocks) × Holds blocks c × IsView held (told_reels new) c v)
+  contents_left held v exposed None is = tt
+  contents_left held v exposed (Some c) (blocks, at, holds, view) = (blocks, at, holds, view_left held c v exposed view)
+
+  rows_in : (shelf : ℕ → List Dump) (xs ys : List Reel) → AllZip (IsReelLeft old) xs ys → AllZip IsRowLike (map (row_of shelf) (map unread xs)) (map (row_of shelf) (map unread ys))
+  rows_in shelf [] [] zip = tt
+  rows_in shelf [] (y ∷ ys) zip = absurd zip
+  rows_in shelf (x ∷ xs) [] zip = absurd zip
+  rows_in shelf (x ∷ xs) (y ∷ ys) (one, zip) = (
+    record { serial = one.serial; capacity = one.capacity; mounted = one.mounted; dumps = ap (λ (n : ℕ). (row_of shelf (record (unread x) { serial = n })).dumps) one.serial },
+    rows_in shelf xs ys zip,
+  )
+
+  pub stand_left : (size : ℕ) (blocks : List (List ℕ)) (u : State) → DevicesStandFor size (Some blocks) (told_reels old) u → StandLike size blocks new u
+  stand_left size blocks u is = record {
+    state = state_down is.view (told_reels new) size is.contents;
+    stands = record {
+      view = is.view;
+      contents = is.contents;
+      is = contents_left (Some blocks) is.view refl is.contents is.is;
+      none = is.none;
+      rack = rack_left (Some blocks) is.view refl is.rack;
+      state_is = refl;
+    };
+    like = subst (λ (s : State). IsLike s (state_down is.view (told_reels new) size is.contents)) (sym is.state_is) (record { same = refl; reels = rows_in is.view.shelf old.reels new.reels left.reels });
+  }

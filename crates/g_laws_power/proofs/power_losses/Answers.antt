@@ -1,0 +1,11 @@
+use Rattle.g_laws_power.proofs.SurvivalLemmas.{calls_keep_safe, stopped_calls_survive, store_survives}
+use Rattle.g_laws_power.proofs.power_losses.Goals as goal
+
+pub returns-clause-between : goal.returns-clause-between
+returns-clause-between c = store_survives
+
+pub returns-clause-stopped : goal.returns-clause-stopped
+returns-clause-stopped c = stopped_calls_survive
+
+pub returns-clause-safe : goal.returns-clause-safe
+returns-clause-safe c = calls_keep_safe
