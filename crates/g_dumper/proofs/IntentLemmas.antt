@@ -9,6 +9,7 @@ use Rattle.g_entry.specs.HeadFields.{IsIntent, IsSerial}
 use Rattle.g_base.specs.Counts.{RoseBy}
 use Rattle.g_disc_contents.specs.Commits.{Commits}
 use Rattle.g_disc_contents.specs.Contents.{Contents, Holds, with_intent}
+use Rattle.g_disc_contents.specs.Durable.{IsDurable}
 use Rattle.g_disc_contents.specs.Facts.{IsTied, OnlineFacts, Pin}
 use Rattle.g_incr.specs.Plan.{IsPlan, Plan, first_content}
 use Rattle.g_online.specs.declared.change.Change.TheVariants.{SetIntent}
@@ -71,6 +72,7 @@ opened_by plan old mid new i same pinned done told =
       blocks = done.blocks;
       commits = subst (λ (o : OnlineFacts). Commits 1 o.layout new.layout done.blocks) at done.commits;
       writes = subst (λ (o : OnlineFacts). RoseBy done.blocks o.disc.writes new.disc.writes) at (subst (λ (n : ℕ). RoseBy n mid.disc.writes new.disc.writes) (let n : 0 + done.blocks ≡ done.blocks = omega arith in n) done.writes);
+      durable = λ is. done.durable (subst IsDurable (sym at) is);
     }
 
 -- or the commit was stopped
@@ -83,6 +85,9 @@ stopped_by plan old mid new i same pinned stopped told =
       live = stopped.live;
       told = told ∙ ap (λ (o : OnlineFacts). is_some o.disc.held) at;
       holds = λ blocks held. by_case blocks (stopped.holds blocks held).one;
+      survives = λ is.
+          let (safe, left) = stopped.survives (subst IsDurable (sym at) is) in
+          (safe, λ had told_had blocks may. by_case blocks (left had (ap (λ (o : OnlineFacts). o.disc.held) at ∙ told_had) blocks may).one);
     }
   where
     by_case : (blocks : List (List ℕ)) → Holds blocks mid.contents

@@ -14,6 +14,7 @@ use Rattle.g_plain.specs.declared.faults.StoreFault.{StoreFault}
 use Rattle.g_plain.specs.declared.faults.StoreFault.TheVariants.{CountersSpent, NoMemory, NoTape, NotMounted, Stopped, TapeFull, TapeReadFault}
 use Rattle.g_disc_contents.specs.Commits.{Commits}
 use Rattle.g_disc_contents.specs.Contents.{Holds, recs_in, with_intent}
+use Rattle.g_disc_contents.specs.Durable.{IsDurable, StopsSafely}
 use Rattle.g_disc_contents.specs.Facts.{OnlineFacts}
 use Rattle.g_incr.specs.Layout.{Dump}
 use Rattle.g_incr.specs.Plan.{IsPlan, Plan, first_content, needs}
@@ -105,6 +106,7 @@ pub record HasOpened (plan : Plan) (old new : OnlineFacts) : Type 0 where
   pub blocks : ℕ
   pub commits : Commits 1 old.layout new.layout blocks
   pub writes : RoseBy blocks old.disc.writes new.disc.writes
+  pub durable : IsDurable old → IsDurable new
 
 -- The commit of the intent was stopped: the disc holds what it held, or that with the intent, and the filestore accepts no
 -- further call.
@@ -112,6 +114,7 @@ pub record StoppedAtIntent (plan : Plan) (old new : OnlineFacts) : Type 0 where
   pub live : new.live ≡ false
   pub told : is_some new.disc.held ≡ is_some old.disc.held
   pub holds : ForSome new.disc.held (λ blocks. Holds blocks old.contents ⊎ Holds blocks (with_intent (Some (intent_of plan)) old.contents))
+  pub survives : StopsSafely (λ left. Holds left old.contents ⊎ Holds left (with_intent (Some (intent_of plan)) old.contents)) old new
 
 -- A dump was opened: its plan is that of the current filestore, and begins after the completed dumps of the reel.
 pub record Begins (serial : ℕ) (old : OnlineFacts) (rack : Rack) (d : DumpFacts) (new : OnlineFacts) (after : Rack) : Type 0 where

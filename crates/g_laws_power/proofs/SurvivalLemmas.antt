@@ -14,9 +14,8 @@ use Rattle.g_plain.specs.declared.calls.StoreReply.{StoreReply}
 use Rattle.g_plain.specs.declared.faults.StoreFault.{StoreFault}
 use Rattle.g_plain.specs.declared.faults.StoreFault.TheVariants.{Stopped}
 use Rattle.g_plain.proofs.Found.{some_of}
-use Rattle.g_disc_contents.specs.Contents.{Contents, File, Holds, contents_of}
+use Rattle.g_disc_contents.specs.Contents.{Contents, File, Holds}
 use Rattle.g_disc_contents.proofs.HoldLemmas.{holds_one}
-use Rattle.g_disc_contents.proofs.SurvivalLemmas as survival
 use Rattle.g_shelf.specs.Surviving.{DumpsSurvive, IsBegunDurably}
 use Rattle.g_shelf.proofs.SurvivingLemmas.{begun_reads, survive_reads}
 use Rattle.g_store_model.specs.State.{State}
@@ -28,6 +27,7 @@ use Rattle.g_store_meaning.specs.Reading.{AllTold, DevicesStandFor, HasText, IsV
 use Rattle.g_store_meaning.specs.StoreInvariant.{DumpFacts, StoreFacts}
 use Rattle.g_store_meaning.specs.Surviving.{with_disc_left}
 use Rattle.g_store_meaning.proofs.ViewLemmas.{Stands, to}
+use Rattle.g_laws_store.proofs.TiedLemmas.{holds_after_loss}
 use Rattle.g_laws_power.specs.Losses.{CallsKeepSafe, IsLeft, IsSafe, StoppedCallsSurvive, StopsLike, StoreSurvives}
 use Rattle.g_laws_power.proofs.LeftLemmas.{belong_left, stand_left}
 
@@ -65,10 +65,7 @@ module _ (s : StoreFacts) (blocks : List (List ℕ)) (safe : IsSafe s) (may : Ma
   pub holds_left : Holds blocks s.online.contents
   holds_left =
       let (had, at) = some_of s.online.disc.held safe.told.disc in
-      let live = safe.store.live safe.up in
-      let tied = safe.store.tied in
-      subst (Holds blocks) (sym (tied.contents live ∙ ap (λ (h : Option (List (List ℕ))). contents_of h s.online.layout.directory) at))
-      (survival.contents_survive s.online.layout.side s.online.layout.directory s.online.disc had blocks (tied.whole had at).0 at (tied.gate live had at) safe.disc (tied.stands live had at) may)
+      holds_after_loss s.online safe.store.tied (safe.store.live safe.up) safe.disc had at blocks may
 
   belongs_before : BelongWith (Some blocks) (told_reels s.rack)
   belongs_before =

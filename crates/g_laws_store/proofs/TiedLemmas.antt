@@ -5,9 +5,14 @@ use Rattle.std.proofs.Common.{◌≡◌, ℕ, Bool, true, false, List, Option, S
 use Rattle.std.specs.Prelude.{IfSome, not}
 use Rattle.std.specs.Option.{ForSome}
 use Rattle.g_tape.specs.Reel.{Reel}
+use Rattle.g_disc.specs.Durable.{MayLeave}
+use Rattle.g_dirs.specs.Durable.{IsDiscSafe}
+use Rattle.g_dirs.proofs.Surviving.{live_is_safe}
 use Rattle.g_disc_contents.specs.Contents.{Contents, Holds, committed, contents_of}
+use Rattle.g_disc_contents.specs.Durable.{IsDurable}
 use Rattle.g_disc_contents.specs.Facts.{IsTied, OnlineFacts, Pin}
 use Rattle.g_disc_contents.proofs.HoldLemmas.{holds_one}
+use Rattle.g_disc_contents.proofs.SurvivalLemmas.{contents_survive}
 use Rattle.g_incr.specs.Layout.{Dump}
 use Rattle.g_incr.specs.Plan.{dump_of}
 use Rattle.g_shelf.specs.CompletedDumps.{AreShelved, all_dumps}
@@ -26,6 +31,16 @@ holds_now o tied live blocks held = record {
   stands = tied.stands live blocks held;
   are = tied.contents live ∙ ap (λ (h : Option (List (List ℕ))). contents_of h o.layout.directory) held;
 }
+
+-- also after a power loss, if its live blocks are durable; and the disc is safe then
+pub holds_after_loss : (o : OnlineFacts) → IsTied o → o.live ≡ true → IsDurable o → (had : List (List ℕ)) → o.disc.held ≡ Some had → (left : List (List ℕ)) → MayLeave o.disc left → Holds left o.contents
+holds_after_loss o tied live durable had at left may =
+    subst (Holds left) (sym (tied.contents live ∙ ap (λ (h : Option (List (List ℕ))). contents_of h o.layout.directory) at))
+    (contents_survive o.layout.side o.layout.directory o.disc had left (tied.whole had at).0 at (tied.gate live had at) durable (tied.stands live had at) may)
+
+pub durable_is_safe : (o : OnlineFacts) → IsTied o → o.live ≡ true → IsDurable o → IsDiscSafe o.disc
+durable_is_safe o tied live durable had at =
+    (live_is_safe o.layout.side o.layout.directory o.disc had at (tied.whole had at).0 tied.size (tied.gate live had at) (tied.stands live had at)).0 durable had at
 
 -- so disc and rack belong together where memory and rack do
 pub devices_belong : (text : ℕ → List ℕ) (shelf : ℕ → List Dump) (reels : List Reel) (o : OnlineFacts) → IsTied o → o.live ≡ true → AreShelved shelf reels

@@ -24,6 +24,7 @@ use Rattle.g_plain.specs.declared.faults.StoreFault.TheVariants.{DiscReadFault, 
 use Rattle.g_plain.proofs.Found.{some_of}
 use Rattle.g_disc_contents.specs.Commits.{Commits}
 use Rattle.g_disc_contents.specs.Contents.{Contents, File, Holds, has, with_intent}
+use Rattle.g_disc_contents.specs.Durable.{StopsSafely}
 use Rattle.g_disc_contents.specs.Facts.{IsTied, Layout, OnlineFacts}
 use Rattle.g_incr.specs.Layout.{Dump}
 use Rattle.g_incr.specs.Plan.{IsAway, IsPlan, Plan, blocks_of, content_blocks, dump_of, first_content, needs, waiting}
@@ -38,7 +39,6 @@ use Rattle.g_store_meaning.specs.StoreInvariant.{IsUp, StoreFacts}
 use Rattle.g_store_meaning.specs.Surviving.{AreDumpsSafe}
 use Rattle.g_laws_store.specs.ForgottenCopies.{bare_rec}
 use Rattle.g_laws_store.proofs.ReleaseLemmas.{one_block_is_none}
-use Rattle.g_laws_store.proofs.TiedLemmas.{holds_now}
 use Rattle.g_dumper.specs.Beginning.{intent_of}
 use Rattle.g_dumper.specs.Invariant.{spent_with, up_with}
 use Rattle.g_dumper.proofs.BeginLemmas.{after_reads, reel_named}
@@ -51,7 +51,7 @@ use Rattle.g_process.specs.ProcessPlan.{IsFree, copies_from, process_plan, versi
 use Rattle.g_process.specs.Preparation.{AtBlock, AtCopies, AtIntent, AtRelease, CarriesOut, HasIntended, IsGranted, IsPrepared, Preparing, StopsAt, copies_of}
 use Rattle.g_process.specs.NamedCopies.{intended_by, moved_by, process_copies, process_intent}
 use Rattle.g_process.specs.Exits.{IsReadBy, Stops, StopsRelease}
-use Rattle.g_process.specs.PowerLosses.{LossLeaves}
+use Rattle.g_process.specs.PowerLosses.{LeavesOnDisc, LossLeaves}
 use Rattle.g_process.specs.Processing.{CutCopies, CutDump, CutIntent, CutRelease, StopLeaves, IsDumped, IsLeftBy, IsOther, IsReleased, HasReadFile, Processes, behind_process, process_refuses}
 use Rattle.g_process.specs.Releases.{AreReleased, is_taken, released, taken, zeros}
 use Rattle.g_process.specs.Progress.{AreReadable, FailedAt, FailsReading, HasWritten, IsBlockOf, IsSource, filled}
@@ -64,7 +64,7 @@ use Rattle.g_process.proofs.ListLemmas.{free_by_list, noted_at}
 use Rattle.g_process.proofs.PlanLemmas.{all_versions}
 use Rattle.g_process.proofs.ProcessLemmas.{none_refused, refuses_early, refuses_late, store_up}
 use Rattle.g_process.proofs.DurableLemmas.{less_survive}
-use Rattle.g_process.proofs.LossLemmas.{loss_before, loss_copies, loss_intent, loss_mark, loss_release}
+use Rattle.g_process.proofs.LossLemmas.{live_leaves, loss_before, loss_copies, loss_intent, loss_mark, loss_release}
 use Rattle.g_process.proofs.SafeLemmas.{blocks_stay, can_failed, filled_blocks, first_ready, nothing_filled, partial_survives, safe_spent, safe_up, survive_beside, survive_mid, survive_released, whole_durable}
 use Rattle.g_process.proofs.ReelLemmas.{blocks_beside, filled_serial, read_later}
 use Rattle.g_process.proofs.ReleaseLemmas.{AreApart, times_released}
@@ -489,8 +489,8 @@ module _ (job : Job) (o : OnlineFacts) (old mid : Rack) (live : o.live ≡ true)
         survive : (n : ℕ) → DumpsSurvive n failed.mid
         survive n = survive_reads n m failed.mid failed.reads.durable (blocks_after_reads n m failed.mid failed.reads) (partial_dumps o' k m less so safe n)
 
-        holds : ForSome o'.disc.held (λ blocks. Holds blocks (intended_by serial o))
-        holds blocks at = subst (Holds blocks) (intended.contents ∙ begun_is) (holds_now o' tied' intended.live blocks at)
+        holds : LeavesOnDisc (λ blocks. Holds blocks (intended_by serial o)) was (spent_with o' new)
+        holds = live_leaves o o' old new (intended_by serial o) tied' intended.live (intended.contents ∙ begun_is) intended.told intended.durable
 
         by_place : (k + 1 < needs (process_plan serial o)) ⊎ (k + 1 ≡ needs (process_plan serial o)) → LossLeaves text shelf serial was (spent_with o' new)
         by_place (inl early) =
@@ -570,7 +570,11 @@ module _ (job : Job) (o : OnlineFacts) (old mid : Rack) (live : o.live ≡ true)
         (λ told text shelf shelved up. exit_intent serial o old mid live tied are only rules_are free the_reel.0 the_reel.1 mounted_on room_on readable_are told text shelf shelved up (spent_with o' new)
         (ap (λ (x : Rack). map unread x.reels) same ∙ only.reels) (subst (λ (i : Intent). ForSome o'.disc.held (λ blocks. Holds blocks o.contents ⊎ Holds blocks (with_intent (Some i) o.contents))) intent_is stopped.holds))
         (λ told text shelf shelved up safe. loss_intent serial o old mid live tied are only rules_are free the_reel.0 the_reel.1 mounted_on room_on readable_are told text shelf shelved up (spent_with o' new)
-        (ap (λ (x : Rack). map unread x.reels) same ∙ only.reels) (subst (λ (i : Intent). ForSome o'.disc.held (λ blocks. Holds blocks o.contents ⊎ Holds blocks (with_intent (Some i) o.contents))) intent_is stopped.holds)
+        (ap (λ (x : Rack). map unread x.reels) same ∙ only.reels)
+        (record {
+          now = (subst (λ (i : Intent). ForSome o'.disc.held (λ blocks. Holds blocks o.contents ⊎ Holds blocks (with_intent (Some i) o.contents))) intent_is stopped.holds);
+          survives = subst (λ (i : Intent). StopsSafely (λ left. Holds left o.contents ⊎ Holds left (with_intent (Some i) o.contents)) o o') intent_is stopped.survives;
+        })
         (λ n. subst (DumpsSurvive n) (sym same) (safe_mid safe n)))
         (CutIntent (subst (λ (i : Intent). ForSome o'.disc.held (λ blocks. Holds blocks o.contents ⊎ Holds blocks (with_intent (Some i) o.contents))) intent_is stopped.holds)
         (ap (λ (x : Rack). map unread x.reels) same ∙ only.reels)) (ap (λ (x : Rack). labels x.reels) same ∙ labels_mid)
@@ -607,7 +611,17 @@ module _ (job : Job) (o : OnlineFacts) (old mid : Rack) (live : o.live ≡ true)
         (λ told text shelf shelved up. exit_copies serial o old mid live tied are only rules_are free the_reel.0 the_reel.1 mounted_on room_on readable_are told text shelf shelved up begun (files_at begun intended) (needs plan) new (so_at begun (needs plan) new so)
         (let need = need_is in omega (arith, need)) (whole_by so.written held (labels_written begun (needs plan) new so) told) need_is o' (holds_either begun intended adopting.stopped.holds))
         (λ told text shelf shelved up safe. loss_copies serial o old mid live tied are only rules_are free the_reel.0 the_reel.1 mounted_on room_on readable_are told text shelf shelved up begun (files_at begun intended) (needs plan) new (so_at begun (needs plan) new so)
-        need_is (whole_by so.written held (labels_written begun (needs plan) new so) told) (moved_dumps begun new so safe) (spent_with o' new) refl (holds_either begun intended adopting.stopped.holds))
+        need_is (whole_by so.written held (labels_written begun (needs plan) new so) told) (moved_dumps begun new so safe) (spent_with o' new) refl
+        (record {
+          now = holds_either begun intended adopting.stopped.holds;
+          survives = λ is.
+              let (disc_safe, left) = adopting.stopped.survives (intended.durable is) in (
+                disc_safe,
+                λ had at blocks may.
+                    let (b, there) = some_of begun.disc.held (intended.told ∙ ap (λ (h : Option (List (List ℕ))). is_some h) at) in
+                    holds_either begun intended {held = Some blocks} (λ x is_x. subst (λ (y : List (List ℕ)). Holds y begun.contents ⊎ Holds y (adopted job.number (copies_of job o) begun.contents)) (same_Some blocks x is_x) (left b there blocks may)) blocks refl,
+              );
+        }))
         (CutCopies (holds_either begun intended adopting.stopped.holds)
         (the_dump new begun intended so (λ s k. omega arith) (reels_held serial (at_serial serial (filled so.written)) so.written old new (let long = so.long in omega (arith, long))
         (at_name serial (filled so.written) (filled_serial so.written)) (at_this serial (filled so.written)) all))
@@ -644,7 +658,8 @@ module _ (job : Job) (o : OnlineFacts) (old mid : Rack) (live : o.live ≡ true)
         need_is (whole_by so.written held same_new told) (moved_dumps moved.begun m so safe) job.lists.items ready.listed cut.place cut.list cut.at cut.taken_is cut.mid cut.before
         (survive_released (taken serial (take cut.place job.lists.items)) m cut.mid cut.durably (λ x stays. blocks_stay (taken serial (take cut.place job.lists.items)) x m cut.mid cut.before stays)
         (moved_dumps moved.begun m so safe)) cut.how new (ap (λ (x : Rack). x.reels) cut.rack) cut.failed (spent_with o' new) refl
-        (λ blocks at. subst (Holds blocks) (put.contents ∙ moved_is moved.begun moved.intended) (holds_now o' tied' put.live blocks at)))
+        (live_leaves o o' old new (moved_by serial o) tied' put.live (put.contents ∙ moved_is moved.begun moved.intended) (moved.adopted.told ∙ moved.intended.told)
+        (λ is. put.durable (moved.intended.durable is))))
         (CutRelease put.live (put.contents ∙ moved_is moved.begun moved.intended)
         (the_dump m moved.begun moved.intended so
         (λ s k. let one = times_released (taken serial (take cut.place job.lists.items)) m cut.mid cut.before s k in

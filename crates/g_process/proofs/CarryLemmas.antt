@@ -47,6 +47,7 @@ has_intended i o new u none done =
       writes = subst (λ (n : ℕ). RoseBy n o.disc.writes new.disc.writes) (let n : 0 + ok.blocks ≡ ok.blocks = omega arith in n) ok.writes;
       causes = Causes-for (λ p. p) (λ p. p) (λ is. absurd (let no : ⊥ = cc in no)) (λ no. absurd no) done.causes;
       tied = done.tied;
+      durable = ok.durable;
     }
 
 -- it fails only if a write failed
@@ -68,6 +69,7 @@ has_stopped i o new e done =
       live = stopped.live;
       told = done.told;
       holds = λ blocks held. by_case blocks (stopped.holds blocks held).one;
+      survives = λ is. (let (safe, left) = stopped.survives is in (safe, λ had at blocks may. by_case blocks (left had at blocks may).one));
       causes = Causes-for (λ p. p) (λ p. p) (λ _. tt) (λ _. answer) done.causes;
       tied = done.tied;
     }

@@ -1,7 +1,7 @@
 -- What a power loss leaves of the reels when PROCESS stops at a write of tape.
 -- serves:
 use Rattle.std.proofs.Common.{◌≡◌, ◌≢◌, ℕ, zero, suc, ◌+◌, ◌<◌, ◌≤◌, ◌==◌, Bool, true, false, List, [], ◌∷◌, ◌++◌, length, take, Option, Some, None, Ok, Err, refl, sym, ◌∙◌, ap, arith, subst, inl, inr, option_map, slice_get, if◌then◌else◌}
-use Rattle.std.specs.Prelude.{◌⊎◌, ◌&&◌, All, Contains, map, nat_lt, not}
+use Rattle.std.specs.Prelude.{◌⊎◌, ◌&&◌, All, Contains, is_some, map, nat_lt, not}
 use Rattle.std.specs.Option.{ForSome}
 use Rattle.std.proofs.lemmas.Bool.{cases_Bool, cases_order, lt-ltb, ltb-true, ne_eqb}
 use Rattle.std.proofs.lemmas.Option.{none-some, same_Some}
@@ -14,7 +14,9 @@ use Rattle.g_tape.specs.Reads.{MayLeave, OnlyReads, blocks_in, blocks_of, unread
 use Rattle.g_tape.specs.Reel.{Reel, Remains, Shortened, Torn, Unchanged, left_by}
 use Rattle.g_tape.specs.Risk.{IsSynced, Leaves, risk}
 use Rattle.g_tape.proofs.ReadLemmas.{blocks_after_reads, reel-with_reel}
-use Rattle.g_disc_contents.specs.Contents.{Holds}
+use Rattle.g_plain.proofs.Found.{some_of}
+use Rattle.g_disc_contents.specs.Contents.{Contents, Holds}
+use Rattle.g_disc_contents.specs.Durable.{IsDurable}
 use Rattle.g_disc_contents.specs.Facts.{IsTied, OnlineFacts}
 use Rattle.g_incr.specs.Layout.{Dump, count_of, dump_blocks, mark_block}
 use Rattle.g_incr.specs.Plan.{IsAway, IsPlan, IsReadyAt, Plan, blocks_of as size_in, content_blocks, dump_of, first_content, needs, waiting}
@@ -28,15 +30,16 @@ use Rattle.g_shelf.specs.Surviving.{DumpsSurvive, IsBegunDurably}
 use Rattle.g_shelf.proofs.SurvivalLemmas.{front_stays, mark_synced, other_survives}
 use Rattle.g_shelf.proofs.SurvivingLemmas.{all_but_the_mark, begun_reads, front_left}
 use Rattle.g_laws_store.proofs.ReleaseLemmas.{one_block_is_none}
+use Rattle.g_laws_store.proofs.TiedLemmas.{durable_is_safe, holds_after_loss, holds_now}
 use Rattle.g_store_meaning.specs.Meaning.{told_reels}
 use Rattle.g_store_meaning.specs.Reading.{AllTold}
 use Rattle.g_store_meaning.specs.StoreInvariant.{IsUp, StoreFacts, with_dump}
 use Rattle.g_store_meaning.specs.Surviving.{PowerLossLeavesDumps, PowerLossLeavesEither}
 use Rattle.g_dumper.proofs.SafeLemmas.{left_shelved, shelved_at}
-use Rattle.g_dumper.specs.Invariant.{up_with}
+use Rattle.g_dumper.specs.Invariant.{spent_with, up_with}
 use Rattle.g_process.specs.Exits.{IsContentOf, cleared}
 use Rattle.g_process.specs.NamedCopies.{intended_by, moved_by}
-use Rattle.g_process.specs.PowerLosses.{LeavesMark, LeavesNew, LeavesOld, LeavesReleasing, LossLeaves}
+use Rattle.g_process.specs.PowerLosses.{LeavesMark, LeavesNew, LeavesOld, LeavesOnDisc, LeavesReleasing, LossLeaves}
 use Rattle.g_process.specs.ProcessPlan.{IsFree, process_plan, versions}
 use Rattle.g_process.specs.Progress.{AreReadable, HasWritten, IsBlockOf}
 use Rattle.g_process.specs.Releases.{AreReleased, is_taken, taken, zeros}
@@ -174,6 +177,19 @@ cleared_beside serial last n shelf apart = by (cases_order n last)
     by (inr (inl less)) = below less
     by (inr (inr more)) = ap (λ (b : Bool). if b && not (n == serial) then [] else shelf n) (not_below n (last + 1) (omega (arith, more)) ∙ sym (not_below n last (omega (arith, more))))
 
+-- A STORE WHOSE LIVE BLOCKS ARE DURABLE leaves what it holds
+pub live_leaves : (o new : OnlineFacts) (old rack : Rack) (c : Contents) → IsTied new → new.live ≡ true → new.contents ≡ c → is_some new.disc.held ≡ is_some o.disc.held → (IsDurable o → IsDurable new)
+    → LeavesOnDisc (λ blocks. Holds blocks c) (up_with o old None) (spent_with new rack)
+live_leaves o new old rack c tied live are told durable = record {
+  now = λ blocks at. subst (Holds blocks) are (holds_now new tied live blocks at);
+  survives = λ is. (
+    durable_is_safe new tied live (durable is),
+    λ had at left may.
+        let (blocks, there) = some_of new.disc.held (told ∙ ap (λ (h : Option (List (List ℕ))). is_some h) at) in
+        subst (Holds left) are (holds_after_loss new tied live (durable is) blocks there left may),
+  );
+}
+
 -- THE STOPS OF PROCESS
 module _ (serial : ℕ) (o : OnlineFacts) (old mid : Rack) (live : o.live ≡ true) (tied : IsTied o) (are : AreReels old.reels) (only : OnlyReads old mid) (rules : IsPlan (process_plan serial o)) (free : IsFree serial old)
     (on : Reel) (on_is : reel serial old.reels ≡ Some on) (mounted : on.mounted ≡ true) (room : needs (process_plan serial o) ≤ on.capacity) (readable : AreReadable serial (process_plan serial o) (versions o.contents) o mid)
@@ -191,7 +207,7 @@ module _ (serial : ℕ) (o : OnlineFacts) (old mid : Rack) (live : o.live ≡ tr
   no_dumps = none_here serial o old mid live tied are only rules free on on_is mounted room readable told text shelf shelved up
 
   -- at the intent
-  pub loss_intent : (end : StoreFacts) → map unread end.rack.reels ≡ map unread old.reels → ForSome end.online.disc.held (λ blocks. Holds blocks o.contents ⊎ Holds blocks (intended_by serial o))
+  pub loss_intent : (end : StoreFacts) → map unread end.rack.reels ≡ map unread old.reels → LeavesOnDisc (λ blocks. Holds blocks o.contents ⊎ Holds blocks (intended_by serial o)) (up_with o old None) end
       → ((n : ℕ) → DumpsSurvive n end.rack) → Losses end
   loss_intent end same either survive = LeavesOld either (leaves_shelf shelf end.rack (subst (AreShelved shelf) (sym same) shelved) survive)
 
@@ -222,9 +238,9 @@ module _ (serial : ℕ) (o : OnlineFacts) (old mid : Rack) (live : o.live ≡ tr
       first : (b : List ℕ) → slice_get so.written 0 ≡ Some b → IsReadyAt plan 0 b
       first = header serial o old mid live tied are only rules free on on_is mounted room readable told text shelf shelved up begun_o files k m so
 
-      pub loss_before : (end : StoreFacts) → end.rack ≡ new → k + 1 < needs plan → ForSome end.online.disc.held (λ blocks. Holds blocks (intended_by serial o)) → Losses end
+      pub loss_before : (end : StoreFacts) → end.rack ≡ new → k + 1 < needs plan → LeavesOnDisc (λ blocks. Holds blocks (intended_by serial o)) (up_with o old None) end → Losses end
       loss_before end rack_is early holds =
-          LeavesOld (λ blocks at. inr (holds blocks at))
+          LeavesOld (record { now = λ blocks at. inr (holds.now blocks at); survives = λ is. (let (safe, left) = holds.survives is in (safe, λ had at blocks may. inr (left had at blocks may))) })
           (subst (λ (r : Rack). (n : ℕ) → PowerLossLeavesDumps n r (shelf n)) (sym rack_is)
           (each_reel serial (λ n. PowerLossLeavesDumps n new (shelf n))
           (subst (PowerLossLeavesDumps serial new) (sym no_dumps)
@@ -236,7 +252,7 @@ module _ (serial : ℕ) (o : OnlineFacts) (old mid : Rack) (live : o.live ≡ tr
       abbrev with_it : ℕ → List Dump
       with_it = with_dump (dump_of plan (content_of plan so.written)) shelf
 
-      pub loss_mark : All IsBlock so.written → (end : StoreFacts) → end.rack ≡ new → k + 1 ≡ needs plan → ForSome end.online.disc.held (λ blocks. Holds blocks (intended_by serial o)) → Losses end
+      pub loss_mark : All IsBlock so.written → (end : StoreFacts) → end.rack ≡ new → k + 1 ≡ needs plan → LeavesOnDisc (λ blocks. Holds blocks (intended_by serial o)) (up_with o old None) end → Losses end
       loss_mark whole end rack_is last holds =
           LeavesMark holds (content_of plan so.written) (its_content serial o old mid live tied are only rules free on on_is mounted room readable told text shelf shelved up begun_o files k m so enough whole)
           (subst (λ (r : Rack). (n : ℕ) → PowerLossLeavesEither n r (shelf n) (with_it n)) (sym rack_is) (each_reel serial (λ n. PowerLossLeavesEither n new (shelf n) (with_it n)) here beside))
@@ -279,7 +295,7 @@ module _ (serial : ℕ) (o : OnlineFacts) (old mid : Rack) (live : o.live ≡ tr
       shelved_m : AreShelved with_new (told_reels m)
       shelved_m = shelved_with serial o old mid live tied are only rules free on on_is mounted room readable told text shelf shelved up begun_o files k m so enough whole all
 
-      pub loss_copies : (end : StoreFacts) → end.rack ≡ m → ForSome end.online.disc.held (λ blocks. Holds blocks (intended_by serial o) ⊎ Holds blocks (moved_by serial o)) → Losses end
+      pub loss_copies : (end : StoreFacts) → end.rack ≡ m → LeavesOnDisc (λ blocks. Holds blocks (intended_by serial o) ⊎ Holds blocks (moved_by serial o)) (up_with o old None) end → Losses end
       loss_copies end rack_is either =
           LeavesNew either (content_of plan so.written) its
           (subst (λ (r : Rack). (n : ℕ) → PowerLossLeavesDumps n r (with_new n)) (sym rack_is) (leaves_shelf with_new m shelved_m survive))
@@ -315,7 +331,7 @@ module _ (serial : ℕ) (o : OnlineFacts) (old mid : Rack) (live : o.live ≡ tr
         those n apart = either_left n new (cleared serial l.serial with_new n) (cleared serial (l.serial + 1) with_new n)
             (theirs_left l.serial 0 zeros how x new reels_are failed survive_x n (cleared serial l.serial with_new n) apart (had_x n))
 
-        pub loss_release : (end : StoreFacts) → end.rack ≡ new → ForSome end.online.disc.held (λ blocks. Holds blocks (moved_by serial o)) → Losses end
+        pub loss_release : (end : StoreFacts) → end.rack ≡ new → LeavesOnDisc (λ blocks. Holds blocks (moved_by serial o)) (up_with o old None) end → Losses end
         loss_release end rack_is holds =
             LeavesReleasing holds (content_of plan so.written) its l.serial
             (subst (λ (r : Rack). (n : ℕ) → PowerLossLeavesEither n r (cleared serial l.serial with_new n) (cleared serial (l.serial + 1) with_new n)) (sym rack_is)

@@ -12,6 +12,7 @@ use Rattle.g_plain.specs.declared.faults.StoreFault.TheVariants.{NoCopy, NoMemor
 use Rattle.g_tree.specs.Records.{full_of}
 use Rattle.g_disc_contents.specs.Commits.{Commits}
 use Rattle.g_disc_contents.specs.Contents.{File, Holds, with_intent}
+use Rattle.g_disc_contents.specs.Durable.{IsDurable, StopsSafely}
 use Rattle.g_disc_contents.specs.Facts.{IsTied, OnlineFacts}
 use Rattle.g_online.specs.declared.fault.OnlineFault.TheVariants as online
 use Rattle.g_online.specs.ReadyCopies.{IsAdopting, IsReadyFor}
@@ -114,12 +115,14 @@ pub record HasIntended (i : Intent) (o new : OnlineFacts) : Type 0 where
   pub writes : RoseBy blocks o.disc.writes new.disc.writes
   pub causes : Causes ⊥ ⊥ o.disc new.disc
   pub tied : IsTied new
+  pub durable : IsDurable o → IsDurable new
 
 -- The commit of the intent was stopped.
 pub record StoppedIntending (i : Intent) (o new : OnlineFacts) : Type 0 where
   pub live : new.live ≡ false
   pub told : is_some new.disc.held ≡ is_some o.disc.held
   pub holds : ForSome new.disc.held (λ blocks. Holds blocks o.contents ⊎ Holds blocks (with_intent (Some i) o.contents))
+  pub survives : StopsSafely (λ left. Holds left o.contents ⊎ Holds left (with_intent (Some i) o.contents)) o new
   pub causes : Causes ⊥ (Unit {0}) o.disc new.disc
   pub tied : IsTied new
 
