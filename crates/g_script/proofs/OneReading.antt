@@ -1,5 +1,5 @@
 -- The lines of a script determine what it says.
--- serves: one_reading, crates above
+-- serves: one_reading, OnlyLemmas, crates above
 use Rattle.std.proofs.Common.{List, None, Option, Some, [], ap, arith, inl, inr, length, refl, subst, sym, ℕ, ◌++◌, ◌+◌, ◌∙◌, ◌∷◌, ◌≡◌, ◌≤◌, ◌⊎◌}
 use Rattle.std.proofs.lemmas.List.{append_assoc, length-append}
 use Rattle.g_script.proofs.ItemLemmas.{item_unique, nil_cons, none_between, nothing_behind, same_first, same_rest}
@@ -25,7 +25,7 @@ goes_on_before : (front more : List (List ℕ)) (line next : List ℕ) → GoesO
 goes_on_before front more line next (item, is, (others, e)) = (item, is, (more ++ next ∷ others, e ∙ append_assoc front (line ∷ more) (next ∷ others)))
 
 -- lines that begin with an item have no bad line there
-item_or_bad : (n : ℕ) (lines rest : List (List ℕ)) (item : WrittenItem) (k : ℕ) → IsItem item → lines ≡ item_lines item ++ rest → IsFirstBad n lines k ⊎ IsUnclosed n lines k → ⊥
+pub item_or_bad : (n : ℕ) (lines rest : List (List ℕ)) (item : WrittenItem) (k : ℕ) → IsItem item → lines ≡ item_lines item ++ rest → IsFirstBad n lines k ⊎ IsUnclosed n lines k → ⊥
 item_or_bad n lines rest item k is e (inl b) =
     elim (meet (item_lines item) rest b.front b.line b.behind (sym e ∙ b.all)) [
       | inl (more, on) ↦ b.bad (item, is, (more, on))
@@ -65,7 +65,7 @@ none_bad : (n : ℕ) (lines : List (List ℕ)) (k : ℕ) → lines ≡ [] → Is
 none_bad n lines k none (inl b) = none_between b.front b.behind b.line (sym none ∙ b.all)
 none_bad n lines k none (inr b) = b.some none
 
-none_stands : (lines rest : List (List ℕ)) (item : WrittenItem) → lines ≡ [] → lines ≡ item_lines item ++ rest → ⊥
+pub none_stands : (lines rest : List (List ℕ)) (item : WrittenItem) → lines ≡ [] → lines ≡ item_lines item ++ rest → ⊥
 none_stands lines rest item none e = nil_cons (head_line item) (behind_head item.what ++ rest) (sym none ∙ e)
 
 pub reading_unique : (n : ℕ) (lines : List (List ℕ)) (said other : List Timed) (bad other_bad : Option ℕ) → Say n lines said bad → Say n lines other other_bad → (said ≡ other) × (bad ≡ other_bad)

@@ -10,4 +10,4 @@ mod read;
 
 pub use law::one_reading;
 pub use operator::{Operator, Script, Timed, Timeds};
-pub use parse::parse_script;
+pub use parse::{parse_item, parse_script};

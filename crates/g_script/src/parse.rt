@@ -1,10 +1,10 @@
-//! Parsing a script.
+//! Parsing a script, or one item of it.
 ghost use Rattle.std.specs.Prelude.{IfOk};
 ghost use Rattle.g_lines.specs.Lines.{lines_of};
-ghost use Rattle.g_script.specs.Script.{IsParsed};
+ghost use Rattle.g_script.specs.Script.{IsOneItem, IsParsed};
 
 use crate::read::{ItemRead, read_item};
-use crate::{Script, Timeds};
+use crate::{Script, Timed, Timeds};
 use g_base::NoMemory;
 use g_lines::Lines;
 use std::alloc::Global;
@@ -32,4 +32,25 @@ pub fn parse_script(alloc: Global, bytes: &[u8]) -> Result<Script, NoMemory>
         lines: said,
         bad: None,
     })
+}
+
+/// Parses a text that should be exactly one item; the last line may be missing its byte 10.
+#[tactic(auto, using(crate::proofs::OnlyLemmas::none_alone, crate::proofs::OnlyLemmas::bad_alone))]
+pub fn parse_item(alloc: Global, bytes: &[u8]) -> Result<Option<Timed>, NoMemory>
+    ensures { IfOk result (λ next. IsOneItem (lines_of bytes.now) next) }
+{
+    let mut lines = Lines::new(bytes);
+    let Some(line) = lines.next() else {
+        return Ok(None);
+    };
+    match read_item(alloc, line, &mut lines)? {
+        ItemRead::Taken(next, _count) => {
+            if lines.is_empty() {
+                Ok(Some(next))
+            } else {
+                Ok(None)
+            }
+        }
+        ItemRead::BadAt(_place) => Ok(None),
+    }
 }

@@ -9,9 +9,9 @@ use Rattle.std.specs.List.{AllByRecursion}
 use Rattle.g_lines.specs.Documents.{IsOneLine}
 use Rattle.g_lines.specs.Lines.{ended, lines_of, text_of}
 use Rattle.g_script.proofs.ItemLemmas.{item_unique}
-use Rattle.g_script.specs.Script.{Bare, IsDocumentLine, IsItem, IsPrinted, IsWrittenOperator, Job, WrittenItem, WrittenOperator, behind_head, head_line, item_lines, timed_said, written_text}
+use Rattle.g_script.specs.Script.{Bare, IsDocumentLine, IsItem, IsOneItem, IsPrinted, IsWrittenOperator, Job, WrittenItem, WrittenOperator, behind_head, head_line, item_lines, timed_said, written_text}
 use Rattle.g_script.specs.declared.operator.Timed.{Timed}
-use Rattle.g_typing.specs.Reader.{Holds, HoldsAt, IsClosed, IsComplete, IsInDocument, IsOneItem, IsRefused, Replies, is_skipped, when_of}
+use Rattle.g_typing.specs.Reader.{Holds, HoldsAt, IsClosed, IsComplete, IsInDocument, IsRefused, Replies, is_skipped, when_of}
 use Rattle.g_typing.specs.declared.item.ItemReader.{ItemReader}
 use Rattle.g_typing.specs.declared.item.Place.{Place}
 use Rattle.g_typing.specs.declared.item.Place.TheVariants as place

@@ -7,9 +7,9 @@ use Rattle.std.proofs.lemmas.List.Elements.{All-append, All-cons, All-nil}
 use Rattle.g_lines.specs.Documents.{IsOneLine}
 use Rattle.g_lines.specs.Lines.{lines_of, text_of}
 use Rattle.g_lines.proofs.LineLemmas.{text-lines}
-use Rattle.g_script.specs.Script.{Bare, IsDocumentLine, IsItem, IsWrittenOperator, Job, WrittenItem, WrittenOperator, behind_head, head_line, item_lines, written_text}
+use Rattle.g_script.specs.Script.{Bare, IsDocumentLine, IsItem, IsOneItem, IsWrittenOperator, Job, WrittenItem, WrittenOperator, behind_head, head_line, item_lines, written_text}
 use Rattle.g_script.specs.declared.operator.Timed.{Timed}
-use Rattle.g_typing.specs.Reader.{IsBegun, IsComplete, IsHead, IsInDocument, IsOneItem, IsRefused, JobText, Replies, is_skipped}
+use Rattle.g_typing.specs.Reader.{IsBegun, IsComplete, IsHead, IsInDocument, IsRefused, JobText, Replies, is_skipped}
 use Rattle.g_typing.specs.declared.item.ItemReader.{ItemReader}
 use Rattle.g_typing.specs.declared.item.Place.{Place}
 use Rattle.g_typing.specs.declared.item.Place.TheVariants as place

@@ -4,7 +4,7 @@ use Rattle.std.specs.Fmt.{decimal}
 use Rattle.g_base.specs.declared.memory.NoMemory.{NoMemory}
 use Rattle.g_lines.specs.Documents.{IsOneLine}
 use Rattle.g_lines.specs.Lines.{lines_of, text_of}
-use Rattle.g_script.specs.Script.{IsItem, Job, WrittenItem, head_line, item_lines, timed_said, written_text}
+use Rattle.g_script.specs.Script.{IsItem, IsOneItem, Job, WrittenItem, head_line, item_lines, timed_said, written_text}
 use Rattle.g_script.specs.declared.operator.Timed.{Timed}
 use Rattle.g_typing.specs.Typed.{AtOnce, AtTime, BeginsDocument, CanFollow, IsQuery, IsShort, IsTyped, IsUnasked, IsUnfinished, When, first_of, type_text}
 use Rattle.g_typing.specs.declared.item.ItemReader.{ItemReader}
@@ -16,11 +16,6 @@ use Rattle.g_typing.specs.declared.item.Reply.TheVariants as reply
 abbrev pub when_of : Bool → When
 when_of true = AtTime
 when_of false = AtOnce
-
--- a text that is one item
-abbrev pub IsOneItem : List (List ℕ) → Option Timed → Type 0
-IsOneItem lines (Some next) = (item : WrittenItem) × IsItem item × (lines ≡ item_lines item) × (next ≡ timed_said item)
-IsOneItem lines None = (item : WrittenItem) → IsItem item → lines ≡ item_lines item → ⊥
 
 -- no time is written before what a line asks for
 abbrev pub HasNoTime : List ℕ → Type 0

@@ -4,14 +4,14 @@ ghost use Rattle.std.specs.Fmt.{decimal};
 ghost use Rattle.g_lines.specs.Documents.{IsOneLine};
 ghost use Rattle.g_lines.specs.Lines.{ended, lines_of};
 ghost use Rattle.g_script.specs.Script.{IsPrinted};
-ghost use Rattle.g_typing.specs.Reader.{HasNoTime, Holds, IsBegun, IsClosed, IsHead, IsInDocument, IsOneItem, IsOneOrNot, IsTime, JobText, Replies, asked_by};
+ghost use Rattle.g_typing.specs.Reader.{HasNoTime, Holds, IsBegun, IsClosed, IsHead, IsInDocument, IsOneOrNot, IsTime, JobText, Replies, asked_by};
 ghost use Rattle.g_typing.specs.Typed.{IsShort, IsUnasked};
 
 use crate::query::{Query, query_of};
 use g_base::NoMemory;
 use g_lines::{number, push_decimal, split_at_byte};
 use g_name::Text;
-use g_script::{Timed, parse_script};
+use g_script::{Timed, parse_item};
 use std::alloc::Global;
 
 /// The most bytes that a line may have.
@@ -147,7 +147,7 @@ impl ItemReader {
         if is_job {
             return self.begin_document(alloc, number);
         }
-        match one_item(alloc, self.text.as_slice())? {
+        match parse_item(alloc, self.text.as_slice())? {
             Some(next) => Ok(Reply::Item(next, head.timed)),
             None => Ok(Reply::Refused),
         }
@@ -190,7 +190,7 @@ impl ItemReader {
     {
         self.text.extend(b"****\n")?;
         self.place = Place::Start;
-        match one_item(alloc, self.text.as_slice())? {
+        match parse_item(alloc, self.text.as_slice())? {
             Some(next) => Ok(Reply::Item(next, self.timed)),
             None => Ok(Reply::Refused),
         }
@@ -331,25 +331,10 @@ fn is_job_line(alloc: Global, line: &[u8]) -> Result<bool, NoMemory>
 {
     let mut text = Text::from_slice(alloc, line)?;
     text.extend(b"****\n")?;
-    match one_item(alloc, text.as_slice())? {
+    match parse_item(alloc, text.as_slice())? {
         Some(_next) => Ok(true),
         None => Ok(false),
     }
-}
-
-/// The item that a text is, if it is exactly one.
-#[tactic(auto, using(crate::proofs::ParsedLemmas::bad_none, crate::proofs::ParsedLemmas::many_none, crate::proofs::ParsedLemmas::some_one))]
-fn one_item(alloc: Global, text: &[u8]) -> Result<Option<Timed>, NoMemory>
-    ensures { IfOk result (λ next. IsOneItem (lines_of text.now) next) }
-{
-    let script = parse_script(alloc, text)?;
-    if let Some(_line) = script.bad {
-        return Ok(None);
-    }
-    if script.lines.len() != 1 {
-        return Ok(None);
-    }
-    Ok(Vec::from(script.lines).pop())
 }
 
 /// Whether a line has at most 160 bytes, each from space to tilde.

@@ -1,7 +1,7 @@
 use Rattle.std.proofs.Common.{List, ℕ, ◌++◌, Option, Some, codes, ◌∙◌, ap, subst}
 use Rattle.g_lines.specs.Lines.{lines_of}
+use Rattle.g_script.specs.Script.{IsOneItem}
 use Rattle.g_script.specs.declared.operator.Timed.{Timed}
-use Rattle.g_typing.specs.Reader.{IsOneItem}
 use Rattle.g_typing.proofs.item.is_job_line.Goals as goal
 
 pub returns-in-Some : goal.returns-in-Some

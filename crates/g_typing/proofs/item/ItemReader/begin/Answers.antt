@@ -1,8 +1,8 @@
 use Rattle.std.proofs.Common.{List, ℕ, [], ◌≢◌, Option, Some, None, refl, sym, ◌∙◌, ap, subst, eq-eqb, arith, length, append-nil}
 use Rattle.std.proofs.lemmas.Bool.{false≢true}
 use Rattle.g_lines.specs.Lines.{lines_of}
+use Rattle.g_script.specs.Script.{IsOneItem}
 use Rattle.g_script.specs.declared.operator.Timed.{Timed}
-use Rattle.g_typing.specs.Reader.{IsOneItem}
 use Rattle.g_typing.specs.declared.item.ItemReader.{ItemReader}
 use Rattle.g_typing.specs.declared.item.Place.TheVariants as place
 use Rattle.g_typing.proofs.BeginLemmas.{begun_replies, one_line_done, one_line_refused, refused_replies, skips_by, too_long}

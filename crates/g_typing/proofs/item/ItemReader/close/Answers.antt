@@ -1,7 +1,7 @@
 use Rattle.std.proofs.Common.{List, ℕ, Option, Some, refl, ◌∙◌, subst}
 use Rattle.g_lines.specs.Lines.{lines_of}
+use Rattle.g_script.specs.Script.{IsOneItem}
 use Rattle.g_script.specs.declared.operator.Timed.{Timed}
-use Rattle.g_typing.specs.Reader.{IsOneItem}
 use Rattle.g_typing.proofs.AddLemmas.{document_closed, document_none}
 use Rattle.g_typing.proofs.item.ItemReader.close.Goals as goal
 
