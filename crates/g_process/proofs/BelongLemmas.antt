@@ -1,5 +1,5 @@
 -- Disc and rack still belong together, for any outcome of PROCESS.
--- serves: ExitLemmas, crates above
+-- serves: ExitLemmas, LossLemmas, crates above
 use Rattle.std.proofs.Common.{◌≡◌, ℕ, zero, suc, ◌+◌, ◌<◌, ◌≤◌, ◌==◌, Bool, true, false, List, [], ◌∷◌, ◌++◌, get_or, length, map, Option, Some, None, refl, sym, ◌∙◌, ap, arith, subst, inl, inr}
 use Rattle.std.specs.Prelude.{◌⊎◌, ◌||◌, All, Contains, IfSome, filter, is_some, nat_le}
 use Rattle.std.specs.Option.{ForSome}

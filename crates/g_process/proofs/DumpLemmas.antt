@@ -1,5 +1,5 @@
 -- The dump is complete on its reel, and is the only one there.
--- serves: AnswerLemmas, ExitLemmas, PinsLemmas, SafeLemmas, TextLemmas, WholeLemmas
+-- serves: AnswerLemmas, ExitLemmas, LossLemmas, PinsLemmas, SafeLemmas, TextLemmas, WholeLemmas
 use Rattle.std.proofs.Common.{◌≡◌, ℕ, zero, suc, ◌+◌, ◌<◌, ◌≤◌, List, [], ◌∷◌, drop, length, take, Some, refl, sym, ◌∙◌, ap, arith, inl, inr, slice_get}
 use Rattle.std.specs.Prelude.{All, Contains, get_or}
 use Rattle.std.proofs.lemmas.List.{length-drop, length-take, take_all}

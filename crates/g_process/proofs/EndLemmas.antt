@@ -1,5 +1,5 @@
 -- How far the releases came: which reels are below it, and what became of each.
--- serves: ExitLemmas, crates above
+-- serves: ExitLemmas, LossLemmas, crates above
 use Rattle.std.proofs.Common.{◌≡◌, ◌≢◌, ℕ, zero, suc, ◌+◌, ◌<◌, ◌≤◌, ◌==◌, Bool, true, false, List, [], ◌∷◌, length, map, take, Option, Some, None, sym, ◌∙◌, ap, arith, subst, inl, inr, slice_get}
 use Rattle.std.specs.Prelude.{◌⊎◌, ◌||◌, All, AllPairs, Contains, filter}
 use Rattle.std.specs.List.{AllZip}

@@ -1,5 +1,5 @@
 -- Disc and rack still belong together, wherever PROCESS ends.
--- serves: AnswerLemmas, crates above
+-- serves: AnswerLemmas, LossLemmas, crates above
 use Rattle.std.proofs.Common.{◌≡◌, ◌≢◌, ℕ, zero, suc, ◌+◌, ◌<◌, ◌≤◌, ◌==◌, Bool, true, false, List, [], ◌∷◌, ◌++◌, drop, get_or, length, map, take, Option, Some, None, refl, sym, ◌∙◌, ap, arith, subst, inl, inr, slice_get, if◌then◌else◌}
 use Rattle.std.specs.Prelude.{◌⊎◌, ◌&&◌, ◌||◌, All, Contains, is_some, nat_lt, not, option_map}
 use Rattle.std.specs.List.{AllZip}

@@ -1,5 +1,5 @@
 -- What a power loss leaves of the reels when PROCESS stops at a write of tape.
--- serves:
+-- serves: AnswerLemmas
 use Rattle.std.proofs.Common.{◌≡◌, ◌≢◌, ℕ, zero, suc, ◌+◌, ◌<◌, ◌≤◌, ◌==◌, Bool, true, false, List, [], ◌∷◌, ◌++◌, length, take, Option, Some, None, Ok, Err, refl, sym, ◌∙◌, ap, arith, subst, inl, inr, option_map, slice_get, if◌then◌else◌}
 use Rattle.std.specs.Prelude.{◌⊎◌, ◌&&◌, All, Contains, is_some, map, nat_lt, not}
 use Rattle.std.specs.Option.{ForSome}
