@@ -107,7 +107,7 @@ module _ (s : StoreFacts) (new : OnlineFacts) (after : Rack) (unspent : s.spent 
       let causes = causes_over (PutFile (version_of f.rec s.online.contents.head.next_stamp (f.rec.len + length bytes)) (put.text ++ bytes) put.take) s put.mid new after unspent store put.asked (Causes-for (λ no. no) (λ no. no) (λ one. tt) (λ one. refl) put.applied.causes) in
       subst (λ (b : Bool). Answers s who (Append path bytes) (Err Stopped) (record s { online = new; rack = after; spent = b })) (sym (ap not stopped.live))
       (stopped_answers s new after unspent store keeps who path bytes f wants put.text put.read put.asked.only (put.asked.kept (λ no. no)) (at_hand f put.text s.rack after put.read) put.take put.room put.plan put.fits
-      version put.applied.tied causes.size (put.applied.told ∙ ap is_some put.asked.disc.held) stopped causes)
+      version (record { tied = put.applied.tied; size = causes.size; tells = put.applied.told ∙ ap is_some put.asked.disc.held; stopped = stopped; causes = causes }))
   by_answer (Err NoMemory) p = starved s unspent store keeps who path bytes f wants new after p
   by_answer (Err (WaitTape serial)) (asked, (c, away, same, isnt)) = waits_answer s unspent store keeps who path bytes f wants new after serial asked c away same isnt
   by_answer (Err TapeReadFault) (asked, (c, away, on)) = unread_answer s unspent store keeps who path bytes f wants new after asked c away on

@@ -31,7 +31,7 @@ use Rattle.g_disc_contents.specs.Facts.{IsTied, OnlineFacts}
 use Rattle.g_incr.specs.Layout.{Dump}
 use Rattle.g_store_model.specs.State.{Holding, Place, State}
 use Rattle.g_store_model.specs.CallStep.{Plain, is_offline, len_of, place_of, version_read}
-use Rattle.g_store_meaning.specs.Answers.{Answers, Belongs, From, IsStore, ReadCopy, Steps, Told}
+use Rattle.g_store_meaning.specs.Answers.{Answers, Belongs, From, IsAnswered, IsStore, ReadCopy, Steps, Told}
 use Rattle.g_store_meaning.specs.Meaning.{IsContent, told_reels}
 use Rattle.g_store_meaning.specs.Reading.{AllTold, HasText, IsView, ReelsTold, StandsForState, View, state_up}
 use Rattle.g_store_meaning.specs.StoreInvariant.{StoreFacts}
@@ -53,6 +53,7 @@ use Rattle.g_store_calls.proofs.AheadLemmas.{Ahead, ahead_stands}
 use Rattle.g_store_calls.proofs.AppendLemmas.{going, granted_here, long_here, named_here, need_here, offline_here}
 use Rattle.g_store_calls.proofs.AskedLemmas.{Met, met, no_bytes, prepared}
 use Rattle.g_store_calls.proofs.QuietLemmas.{online_is, read_online}
+use Rattle.g_store_calls.proofs.SurvivalLemmas.{IsStoppedAt, stays_durable, stop_survives}
 use Rattle.g_store_calls.proofs.VersionLemmas.{IsMet, belongs_done, belongs_stopped, leads_done, leads_stopped, store_done}
 use Rattle.g_store_calls.proofs.WantLemmas.{Wants, len_in, place_in, row_in}
 use Rattle.g_plain.specs.declared.faults.StoreFault.{StoreFault}
@@ -271,6 +272,7 @@ module _ (s : StoreFacts) (new : OnlineFacts) (after : Rack) (unspent : s.spent 
       no_copy = λ told was name serial is. let no : ⊥ = cc in no;
       dump = λ isnt. refl;
       spent = (λ is. absurd (false≢true is), λ is. absurd (let no : ⊥ = cc in no));
+      survives = stays_durable (IsAnswered s who call (Ok (Appended full))) s made refl done.durable;
     }
 
   -- STOPPED
@@ -278,24 +280,43 @@ module _ (s : StoreFacts) (new : OnlineFacts) (after : Rack) (unspent : s.spent 
     abbrev spent : StoreFacts
     spent = record s { online = new; rack = after; spent = true }
 
-    pub stopped_answers : Answers s who call (Err Stopped) spent
-    stopped_answers = record {
+    pub answered_stopped : IsAnswered s who call (Err Stopped) spent
+    answered_stopped = record {
       step = λ belongs u here.
           from_met belongs u here (Err Stopped) spent
           (leads_stopped s new full whole rec take room unspent store keeps tied size tells version (sym long) roomy belongs (up belongs u here) (ahead belongs u here) who call (is_met belongs u here)
           (makes belongs u here) refl stopped causes after only);
-      cause = record {
-        disc = Causes-for (λ no. absurd no) (λ is. let no : ⊥ = cc in no) (λ one. refl) (λ is. tt) causes;
-        tapes = only;
-        tape_read = λ is. absurd (let no : ⊥ = cc in no);
-        tape_read_only = λ isnt. kept;
-        writes = λ fault is other. absurd (other (let same : fault ≡ Stopped = cc in same));
-      };
-      keeps = record { tied = tied; live = λ no. absurd (true≢false no); open_dump = λ no. absurd (true≢false no); pins = λ no none. absurd (true≢false no) };
-      told = told_then s new after only tells;
       belongs = λ told was. belongs_spent s new after only (belongs_stopped s new full whole rec take room unspent store keeps tied size tells version (sym long) roomy stopped was);
-      lost = λ name serial is. absurd (let no : ⊥ = cc in no);
-      no_copy = λ told was name serial is. let no : ⊥ = cc in no;
-      dump = λ isnt. absurd (isnt refl);
-      spent = (λ is. refl, λ is. refl);
     }
+
+-- STOPPED, with any disc that the failed write may have left
+module _ (s : StoreFacts) (new : OnlineFacts) (after : Rack) (unspent : s.spent ≡ false) (store : IsStore s) (keeps : KeepsPlan s.dump) (who : List ℕ) (path : Path) (bytes : List ℕ) (f : File)
+    (wants : Wants s.online who (Append path bytes) f) (text : List ℕ) (read : IsOldText f text s.rack after) (only : OnlyReads s.rack after) (kept : after.read_faults ≡ s.rack.read_faults)
+    (hand : IsAtHand f s.rack) (take : List ℕ) (room : ℕ) (plan : IsUnjamPlan (blocks_for (f.rec.len + length bytes)) s.online take room) (fits : blocks_for (f.rec.len + length bytes) ≤ room)
+    (version : IsVersionOf s.online (full_of s.online.contents.users f.rec) (version_of f.rec s.online.contents.head.next_stamp (f.rec.len + length bytes)))
+    (at : IsStoppedAt (PutFile (version_of f.rec s.online.contents.head.next_stamp (f.rec.len + length bytes)) (text ++ bytes) take) s.online new) where
+  stopped_is : (x : OnlineFacts) → IsStoppedAt (PutFile (version_of f.rec s.online.contents.head.next_stamp (f.rec.len + length bytes)) (text ++ bytes) take) s.online x
+      → IsAnswered s who (Append path bytes) (Err Stopped) (record s { online = x; rack = after; spent = true })
+  stopped_is x a = answered_stopped s x after unspent store keeps who path bytes f wants text read only kept hand take room plan fits version a.tied a.size a.tells a.stopped a.causes
+
+  pub stopped_answers : Answers s who (Append path bytes) (Err Stopped) (record s { online = new; rack = after; spent = true })
+  stopped_answers =
+      let is_now = stopped_is new at in record {
+        step = is_now.step;
+        cause = record {
+          disc = Causes-for (λ no. absurd no) (λ is. let no : ⊥ = cc in no) (λ one. refl) (λ is. tt) at.causes;
+          tapes = only;
+          tape_read = λ is. absurd (let no : ⊥ = cc in no);
+          tape_read_only = λ isnt. kept;
+          writes = λ fault is other. absurd (other (let same : fault ≡ Stopped = cc in same));
+        };
+        keeps = record { tied = at.tied; live = λ no. absurd (true≢false no); open_dump = λ no. absurd (true≢false no); pins = λ no none. absurd (true≢false no) };
+        told = told_then s new after only at.tells;
+        belongs = is_now.belongs;
+        lost = λ name serial is. absurd (let no : ⊥ = cc in no);
+        no_copy = λ told was name serial is. let no : ⊥ = cc in no;
+        dump = λ isnt. absurd (isnt refl);
+        spent = (λ is. refl, λ is. refl);
+        survives = stop_survives (IsAnswered s who (Append path bytes) (Err Stopped))
+            (PutFile (version_of f.rec s.online.contents.head.next_stamp (f.rec.len + length bytes)) (text ++ bytes) take) s (record s { online = new; rack = after; spent = true }) refl at stopped_is;
+      }

@@ -32,7 +32,7 @@ use Rattle.g_online.proofs.OffRuleLemmas.{rec_off}
 use Rattle.g_incr.specs.Layout.{Dump}
 use Rattle.g_store_model.specs.State.{Holding, OpenDump, State}
 use Rattle.g_store_model.specs.CallStep.{Cut, LeftByRefusal, Plain, after_call, after_unjam, brings, brings_now, down, is_offline, kept_intent, len_of, need, room_until, version_read, writes}
-use Rattle.g_store_meaning.specs.Answers.{Answers, AreCommits, Belongs, Did, From, IsStore, Leads, ReadCopy, Steps, Told}
+use Rattle.g_store_meaning.specs.Answers.{Answers, AreCommits, Belongs, Did, From, IsAnswered, IsStore, Leads, ReadCopy, Steps, Told}
 use Rattle.g_store_meaning.specs.Meaning.{IsContent, told_reels}
 use Rattle.g_store_meaning.specs.Reading.{AllTold, DevicesStandFor, HasText, IsOpenView, IsRackView, IsView, StandsForState, View, holding_of, names_of, open_of, row_of, state_down, state_up, tree_by}
 use Rattle.g_store_meaning.specs.StoreInvariant.{DumpFacts, StoreFacts}
@@ -47,12 +47,14 @@ use Rattle.g_laws_store.proofs.RoomLemmas.{files_apart}
 use Rattle.g_laws_store.proofs.UnjamLemmas.{numbers_apart, unjam_is}
 use Rattle.g_retrieve.specs.Retrieval.{HasCopied, IsOnTape}
 use Rattle.g_retrieve.specs.Invariant.{KeepsDevices}
+use Rattle.g_retrieve.proofs.KeepsLemmas.{keeps_stopped}
 use Rattle.g_retrieve.proofs.HeldLemmas.{copied_one}
 use Rattle.g_store_calls.specs.Answering.{KeepsPlan, with_devices}
 use Rattle.g_store_calls.proofs.AddLemmas.{or_false}
 use Rattle.g_store_calls.proofs.AskedLemmas.{Met, met, no_bytes, prepared, texts_off}
 use Rattle.g_store_calls.proofs.BackLemmas.{step_back, step_cut}
 use Rattle.g_store_calls.proofs.SeenLemmas.{Seen, stands}
+use Rattle.g_store_calls.proofs.SurvivalLemmas.{IsStoppedAt, stays_durable, stop_survives}
 use Rattle.g_store_calls.proofs.TapeLemmas.{are_here, brings_here, len_here, mounted_here, need_here, off_here, over_itself, plan_here, replanned, room_here, unjam_here}
 use Rattle.g_store_calls.proofs.WantLemmas.{Wants, granted_in, place_in, reads_is}
 use Rattle.g_plain.specs.declared.faults.StoreFault.{StoreFault}
@@ -390,6 +392,7 @@ module _ (s : StoreFacts) (new : OnlineFacts) (after : Rack) (who : List ℕ) (c
       no_copy = λ t was full serial is_err. let no : ⊥ = cc in no;
       dump = λ isnt. refl;
       spent = (λ then_is. absurd (false≢true (sym (ap not done.live) ∙ then_is)), λ is_err. absurd (let no : ⊥ = cc in no));
+      survives = stays_durable (IsAnswered s who call (Ok (reply text))) s then_ (ap not done.live) done.durable;
     }
 
   -- STOPPED
@@ -453,21 +456,54 @@ module _ (s : StoreFacts) (new : OnlineFacts) (after : Rack) (who : List ℕ) (c
         let (blocks, held_is) = some_of new.disc.held (is.tells ∙ told.disc) in
         leads_one belongs m.asks.view m.asks.is m.asks.known m.text_is blocks held_is (stopped.holds blocks held_is).one)
 
-    pub stopped_then : Answers s who call (Err Stopped) then_
-    stopped_then = record {
-      step = from_stopped;
-      cause = record {
-        disc = Causes-for (λ no. absurd no) (λ is_err. let no : ⊥ = cc in no) (λ one. refl) (λ is_err. tt) causes;
-        tapes = is.only;
-        tape_read = λ is_err. absurd (let no : ⊥ = cc in no);
-        tape_read_only = λ isnt. is.read_kept;
-        writes = λ fault is_err other. absurd (other (let same : fault ≡ Stopped = cc in same));
-      };
-      keeps = is.keeps.store s (over_itself s is.unspent) is.store;
-      told = is.keeps.told s (over_itself s is.unspent);
-      belongs = λ t was. is.keeps.belongs s (over_itself s is.unspent) is.store t was;
-      lost = λ full serial is_err. absurd (let no : ⊥ = cc in no);
-      no_copy = λ t was full serial is_err. let no : ⊥ = cc in no;
-      dump = λ isnt. absurd (isnt refl);
-      spent = (λ then_is. refl, λ is_err. ap not stopped.live);
-    }
+    pub answered_stopped : IsAnswered s who call (Err Stopped) then_
+    answered_stopped = record { step = from_stopped; belongs = λ t was. is.keeps.belongs s (over_itself s is.unspent) is.store t was }
+
+-- STOPPED, with any disc that the failed write may have left
+module _ (s : StoreFacts) (new : OnlineFacts) (after : Rack) (who : List ℕ) (call : StoreCall) (f : File) (c : TapeCopy) (text : List ℕ) (plan : Unjam) (is : Brings s new after who call f c text plan)
+    (stopped : HasStopped (Bring f.rec.number text plan.take) s.online new) (causes : Causes ⊥ (Unit {0}) s.online.disc new.disc) where
+  stopped_brings : (x : OnlineFacts) → IsStoppedAt (Bring f.rec.number text plan.take) s.online x → Brings s x after who call f c text plan
+  stopped_brings x at = record {
+    unspent = is.unspent;
+    store = is.store;
+    kept_plan = is.kept_plan;
+    wants = is.wants;
+    away = is.away;
+    brings_it = is.brings_it;
+    copied = is.copied;
+    only = is.only;
+    read_kept = is.read_kept;
+    planned = is.planned;
+    fits = is.fits;
+    size = at.size;
+    tells = at.tells;
+    keeps = keeps_stopped s.online x s.rack after f.rec.number f c text plan.take (is.store.live is.unspent) is.store.tied is.away is.copied is.only at.tied at.tells at.stopped;
+  }
+
+  stopped_is : (x : OnlineFacts) → IsStoppedAt (Bring f.rec.number text plan.take) s.online x → IsAnswered s who call (Err Stopped) (record s { online = x; rack = after; spent = not new.live })
+  stopped_is x at =
+      subst (λ (b : Bool). IsAnswered s who call (Err Stopped) (record s { online = x; rack = after; spent = not b })) (at.stopped.live ∙ sym stopped.live)
+      (answered_stopped s x after who call f c text plan (stopped_brings x at) at.stopped at.causes)
+
+  pub stopped_then : Answers s who call (Err Stopped) (with_devices new after s)
+  stopped_then =
+      let store_then = is.keeps.store s (over_itself s is.unspent) is.store in
+      let at : IsStoppedAt (Bring f.rec.number text plan.take) s.online new = record { tied = store_then.tied; size = is.size; tells = is.tells; stopped = stopped; causes = causes } in
+      let is_now = stopped_is new at in record {
+        step = is_now.step;
+        cause = record {
+          disc = Causes-for (λ no. absurd no) (λ is_err. let no : ⊥ = cc in no) (λ one. refl) (λ is_err. tt) causes;
+          tapes = is.only;
+          tape_read = λ is_err. absurd (let no : ⊥ = cc in no);
+          tape_read_only = λ isnt. is.read_kept;
+          writes = λ fault is_err other. absurd (other (let same : fault ≡ Stopped = cc in same));
+        };
+        keeps = store_then;
+        told = is.keeps.told s (over_itself s is.unspent);
+        belongs = is_now.belongs;
+        lost = λ full serial is_err. absurd (let no : ⊥ = cc in no);
+        no_copy = λ t was full serial is_err. let no : ⊥ = cc in no;
+        dump = λ isnt. absurd (isnt refl);
+        spent = (λ then_is. refl, λ is_err. ap not stopped.live);
+        survives = stop_survives (IsAnswered s who call (Err Stopped)) (Bring f.rec.number text plan.take) s (with_devices new after s) (ap not stopped.live) at stopped_is;
+      }

@@ -21,7 +21,7 @@ use Rattle.g_disc_contents.specs.Contents.{Contents, File, recs_in}
 use Rattle.g_disc_contents.specs.Facts.{OnlineFacts}
 use Rattle.g_store_model.specs.State.{Holding, State, is_mounted}
 use Rattle.g_store_model.specs.CallStep.{CallStep, Plain, IsUnjam, after_call, is_offline, need, reel_of, writes}
-use Rattle.g_store_meaning.specs.Answers.{Answers, Did, IsStore, Leads, Steps}
+use Rattle.g_store_meaning.specs.Answers.{Answers, Did, IsAnswered, IsStore, Leads, Steps}
 use Rattle.g_store_meaning.specs.Meaning.{told_reels}
 use Rattle.g_store_meaning.specs.Reading.{AllTold, HasText, IsView, StandsForState, View, state_up}
 use Rattle.g_store_meaning.specs.StoreInvariant.{StoreFacts}
@@ -31,6 +31,7 @@ use Rattle.g_store_calls.specs.Answering.{AnswersIn}
 use Rattle.g_store_calls.specs.Replies.{RefusesAs}
 use Rattle.g_store_calls.proofs.SeenLemmas.{seen}
 use Rattle.g_store_calls.proofs.StepLemmas.{here_early, no_late, none_lacks, step_early, step_made}
+use Rattle.g_store_calls.proofs.SurvivalLemmas.{stays_durable}
 
 -- THE FAULTS OF THE PLAIN STEP concern neither devices nor memory
 abbrev pub IsPlain : StoreFault → Type 0
@@ -113,6 +114,7 @@ module _ (s : StoreFacts) (who : List ℕ) (call : StoreCall) (answer : Result S
     no_copy = λ t b full serial is. other (NoCopy full serial) (λ n. n) is;
     dump = λ isnt. refl;
     spent = (λ is. absurd (false≢true (sym unspent ∙ is)), λ is. absurd (other Stopped (λ n. n) is));
+    survives = stays_durable (IsAnswered s who call answer) s s unspent (λ durable. durable);
   }
 
 -- the same store, with its own filestore

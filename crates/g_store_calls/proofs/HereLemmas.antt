@@ -18,7 +18,7 @@ use Rattle.g_disc_contents.specs.Contents.{File, recs_in}
 use Rattle.g_disc_contents.specs.Facts.{IsTied, OnlineFacts}
 use Rattle.g_store_model.specs.State.{Holding, State}
 use Rattle.g_store_model.specs.CallStep.{CallStep, DiscRead, Plain, brings, brings_now, is_offline, len_of, need, new_blocks, version_read, wants_bytes, writes}
-use Rattle.g_store_meaning.specs.Answers.{Answers, Belongs, Did, IsStore, Leads, Told}
+use Rattle.g_store_meaning.specs.Answers.{Answers, Belongs, Did, IsAnswered, IsStore, Leads, Told}
 use Rattle.g_store_meaning.specs.Meaning.{told_reels}
 use Rattle.g_store_meaning.specs.Reading.{HasText, IsOpenView, IsView, StandsForState, View, state_up}
 use Rattle.g_store_meaning.specs.StoreInvariant.{StoreFacts}
@@ -31,6 +31,7 @@ use Rattle.g_store_calls.proofs.AskedLemmas.{has_bytes, met}
 use Rattle.g_store_calls.proofs.BackLemmas.{step_unread_disc}
 use Rattle.g_store_calls.proofs.CalmLemmas.{step_done}
 use Rattle.g_store_calls.proofs.SeenLemmas.{Seen, seen, stands}
+use Rattle.g_store_calls.proofs.SurvivalLemmas.{stays_durable}
 use Rattle.g_store_calls.proofs.TapeLemmas.{read_answers, stays}
 use Rattle.g_store_calls.proofs.WantLemmas.{Wants, granted_in, len_in, offline_in}
 use Rattle.g_laws_store.proofs.TiedLemmas.{moved}
@@ -198,4 +199,5 @@ module _ (s : StoreFacts) (who : List ℕ) (call : StoreCall) (f : File) (unspen
       no_copy = λ t was full serial is. let no : ⊥ = cc in no;
       dump = λ isnt. refl;
       spent = (λ is. absurd (false≢true (sym (ap not (store.live unspent)) ∙ is)), λ is. absurd (let no : ⊥ = cc in no));
+      survives = stays_durable (IsAnswered s who call (Err DiscReadFault)) s failed (ap not (store.live unspent)) (λ durable. durable);
     }

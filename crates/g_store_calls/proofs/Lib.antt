@@ -30,6 +30,7 @@ pub mod RoomyLemmas
 pub mod SeenLemmas
 pub mod SetLemmas
 pub mod StepLemmas
+pub mod SurvivalLemmas
 pub mod TapeLemmas
 pub mod TellLemmas
 pub mod TrapLemmas

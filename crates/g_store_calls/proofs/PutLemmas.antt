@@ -27,7 +27,8 @@ use Rattle.g_tree.proofs.RecordLemmas.{file_there, newest_few, newest_is}
 use Rattle.g_tree.proofs.RuleLemmas.{count_files}
 use Rattle.g_disc_contents.specs.Contents.{recs_in}
 use Rattle.g_disc_contents.specs.Facts.{IsTied, OnlineFacts}
-use Rattle.g_store_meaning.specs.Answers.{Answers, Belongs, From, IsStore, Steps, Told}
+use Rattle.g_online.specs.declared.change.Change.TheVariants.{PutFile}
+use Rattle.g_store_meaning.specs.Answers.{Answers, Belongs, From, IsAnswered, IsStore, Steps, Told}
 use Rattle.g_store_meaning.specs.Meaning.{told_reels}
 use Rattle.g_store_meaning.specs.Reading.{AllTold, IsView, View, StandsForState}
 use Rattle.g_store_meaning.specs.StoreInvariant.{StoreFacts}
@@ -40,10 +41,11 @@ use Rattle.g_store_calls.specs.AppliedChange.{answer_with}
 use Rattle.g_store_calls.specs.GrantedCalls.{GrantsOne}
 use Rattle.g_store_calls.specs.Kinds.{IsSettled}
 use Rattle.g_store_calls.specs.Replies.{RefusesAs}
-use Rattle.g_store_calls.specs.Versions.{HasMade, HasPut, HasStoppedPut, IsFull, IsNext}
+use Rattle.g_store_calls.specs.Versions.{HasMade, HasPut, HasRoom, HasStoppedPut, IsFull, IsNext}
 use Rattle.g_store_calls.proofs.AheadLemmas.{Before, ahead_stands, before_of}
 use Rattle.g_store_calls.proofs.CalmLemmas.{calmly, same_store, texts_fit}
 use Rattle.g_store_calls.proofs.GrantedLemmas.{output_called, output_none, output_there}
+use Rattle.g_store_calls.proofs.SurvivalLemmas.{IsStoppedAt, stays_durable, stop_survives}
 use Rattle.g_store_calls.proofs.TellLemmas.{AreOff, granted_off, not_not, user_any, user_missing, below_of, most_of}
 use Rattle.g_store_calls.proofs.VersionLemmas.{IsMet, belongs_done, belongs_stopped, leads_done, leads_full, leads_stopped, store_done}
 use Rattle.g_store_model.specs.State.{State}
@@ -161,6 +163,17 @@ module _ (s : StoreFacts) (new : OnlineFacts) (who : List ℕ) (path : Path) (by
       let b = before_of s u unspent store belong here in
       record { before = b.before; stands = ahead_stands s b.before unspent b.ahead; told = b.told; steps = steps b }
 
+  -- stopped, with any disc that the failed write may have left
+  stopped_is : (take : List ℕ) (room : ℕ) → HasRoom (blocks_for (length bytes)) s.online take room → (x : OnlineFacts) → IsStoppedAt (PutFile r bytes take) s.online x
+      → IsAnswered s who (Put path bytes) (Err Stopped) (record s { online = x; spent = true })
+  stopped_is take room roomy x at = record {
+    step = λ belong u here.
+        from_before (Err Stopped) (record s { online = x; spent = true }) belong u here (λ (b : Before s u).
+        leads_stopped s x full bytes r take room unspent store keeps at.tied at.size at.tells is.version is.len roomy belong b.before b.ahead who (Put path bytes)
+        (met b.ahead.view b.ahead.is) (makes b.ahead.view) refl at.stopped at.causes s.rack (nothing_read s.rack));
+    belongs = λ all was. belongs_stopped s x full bytes r take room unspent store keeps at.tied at.size at.tells is.version is.len roomy at.stopped was;
+  }
+
   module _ (tied : IsTied new) (tells : is_some new.disc.held ≡ is_some s.online.disc.held) where
     told_on : Told s → AllTold new.disc.held (told_reels s.rack)
     told_on all = record { disc = tells ∙ all.disc; each = all.each }
@@ -185,29 +198,31 @@ module _ (s : StoreFacts) (new : OnlineFacts) (who : List ℕ) (path : Path) (by
       no_copy = λ all was name serial is_err. let no : ⊥ = cc in no;
       dump = λ isnt. refl;
       spent = (λ then_. absurd (false≢true then_), λ is_err. absurd (let no : ⊥ = cc in no));
+      survives = stays_durable (IsAnswered s who (Put path bytes) (Ok (Made full))) s (record s { online = new; spent = false }) refl p.done.durable;
     }
 
     stopped_answers : HasStoppedPut r bytes s.online new → Answers s who (Put path bytes) (Err Stopped) (record s { online = new; spent = true })
-    stopped_answers p = record {
-      step = λ belong u here.
-          from_before (Err Stopped) (record s { online = new; spent = true }) belong u here (λ (b : Before s u).
-          leads_stopped s new full bytes r p.take p.room unspent store keeps tied p.causes.size tells is.version is.len p.roomy belong b.before b.ahead who (Put path bytes)
-          (met b.ahead.view b.ahead.is) (makes b.ahead.view) refl p.stopped p.causes s.rack (nothing_read s.rack));
-      cause = record {
-        disc = Causes-for (λ no. absurd no) (λ is_err. let no : ⊥ = cc in no) (λ one. refl) (λ is_err. tt) p.causes;
-        tapes = nothing_read s.rack;
-        tape_read = λ is_err. absurd (let no : ⊥ = cc in no);
-        tape_read_only = λ isnt. refl;
-        writes = λ fault is_err other. absurd (other (let same : fault ≡ Stopped = cc in same));
-      };
-      keeps = record { tied = tied; live = λ no. absurd (false≢true (sym no)); open_dump = λ no. absurd (false≢true (sym no)); pins = λ no none. absurd (false≢true (sym no)) };
-      told = told_on;
-      belongs = λ all was. belongs_stopped s new full bytes r p.take p.room unspent store keeps tied p.causes.size tells is.version is.len p.roomy p.stopped was;
-      lost = λ name serial is_err. absurd (let no : ⊥ = cc in no);
-      no_copy = λ all was name serial is_err. let no : ⊥ = cc in no;
-      dump = λ isnt. absurd (isnt refl);
-      spent = (λ then_. refl, λ is_err. refl);
-    }
+    stopped_answers p =
+        let at : IsStoppedAt (PutFile r bytes p.take) s.online new = record { tied = tied; size = p.causes.size; tells = tells; stopped = p.stopped; causes = p.causes } in
+        let is_now = stopped_is p.take p.room p.roomy new at in record {
+          step = is_now.step;
+          cause = record {
+            disc = Causes-for (λ no. absurd no) (λ is_err. let no : ⊥ = cc in no) (λ one. refl) (λ is_err. tt) p.causes;
+            tapes = nothing_read s.rack;
+            tape_read = λ is_err. absurd (let no : ⊥ = cc in no);
+            tape_read_only = λ isnt. refl;
+            writes = λ fault is_err other. absurd (other (let same : fault ≡ Stopped = cc in same));
+          };
+          keeps = record { tied = tied; live = λ no. absurd (false≢true (sym no)); open_dump = λ no. absurd (false≢true (sym no)); pins = λ no none. absurd (false≢true (sym no)) };
+          told = told_on;
+          belongs = is_now.belongs;
+          lost = λ name serial is_err. absurd (let no : ⊥ = cc in no);
+          no_copy = λ all was name serial is_err. let no : ⊥ = cc in no;
+          dump = λ isnt. absurd (isnt refl);
+          spent = (λ then_. refl, λ is_err. refl);
+          survives = stop_survives (IsAnswered s who (Put path bytes) (Err Stopped)) (PutFile r bytes p.take) s (record s { online = new; spent = true }) refl at
+              (stopped_is p.take p.room p.roomy);
+        }
 
     -- nothing has changed
     same_answers : (fault : StoreFault) → new ≡ s.online → Answers s who (Put path bytes) (Err fault) s → Answers s who (Put path bytes) (Err fault) (with_online new s)

@@ -16,7 +16,7 @@ use Rattle.g_plain.specs.declared.faults.StoreFault.TheVariants.{DiscReadFault, 
 use Rattle.g_disc_contents.specs.Facts.{IsTied, OnlineFacts}
 use Rattle.g_store_model.specs.State.{State}
 use Rattle.g_store_model.specs.CallStep.{CallStep, Outcome}
-use Rattle.g_store_meaning.specs.Answers.{Answers, Belongs, Did, IsLostCopy, IsStore, Leads, Raised, Steps, Told}
+use Rattle.g_store_meaning.specs.Answers.{Answers, Belongs, Did, IsAnswered, IsLostCopy, IsStore, Leads, Raised, Steps, Told}
 use Rattle.g_store_meaning.specs.Meaning.{told_reels}
 use Rattle.g_store_meaning.specs.Reading.{IsOpenView, IsView, ReelsTold, StandsForState, View, state_up}
 use Rattle.g_store_meaning.specs.StoreInvariant.{IsUp, StoreFacts}
@@ -27,6 +27,7 @@ use Rattle.g_retrieve.proofs.KeepsLemmas.{keeps_same}
 use Rattle.g_store_calls.specs.Answering.{with_devices}
 use Rattle.g_store_calls.specs.Asking.{HasAsked}
 use Rattle.g_store_calls.proofs.SeenLemmas.{Seen, seen, stands}
+use Rattle.g_store_calls.proofs.SurvivalLemmas.{stays_durable}
 use Rattle.g_laws_store.proofs.TiedLemmas.{moved}
 
 module _ (s : StoreFacts) (new : OnlineFacts) (after : Rack) (disc_fault tape_fault : Type 0) (unspent : s.spent ≡ false) (store : IsStore s)
@@ -174,4 +175,5 @@ quietly s new after who call answer unspent store asked going steps lost never =
       no_copy = never;
       dump = λ isnt. refl;
       spent = (λ is. absurd (false≢true is), λ is. absurd (going is));
+      survives = stays_durable (IsAnswered s who call answer) s (read_store s new after d t unspent store asked) refl (λ durable. durable);
     })

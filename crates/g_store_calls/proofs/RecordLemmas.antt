@@ -25,7 +25,7 @@ use Rattle.g_online.specs.Outcomes.{HasChanged, HasStopped, commits_of}
 use Rattle.g_incr.specs.Layout.{Dump}
 use Rattle.g_store_model.specs.State.{Holding, State, is_candidate, is_taken, place_at}
 use Rattle.g_store_model.specs.CallStep.{CallStep, Cut, IsUnjam, LeftByRefusal, Plain, after_call, brings_now, down, is_offline, need, writes}
-use Rattle.g_store_meaning.specs.Answers.{Answers, Belongs, Did, IsStore, Leads, Told}
+use Rattle.g_store_meaning.specs.Answers.{Answers, Belongs, Did, IsAnswered, IsStore, Leads, Told}
 use Rattle.g_store_meaning.specs.Belonging.{DiscBelongs}
 use Rattle.g_store_meaning.specs.Laws.{IsQuiet}
 use Rattle.g_store_meaning.specs.Meaning.{told_reels}
@@ -46,6 +46,7 @@ use Rattle.g_store_calls.specs.Replies.{RefusesAs}
 use Rattle.g_store_calls.proofs.CalmLemmas.{calmly, nothing_unjammed, same_store, step_done, texts_fit}
 use Rattle.g_store_calls.proofs.SeenLemmas.{Seen, seen, stands}
 use Rattle.g_store_calls.proofs.StepLemmas.{here_early, late_stops, none_lacks, step_late}
+use Rattle.g_store_calls.proofs.SurvivalLemmas.{IsStoppedAt, stays_durable, stop_survives}
 use Rattle.g_store_calls.proofs.KindLemmas.{RepliesAs}
 use Rattle.g_entry.specs.declared.file_rec.FileRec.{FileRec}
 use Rattle.g_entry.specs.declared.user_rec.UserRec.{UserRec}
@@ -303,6 +304,7 @@ module _ (s : StoreFacts) (new : OnlineFacts) (who : List ℕ) (call : StoreCall
       no_copy = λ t was full serial is_err. let no : ⊥ = cc in no;
       dump = λ isnt. refl;
       spent = (λ then_. absurd (false≢true then_), λ is_err. absurd (let no : ⊥ = cc in no));
+      survives = stays_durable (IsAnswered s who call (Ok reply)) s after refl done.durable;
     }
 
   -- STOPPED
@@ -392,24 +394,38 @@ module _ (s : StoreFacts) (new : OnlineFacts) (who : List ℕ) (call : StoreCall
           up = λ no. absurd (true≢false no);
         }
 
-    pub stopped_answers : Answers s who call (Err Stopped) spent
-    stopped_answers = record {
+    pub answered_stopped : IsAnswered s who call (Err Stopped) spent
+    answered_stopped = record {
       step = λ belong u here. record { before = u; stands = here; told = λ t. refl; steps = leads_stopped u here };
-      cause = record {
-        disc = Causes-for (λ no. absurd no) (λ is_err. let no : ⊥ = cc in no) (λ one. refl) (λ is_err. tt) causes;
-        tapes = nothing_read s.rack;
-        tape_read = λ is_err. absurd (let no : ⊥ = cc in no);
-        tape_read_only = λ isnt. refl;
-        writes = λ fault is_err other. absurd (other (let same : fault ≡ Stopped = cc in same));
-      };
-      keeps = record { tied = tied; live = λ no. absurd (true≢false no); open_dump = λ no. absurd (true≢false no); pins = λ no none. absurd (true≢false no) };
-      told = told_on;
       belongs = λ t was. belongs_stopped was;
-      lost = λ full serial is_err. absurd (let no : ⊥ = cc in no);
-      no_copy = λ t was full serial is_err. let no : ⊥ = cc in no;
-      dump = λ isnt. absurd (isnt refl);
-      spent = (λ then_. refl, λ is_err. refl);
     }
+
+-- STOPPED, with any disc that the failed write may have left
+module _ (s : StoreFacts) (new : OnlineFacts) (who : List ℕ) (call : StoreCall) (change : Change) (e : Contents) (owners : List ℕ) (reply : StoreReply)
+    (is : IsRecorded s.online who call change e owners reply) (unspent : s.spent ≡ false) (store : IsStore s) (at : IsStoppedAt change s.online new) where
+  stopped_is : (x : OnlineFacts) → IsStoppedAt change s.online x → IsAnswered s who call (Err Stopped) (record s { online = x; spent = true })
+  stopped_is x a = answered_stopped s x who call change e owners reply is unspent store a.size a.tells a.tied a.stopped a.causes
+
+  pub stopped_answers : Answers s who call (Err Stopped) (record s { online = new; spent = true })
+  stopped_answers =
+      let is_now = stopped_is new at in record {
+        step = is_now.step;
+        cause = record {
+          disc = Causes-for (λ no. absurd no) (λ is_err. let no : ⊥ = cc in no) (λ one. refl) (λ is_err. tt) at.causes;
+          tapes = nothing_read s.rack;
+          tape_read = λ is_err. absurd (let no : ⊥ = cc in no);
+          tape_read_only = λ isnt. refl;
+          writes = λ fault is_err other. absurd (other (let same : fault ≡ Stopped = cc in same));
+        };
+        keeps = record { tied = at.tied; live = λ no. absurd (true≢false no); open_dump = λ no. absurd (true≢false no); pins = λ no none. absurd (true≢false no) };
+        told = λ told. told_back new.disc.held s.online.disc.held (told_reels s.rack) (sym at.tells) told;
+        belongs = is_now.belongs;
+        lost = λ full serial is_err. absurd (let no : ⊥ = cc in no);
+        no_copy = λ t was full serial is_err. let no : ⊥ = cc in no;
+        dump = λ isnt. absurd (isnt refl);
+        spent = (λ then_. refl, λ is_err. refl);
+        survives = stop_survives (IsAnswered s who call (Err Stopped)) change s (record s { online = new; spent = true }) refl at stopped_is;
+      }
 
 -- for any answer of the filestore
 module _ (o new : OnlineFacts) (who : List ℕ) (call : StoreCall) (change : Change) (e : Contents) (owners : List ℕ) (reply : StoreReply) (is : IsRecorded o who call change e owners reply) where
@@ -428,7 +444,13 @@ module _ (o new : OnlineFacts) (who : List ℕ) (call : StoreCall) (change : Cha
           (λ stop.
           let stopped = stop.stopped refl in
           subst (λ (b : Bool). Answers s who call (Err Stopped) (record s { online = new; spent = not b })) (sym stopped.live)
-          (stopped_answers s new who call change e owners reply is unspent store stop.causes.size stop.told stop.tied stopped (Causes-for (λ no. no) (λ no. no) (λ one. tt) (λ one. refl) stop.causes)))
+          (stopped_answers s new who call change e owners reply is unspent store (record {
+            tied = stop.tied;
+            size = stop.causes.size;
+            tells = stop.told;
+            stopped = stopped;
+            causes = Causes-for (λ no. no) (λ no. no) (λ one. tt) (λ one. refl) stop.causes;
+          })))
           applied
       by_fault s unspent store is fault applied (inr same) =
           let other : fault ≢ Stopped = λ stop. let no : ⊥ = cc in no in

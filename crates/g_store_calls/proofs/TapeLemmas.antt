@@ -22,7 +22,7 @@ use Rattle.g_disc_contents.specs.Contents.{File, recs_in}
 use Rattle.g_disc_contents.specs.Facts.{OnlineFacts}
 use Rattle.g_store_model.specs.State.{Holding, State, is_mounted}
 use Rattle.g_store_model.specs.CallStep.{CallStep, IsUnjam, Outcome, Plain, TapeRead, brings, brings_now, is_offline, len_of, need, new_blocks, reel_of, room_until, version_read}
-use Rattle.g_store_meaning.specs.Answers.{Answers, Belongs, From, IsLostCopy, IsStore, Leads, Raised, Steps, Told, WantsCopy}
+use Rattle.g_store_meaning.specs.Answers.{Answers, Belongs, From, IsAnswered, IsLostCopy, IsStore, Leads, Raised, Steps, Told, WantsCopy}
 use Rattle.g_store_meaning.specs.Meaning.{told_reels}
 use Rattle.g_store_meaning.specs.Reading.{AllTold, HasText, IsView, StandsForState, View, state_up}
 use Rattle.g_store_meaning.specs.StoreInvariant.{StoreFacts}
@@ -37,6 +37,7 @@ use Rattle.g_store_calls.specs.Answering.{KeepsPlan, with_devices}
 use Rattle.g_store_calls.proofs.AskedLemmas.{IsPrepared, planned, prepared}
 use Rattle.g_store_calls.proofs.BackLemmas.{step_full, step_unread, step_waits}
 use Rattle.g_store_calls.proofs.SeenLemmas.{seen}
+use Rattle.g_store_calls.proofs.SurvivalLemmas.{stays_durable}
 use Rattle.g_store_calls.proofs.WantLemmas.{Wants, granted_in, len_in, mounted_in_state, offline_in, reads_is, reel_in}
 
 -- THE STORE with its tapes read
@@ -78,6 +79,7 @@ module _ (s : StoreFacts) (after : Rack) (who : List ℕ) (call : StoreCall) (un
       no_copy = λ t b full serial is. (lost full serial is).1 t b;
       dump = λ isnt. refl;
       spent = (λ is. absurd (false≢true (sym (ap not live) ∙ is)), λ is. absurd (stop is));
+      survives = stays_durable (IsAnswered s who call answer) s then_ (ap not live) (λ durable. durable);
     }
 
   pub starved_then : after.read_faults ≡ s.rack.read_faults → Answers s who call (Err NoMemory) then_
