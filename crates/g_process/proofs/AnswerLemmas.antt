@@ -24,7 +24,7 @@ use Rattle.g_plain.specs.declared.faults.StoreFault.TheVariants.{DiscReadFault, 
 use Rattle.g_plain.proofs.Found.{some_of}
 use Rattle.g_disc_contents.specs.Commits.{Commits}
 use Rattle.g_disc_contents.specs.Contents.{Contents, File, Holds, has, with_intent}
-use Rattle.g_disc_contents.specs.Durable.{StopsSafely}
+use Rattle.g_disc_contents.specs.Durable.{IsDurable, StopsSafely}
 use Rattle.g_disc_contents.specs.Facts.{IsTied, Layout, OnlineFacts}
 use Rattle.g_incr.specs.Layout.{Dump}
 use Rattle.g_incr.specs.Plan.{IsAway, IsPlan, Plan, blocks_of, content_blocks, dump_of, first_content, needs, waiting}
@@ -240,6 +240,7 @@ module _ (job : Job) (o : OnlineFacts) (old mid : Rack) (live : o.live ≡ true)
           (ap (λ (x : OnlineFacts). x.live) is ∙ intended.live) (ap (λ (x : OnlineFacts). x.contents) is ∙ intended.contents ∙ begun_is) (ap (λ (x : OnlineFacts). x.changed) is ∙ intended.changed)
           (ap (λ (x : Rack). map unread x.reels) same);
       left = λ told text shelf shelved up unspent safe is. let no : ⊥ = cc in absurd no;
+      durable = λ unspent durable. subst IsDurable (sym is) (intended.durable durable);
       exit = λ told text shelf shelved up unspent.
           exit_read serial o old mid live tied are only rules_are free the_reel.0 the_reel.1 mounted_on room_on readable_are told text shelf shelved up begun (files_at begun intended) k m (so_at begun k m so) (up_with o' new None) (let need = need_is in omega (arith, less, need))
           (ap (λ (x : OnlineFacts). x.live) is ∙ intended.live) (ap (λ (x : OnlineFacts). x.contents) is ∙ intended.contents ∙ begun_is) (ap (λ (x : OnlineFacts). x.changed) is ∙ intended.changed)
@@ -296,6 +297,7 @@ module _ (job : Job) (o : OnlineFacts) (old mid : Rack) (live : o.live ≡ true)
           (ap (λ (x : OnlineFacts). x.live) is ∙ intended.live) (ap (λ (x : OnlineFacts). x.contents) is ∙ intended.contents ∙ begun_is) (ap (λ (x : OnlineFacts). x.changed) is ∙ intended.changed)
           (ap (λ (x : Rack). map unread x.reels) same);
       left = λ told text shelf shelved up unspent safe is. let no : ⊥ = cc in absurd no;
+      durable = λ unspent durable. subst IsDurable (sym is) (intended.durable durable);
       exit = λ told text shelf shelved up unspent.
           inr (exit_read serial o old mid live tied are only rules_are free the_reel.0 the_reel.1 mounted_on room_on readable_are told text shelf shelved up begun (files_at begun intended) k m (so_at begun k m so) (up_with o' new None) (let need = need_is in omega (arith, less, need))
           (ap (λ (x : OnlineFacts). x.live) is ∙ intended.live) (ap (λ (x : OnlineFacts). x.contents) is ∙ intended.contents ∙ begun_is) (ap (λ (x : OnlineFacts). x.changed) is ∙ intended.changed)
@@ -558,6 +560,7 @@ module _ (job : Job) (o : OnlineFacts) (old mid : Rack) (live : o.live ≡ true)
       dumps = λ told is_together safe. safe_spent o' new (can safe);
       exit = λ told text shelf shelved up unspent. exits told text shelf shelved up;
       left = λ told text shelf shelved up unspent safe is. losses told text shelf shelved up safe;
+      durable = λ unspent. absurd (let no : ⊥ = cc in no);
       dump = λ isnt. absurd (isnt refl);
     }
 
@@ -743,6 +746,7 @@ module _ (job : Job) (o : OnlineFacts) (old mid : Rack) (live : o.live ≡ true)
               (held_left serial old mid job.lists.items ready.listed so.written) all) same_new told) need_is (taken serial job.lists.items) new gone same_new never_all o' tied' put.live
               (put.contents ∙ moved_is moved.begun moved.intended) put.changed;
           left = λ told text shelf shelved up unspent safe is. let no : ⊥ = cc in absurd no;
+          durable = λ unspent is. put.durable (moved.intended.durable is);
           exit = λ told text shelf shelved up unspent. (
             named ∙ ready.may.number_is,
             exit_done serial o old mid live tied are only rules_are free the_reel.0 the_reel.1 mounted_on room_on readable_are told text shelf shelved up moved.begun (files_at moved.begun moved.intended) (needs plan) m (so_at moved.begun (needs plan) m so)

@@ -16,6 +16,7 @@ use Rattle.g_plain.specs.declared.faults.StoreFault.TheVariants.{CountersSpent, 
 use Rattle.g_plain.specs.PlainStep.{first_fault}
 use Rattle.g_tree.specs.Records.{full_of}
 use Rattle.g_disc_contents.specs.Contents.{File, Holds}
+use Rattle.g_disc_contents.specs.Durable.{IsDurable}
 use Rattle.g_disc_contents.specs.Facts.{OnlineFacts}
 use Rattle.g_incr.specs.Plan.{blocks_of, dump_of, needs}
 use Rattle.g_shelf.specs.CompletedDumps.{AreCompleted, AreShelved}
@@ -191,7 +192,9 @@ pub record Processes (serial : ℕ) (old : StoreFacts) (answer : Result ℕ Stor
   pub dumps : Told old → Belongs old → AreDumpsSafe old → AreDumpsSafe new
   -- where it ended, in terms of the bytes and the dumps that the store had
   pub exit : Told old → (text : ℕ → List ℕ) (shelf : ℕ → List Dump) → AreShelved shelf (told_reels old.rack) → IsUp text shelf old → old.spent ≡ false → Exits text shelf serial old answer new
-  -- what a power loss leaves of the reels after a stop
+  -- a store that stays up keeps the live blocks of its disc durable
+  pub durable : new.spent ≡ false → IsDurable old.online → IsDurable new.online
+  -- what a power loss leaves after a stop
   pub left : Told old → (text : ℕ → List ℕ) (shelf : ℕ → List Dump) → AreShelved shelf (told_reels old.rack) → IsUp text shelf old → old.spent ≡ false → AreDumpsSafe old → answer ≡ Err Stopped → LossLeaves text shelf serial old new
   pub spent : (new.spent ≡ true) ↔ (answer ≡ Err Stopped)
   pub dump : (answer ≡ Err Stopped → ⊥) → new.dump ≡ old.dump
