@@ -1,5 +1,5 @@
 -- What a power loss leaves of a store between two calls, and after a call that was stopped.
--- serves: power_losses (between, safe, stopped)
+-- serves: power_losses (between, left, making, safe, stopped)
 use Rattle.std.proofs.Common.{◌≡◌, ℕ, ◌<◌, Bool, true, false, List, Option, Some, None, Err, is_some, refl, sym, ◌∙◌, ap, subst, inl, true≢false}
 use Rattle.std.specs.Prelude.{All, IfSome, Result}
 use Rattle.std.proofs.lemmas.List.Elements.{All-weaker}
@@ -7,7 +7,7 @@ use Rattle.std.proofs.lemmas.Option.{same_Some}
 use Rattle.g_disc.specs.Durable.{MayLeave}
 use Rattle.g_tape.specs.Rack.{Rack}
 use Rattle.g_tape.specs.Reads.{OnlyReads}
-use Rattle.g_tape.specs.Reel.{Reel}
+use Rattle.g_tape.specs.Risk.{Leaves, Risk, risk}
 use Rattle.g_tape.proofs.ReadLemmas.{blocks_after_reads}
 use Rattle.g_plain.specs.declared.calls.StoreCall.{StoreCall}
 use Rattle.g_plain.specs.declared.calls.StoreReply.{StoreReply}
@@ -16,8 +16,8 @@ use Rattle.g_plain.specs.declared.faults.StoreFault.TheVariants.{Stopped}
 use Rattle.g_plain.proofs.Found.{some_of}
 use Rattle.g_disc_contents.specs.Contents.{Contents, File, Holds}
 use Rattle.g_disc_contents.proofs.HoldLemmas.{holds_one}
-use Rattle.g_shelf.specs.Surviving.{DumpsSurvive, IsBegunDurably}
-use Rattle.g_shelf.proofs.SurvivingLemmas.{begun_reads, survive_reads}
+use Rattle.g_shelf.specs.Surviving.{CanSurvive, DumpsSurvive, IsBegunDurably}
+use Rattle.g_shelf.proofs.SurvivingLemmas.{begun_reads, durable_dumps, survive_reads}
 use Rattle.g_store_model.specs.State.{State}
 use Rattle.g_store_model.specs.CallStep.{CallStep, down}
 use Rattle.g_store_meaning.specs.Answers.{Answers, IsAnswered}
@@ -25,10 +25,10 @@ use Rattle.g_store_meaning.specs.Belonging.{BelongWith, DiscBelongs}
 use Rattle.g_store_meaning.specs.Meaning.{told_reels}
 use Rattle.g_store_meaning.specs.Reading.{AllTold, DevicesStandFor, HasText, IsView, StandsForState, View, state_up}
 use Rattle.g_store_meaning.specs.StoreInvariant.{DumpFacts, StoreFacts}
-use Rattle.g_store_meaning.specs.Surviving.{with_disc_left}
+use Rattle.g_store_meaning.specs.Surviving.{AreDumpsSafe, DumpsMadeSafe, with_disc_left}
 use Rattle.g_store_meaning.proofs.ViewLemmas.{Stands, to}
 use Rattle.g_laws_store.proofs.TiedLemmas.{holds_after_loss}
-use Rattle.g_laws_power.specs.Losses.{CallsKeepSafe, IsLeft, IsSafe, StoppedCallsSurvive, StopsLike, StoreSurvives}
+use Rattle.g_laws_power.specs.Losses.{CallsKeepSafe, IsLeft, IsSafe, LeftIsDurable, MakingIsSafe, StoppedCallsSurvive, StopsLike, StoreSurvives}
 use Rattle.g_laws_power.proofs.LeftLemmas.{belong_left, stand_left}
 
 -- THE STATE of a store that is up, and that of one that was stopped
@@ -160,3 +160,42 @@ calls_keep_safe old new who call answer safe answers isnt =
     unspent : (b : Bool) → new.spent ≡ b → new.spent ≡ false
     unspent true is = absurd (isnt (answers.spent.0 is))
     unspent false is = is
+
+-- WHAT IS LEFT is durable
+pub left_is_durable : LeftIsDurable
+left_is_durable s blocks rack left = (
+  λ held at side names. record { slot = λ k within. refl; files = λ e stands k within. refl },
+  λ serial. durable_dumps serial rack (λ had at now leaves. subst (λ (rs : List Risk). Leaves (risk serial rs) had now) left.reels.durable leaves),
+)
+
+-- A STORE THAT IS MADE of it is safe
+made_dumps : (rack : Rack) (new : StoreFacts) → new.dump ≡ None → ((serial : ℕ) → CanSurvive serial rack) → DumpsMadeSafe rack new.rack → AreDumpsSafe new
+made_dumps rack new none can made = record {
+  up = λ _ serial. made serial (can serial);
+  can = λ serial. inl (made serial (can serial));
+  open_dump = λ _. subst (λ (x : Option DumpFacts). IfSome x (λ d. 0 < d.done → IsBegunDurably d.plan.serial d.plan.place d.done new.rack)) (sym none) tt;
+}
+
+pub making_is_safe : MakingIsSafe
+making_is_safe = record {
+  start = λ disc rack adopted new can begun made.
+      let makes = begun.makes in
+      let (had, at) = some_of disc.held can.told.disc in record {
+        told = makes.told can.told;
+        store = makes.keeps;
+        up = makes.running;
+        belongs = makes.belongs can.told can.belong;
+        disc = makes.durable had at can.disc_safe;
+        dumps = made_dumps rack new makes.no_dump can.dumps made;
+      };
+  restore = λ disc rack number new can restored made.
+      let makes = restored.makes in
+      let (had, at) = some_of disc.held can.told.disc in record {
+        told = makes.told can.told;
+        store = makes.keeps;
+        up = makes.running;
+        belongs = makes.belongs can.told can.belong;
+        disc = makes.durable had at can.disc_safe;
+        dumps = made_dumps rack new makes.no_dump can.dumps made;
+      };
+}

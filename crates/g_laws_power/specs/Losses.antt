@@ -1,7 +1,9 @@
 -- What a power loss leaves of the devices of a store.
-use Rattle.std.specs.Prelude.{◌≡◌, ℕ, Bool, true, false, List, [], Some, Err, is_some}
+use Rattle.std.specs.Prelude.{◌≡◌, ℕ, false, List, [], Option, Result, Some, Err, is_some}
 use Rattle.std.specs.List.{AllZip}
 use Rattle.std.specs.Option.{ForSome}
+use Rattle.g_dirs.specs.Durable.{IsDiscSafe}
+use Rattle.g_disc.specs.Disc.{DiscState}
 use Rattle.g_disc.specs.Durable.{MayLeave as MayLeaveDisc}
 use Rattle.g_tape.specs.Rack.{Rack}
 use Rattle.g_tape.specs.Reads.{MayLeave}
@@ -10,16 +12,17 @@ use Rattle.g_plain.specs.declared.calls.StoreCall.{StoreCall}
 use Rattle.g_plain.specs.declared.calls.StoreReply.{StoreReply}
 use Rattle.g_plain.specs.declared.faults.StoreFault.{StoreFault}
 use Rattle.g_plain.specs.declared.faults.StoreFault.TheVariants.{Stopped}
-use Rattle.std.specs.Prelude.{Result}
 use Rattle.g_disc_contents.specs.Durable.{IsDurable}
 use Rattle.g_store_model.specs.State.{Holding, ReelRow, State}
 use Rattle.g_store_model.specs.CallStep.{CallStep, Outcome, down}
 use Rattle.g_store_meaning.specs.Answers.{Answers, Belongs, IsStore, Told}
-use Rattle.g_store_meaning.specs.Belonging.{BelongWith}
+use Rattle.g_shelf.specs.Surviving.{CanSurvive, DumpsSurvive}
+use Rattle.g_store_meaning.specs.Belonging.{Belong, BelongWith}
 use Rattle.g_store_meaning.specs.Meaning.{told_reels}
-use Rattle.g_store_meaning.specs.Reading.{DevicesStandFor, StandsForState}
+use Rattle.g_store_meaning.specs.Reading.{AllTold, DevicesStandFor, StandsForState}
 use Rattle.g_store_meaning.specs.StoreInvariant.{StoreFacts}
-use Rattle.g_store_meaning.specs.Surviving.{AreDumpsSafe}
+use Rattle.g_store_meaning.specs.Surviving.{AreDumpsSafe, DumpsMadeSafe, disc_left}
+use Rattle.g_store.specs.Making.{Begun, Restored}
 
 -- A reel after a power loss: it isn't mounted, and has blocks that the loss may leave.
 pub record IsReelLeft (old : Rack) (was now : Reel) : Type 0 where
@@ -89,3 +92,20 @@ StoppedCallsSurvive = (old new : StoreFacts) (who : List ℕ) (call : StoreCall)
 -- EACH OTHER CALL LEAVES A SAFE STORE
 abbrev pub CallsKeepSafe : Type 0
 CallsKeepSafe = (old new : StoreFacts) (who : List ℕ) (call : StoreCall) (answer : Result StoreReply StoreFault) → IsSafe old → Answers old who call answer new → (answer ≡ Err Stopped → ⊥) → IsSafe new
+
+-- Devices on which a store can be made that is safe: they expose their contents and belong together, the disc is safe, and the dumps survive a
+-- power loss, or will once the rack was made durable.
+pub record CanBeSafe (disc : DiscState) (rack : Rack) : Type 0 where
+  pub told : AllTold disc.held (told_reels rack)
+  pub belong : Belong disc.held rack
+  pub disc_safe : IsDiscSafe disc
+  pub dumps : (serial : ℕ) → CanSurvive serial rack
+
+-- START AND RESTORE MAKE A SAFE STORE of such devices
+pub record MakingIsSafe : Type 0 where
+  pub start : (disc : DiscState) (rack : Rack) (adopted : Option ℕ) (new : StoreFacts) → CanBeSafe disc rack → Begun disc rack adopted new → DumpsMadeSafe rack new.rack → IsSafe new
+  pub restore : (disc : DiscState) (rack : Rack) (number : ℕ) (new : StoreFacts) → CanBeSafe disc rack → Restored disc rack number new → DumpsMadeSafe rack new.rack → IsSafe new
+
+-- WHAT A POWER LOSS LEAVES IS DURABLE: the disc is safe, and the dumps survive the next power loss.
+abbrev pub LeftIsDurable : Type 0
+LeftIsDurable = (s : StoreFacts) (blocks : List (List ℕ)) (rack : Rack) → IsLeft s blocks rack → IsDiscSafe (disc_left blocks s.online.disc) × ((serial : ℕ) → DumpsSurvive serial rack)
