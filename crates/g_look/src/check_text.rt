@@ -13,6 +13,7 @@ use crate::broken_text::push_verdict;
 use crate::disc::Standing;
 use crate::disc_text::push_disc;
 use crate::rack_text::push_rack;
+use crate::room::text_for;
 use g_base::NoMemory;
 use g_name::Text;
 use g_restore::Found;
@@ -33,7 +34,7 @@ pub(crate) fn check_text<T: Tapes>(
         → text ≡ text_of (disc_lines size standing.now.side (all_dumps shelf (told_reels (T.rack tapes.now))) (found_in standing.now.dirs)
         ++ rack_lines shelf (told_reels (T.rack tapes.now)) ++ verdict_line (is_some standing.now.dirs) verdict.now.broken verdict.now.missing ∷ [])) }
 {
-    let mut text = Text::new(alloc);
+    let mut text = text_for(alloc, found)?;
     push_disc(&mut text, size, standing, found)?;
     push_rack(&mut text, tapes, found)?;
     push_verdict(&mut text, standing.dirs.is_some(), verdict)?;

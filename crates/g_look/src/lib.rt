@@ -21,6 +21,7 @@ mod rack;
 mod rack_text;
 mod records;
 mod restoring;
+mod room;
 mod showing;
 mod tape;
 

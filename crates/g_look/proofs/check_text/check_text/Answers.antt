@@ -10,5 +10,5 @@ pub returns : goal.returns
 returns g c = λ shelf seen.
     all_shown (disc_lines c.args.size c.args.standing.now.side (all_dumps shelf (told_reels (g.T.Tapes.rack c.args.tapes.now))) (found_in c.args.standing.now.dirs))
     (rack_lines shelf (told_reels (g.T.Tapes.rack c.args.tapes.now))) (verdict_line (is_some c.args.standing.now.dirs) c.args.verdict.now.broken c.args.verdict.now.missing) _ _ _ _
-    (rw c.new-text.ensures at (c.in_ok-push_disc.ensures (all_dumps shelf (told_reels (g.T.Tapes.rack c.args.tapes.now))) seen.known)) (c.in_ok-push_rack.ensures shelf seen)
+    (rw c.in_ok-text.ensures at (c.in_ok-push_disc.ensures (all_dumps shelf (told_reels (g.T.Tapes.rack c.args.tapes.now))) seen.known)) (c.in_ok-push_rack.ensures shelf seen)
     (rw c.is_some.ensures at c.in_ok-push_verdict.ensures) c.in_ok-push.ensures.ok
