@@ -20,6 +20,6 @@ module _ (old new : Rack) where
   made_by (Err fault) made = tt
 
   -- a refusal that concerns the reels promises nothing
-  pub none_by : {A : Type 0} (fault : StoreFault) → IsOfReels fault → (let r : Result A StoreFault = Err fault in DumpsMadeSafeBy r old new)
-  none_by Stopped never = absurd never
-  none_by fault is = tt
+  pub none_by : (A : Type 0) (fault : StoreFault) → IsOfReels fault → (let r : Result A StoreFault = Err fault in DumpsMadeSafeBy r old new)
+  none_by A Stopped never = absurd never
+  none_by A fault is = tt

@@ -17,5 +17,5 @@ load_is_not_stopped fault (inr (inl is)) = subst (λ (f : OnlineFault). store_fa
 load_is_not_stopped fault (inr (inr is)) = subst (λ (f : OnlineFault). store_fault_of f ≢ Stopped) (sym is) (λ e. let no : ⊥ = cc in no)
 
 -- after a failed write
-pub made_at_stop : {A : Type 0} (fault : StoreFault) (old new : Rack) → (let r : Result A StoreFault = Err fault in DumpsMadeSafeBy r old new) → fault ≡ Stopped → DumpsMadeSafe old new
-made_at_stop {A} fault old new made is = subst (λ (f : StoreFault). let r : Result A StoreFault = Err f in DumpsMadeSafeBy r old new) is made
+pub made_at_stop : (A : Type 0) (fault : StoreFault) (old new : Rack) → (let r : Result A StoreFault = Err fault in DumpsMadeSafeBy r old new) → fault ≡ Stopped → DumpsMadeSafe old new
+made_at_stop A fault old new made is = subst (λ (f : StoreFault). let r : Result A StoreFault = Err f in DumpsMadeSafeBy r old new) is made

@@ -107,4 +107,4 @@ pub returns-in-Ok-clause-durable : goal.returns-in-Ok-clause-durable
 returns-in-Ok-clause-durable g c = made_by (g.T.Tapes.rack c.args.tapes.now) (g.T.Tapes.rack c.dumped_directory.new.tapes) _ c.in-Ok.ensures.durable
 
 pub returns-in-Err-clause-durable : goal.returns-in-Err-clause-durable
-returns-in-Err-clause-durable g c = none_by (g.T.Tapes.rack c.args.tapes.now) (g.T.Tapes.rack c.dumped_directory.new.tapes) {A = OnlineFacts × ℕ} c.in-Err.fault c.in-Err.ensures.only
+returns-in-Err-clause-durable g c = none_by (g.T.Tapes.rack c.args.tapes.now) (g.T.Tapes.rack c.dumped_directory.new.tapes) (OnlineFacts × ℕ) c.in-Err.fault c.in-Err.ensures.only

@@ -34,4 +34,4 @@ pub returns-in-Ok-clause-durable : goal.returns-in-Ok-clause-durable
 returns-in-Ok-clause-durable g c = c.in-Ok.ensures.durable
 
 pub returns-in-Err-clause-durable_stopped : goal.returns-in-Err-clause-durable_stopped
-returns-in-Err-clause-durable_stopped g c = λ is. made_at_stop {A = OnlineFacts × ℕ} c.in-Err.fault (g.T.Tapes.rack c.args.tapes) (g.T.Tapes.rack c.rebuild.new.tapes) c.in-Err.ensures.durable is
+returns-in-Err-clause-durable_stopped g c = λ is. made_at_stop (OnlineFacts × ℕ) c.in-Err.fault (g.T.Tapes.rack c.args.tapes) (g.T.Tapes.rack c.rebuild.new.tapes) c.in-Err.ensures.durable is

@@ -28,4 +28,4 @@ returns-in-Ok-take_over-clause-durable g c = c.in-Ok-take_over.ensures.durable
 
 pub returns-in-Err-take_over-clause-durable_stopped : goal.returns-in-Err-take_over-clause-durable_stopped
 returns-in-Err-take_over-clause-durable_stopped g c = λ is.
-    made_at_stop {A = Option ℕ} c.in-Err-take_over.fault (g.T.Tapes.rack c.args.tapes) (g.T.Tapes.rack c.take_over.new.tapes) c.in-Err-take_over.ensures.durable is
+    made_at_stop (Option ℕ) c.in-Err-take_over.fault (g.T.Tapes.rack c.args.tapes) (g.T.Tapes.rack c.take_over.new.tapes) c.in-Err-take_over.ensures.durable is
