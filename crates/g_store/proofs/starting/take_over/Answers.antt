@@ -17,5 +17,5 @@ returns-in-Some-intent-clause-durable g c =
     (safe_then_read (g.T.Tapes.rack c.args.tapes.now) (g.T.Tapes.rack c.secure_all.new.tapes) (g.T.Tapes.rack c.take_named.new.tapes)
     (made_safe (g.T.Tapes.rack c.args.tapes.now) (g.T.Tapes.rack c.secure_all.new.tapes) c.in-Ok.ensures.secured c.in-Ok.ensures.durable) c.take_named.ensures.reads)
 
-pub returns-in-None-intent-clause-durable : goal.returns-in-None-intent-clause-durable
-returns-in-None-intent-clause-durable g c = made_safe (g.T.Tapes.rack c.args.tapes.now) (g.T.Tapes.rack c.secure_all.new.tapes) c.in-Ok.ensures.secured c.in-Ok.ensures.durable
+pub returns-in-None-clause-durable : goal.returns-in-None-clause-durable
+returns-in-None-clause-durable g c = made_safe (g.T.Tapes.rack c.args.tapes.now) (g.T.Tapes.rack c.secure_all.new.tapes) c.in-Ok.ensures.secured c.in-Ok.ensures.durable
