@@ -1,6 +1,6 @@
 -- A device is armed, and nothing changes in what the store means; and the devices taken out of a store represent what it
 -- represented.
--- serves: arm_disc (same), arm_tape (same), into_devices (down), crates above
+-- serves: arm_disc (same), arm_tape (same), into_devices (down), LossLemmas, crates above
 use Rattle.std.proofs.Common.{◌≡◌, ℕ, Bool, true, false, List, Option, Some, None, is_some, sym, ap, subst, true≢false}
 use Rattle.std.specs.Prelude.{IfSome}
 use Rattle.std.specs.Option.{ForSome}

@@ -11,8 +11,9 @@ use Rattle.g_store_meaning.specs.Meaning.{told_reels}
 use Rattle.g_store_meaning.specs.Reading.{StandsForState, View, state_up}
 use Rattle.g_store_meaning.specs.StoreInvariant.{StoreFacts}
 use Rattle.g_laws_store.specs.Rooms.{held_in}
-use Rattle.g_store.specs.Events.{AnswersEvent, LeadsBy, StepsBy, WroteBy}
+use Rattle.g_store.specs.Events.{AnswersEvent, IsAnsweredBy, LeadsBy, StepsBy, WroteBy}
 use Rattle.g_store_calls.proofs.SeenLemmas.{Seen, seen}
+use Rattle.g_store_calls.proofs.SurvivalLemmas.{stays_durable}
 
 -- what the state holds
 pub held_by : (s : StoreFacts) (u : State) (is : Seen s u) → u.holding ≡ Some (held_in is.view s.online)
@@ -57,4 +58,5 @@ module _ {A : Type 0} (by : State → Holding → Outcome → Result A StoreFaul
     told = λ told. told;
     belongs = λ told was. was;
     spent = (λ is. absurd (false≢true (sym unspent ∙ is)), λ is. absurd (other (let same : fault ≡ Stopped = cc in same)));
+    survives = stays_durable (IsAnsweredBy by s (Err fault)) s s unspent (λ durable. durable);
   }

@@ -6,6 +6,7 @@ pub mod EventLemmas
 mod FormatLemmas
 mod FullLemmas
 mod GreatestLemmas
+mod LossLemmas
 pub mod MakeLemmas
 mod MigrateLemmas
 mod MigratedLemmas

@@ -37,13 +37,15 @@ use Rattle.g_store_meaning.proofs.ViewLemmas.{Stands, back}
 use Rattle.g_laws_store.specs.Rooms.{held_in}
 use Rattle.g_migrate.specs.Invariant.{KeepsStore, with_online}
 use Rattle.g_migrate.specs.Migration.{HasMigrated}
-use Rattle.g_store.specs.Events.{IsOfMigration, LeadsBy, Migrates, StepsBy, WroteBy}
+use Rattle.g_migrate.proofs.KeepsLemmas.{keeps_stopped}
+use Rattle.g_store.specs.Events.{IsAnsweredBy, IsOfMigration, LeadsBy, Migrates, StepsBy, WroteBy}
 use Rattle.g_store.specs.Naming.{IsNamedFile, named_answer, naming_refuses, stops}
 use Rattle.g_store.specs.Refusing.{IsExact}
 use Rattle.g_store.proofs.EventLemmas.{held_by, leads_same, none_written, refused}
 use Rattle.g_store.proofs.MigrateLemmas.{IsFileOf, file_of, down_before, down_behind, name_refused, refusal_is, stamp_is, state_done, tree_in, two_faults, unload_is, view_off}
 use Rattle.g_store_calls.proofs.RecordLemmas.{devices_hold}
 use Rattle.g_store_calls.proofs.SeenLemmas.{Seen, seen, stands}
+use Rattle.g_store_calls.proofs.SurvivalLemmas.{IsStoppedAt, stays_durable, stop_survives}
 use Rattle.g_store_calls.proofs.BehindLemmas.{files_seen, told_then}
 
 abbrev pub MigratesBy : Path → state.State → state.Holding → Outcome → Result Full StoreFault → state.State → Type 0
@@ -249,6 +251,7 @@ module _ (path : Path) (t : StoreFacts) (unspent : t.spent ≡ false) (keeps : I
               told = told_on;
               belongs = λ told was. kept_after Belongs (keep.belongs t refl unspent keeps was);
               spent = (λ is. absurd (false≢true is), λ is. absurd (let no : ⊥ = cc in no));
+              survives = stays_durable (IsAnsweredBy (MigratesBy path) t (Ok full)) t after refl done.durable;
             };
             cause = record {
               disc = Causes-for (λ no. absurd no) (λ is. (let no : ⊥ = cc in no)) (λ no. absurd no) (λ is. (let no : ⊥ = cc in no)) causes;
@@ -312,29 +315,43 @@ module _ (path : Path) (t : StoreFacts) (unspent : t.spent ≡ false) (keeps : I
             leads_stopped told =
                 let (blocks, held) = some_of held_new (same ∙ told.disc) in leads_one blocks held (stopped.holds blocks held).one
 
-          pub cut : Causes ⊥ (Unit {0}) t.online.disc new.disc → Migrates path t (Err Stopped) spent
-          cut causes = record {
-            event = record {
-              step = λ told belongs u here. leads_stopped causes belongs u here told;
-              wrote = tt;
-              keeps = kept_spent IsStore (keep.store t refl unspent keeps);
-              told = told_on;
-              belongs = λ told was. kept_spent Belongs (keep.belongs t refl unspent keeps was);
-              spent = (λ _. refl, λ _. refl);
-            };
-            cause = record {
-              disc = Causes-for (λ no. absurd no) (λ is. (let no : ⊥ = cc in no)) (λ _. refl) (λ _. tt) causes;
-              tapes = nothing_read t.rack;
-              tape_read = λ is. absurd (let no : ⊥ = cc in no);
-              tape_read_only = λ _. refl;
-              writes = λ fault is other. absurd (other (let it : fault ≡ Stopped = cc in it));
-            };
-            dump = λ none. absurd (none refl);
-            same = λ other. absurd (other refl);
-            exact = λ text. exact_none _ t spent (Err Stopped) (granted Plain text []) (inl refl);
-            done = tt;
-            stopped = λ _. (full, record { number = f.rec.number; named = is.named; leaves = stopped });
-          }
+      -- stopped, with any disc that the failed write may have left
+      module _ (new : OnlineFacts) (same : is_some new.disc.held ≡ is_some t.online.disc.held) (size : new.disc.size ≡ t.online.disc.size) (keep : KeepsStore t.online new)
+          (stopped : HasStopped (Unload (f.rec.number ∷ [])) t.online new) where
+        stopped_is : (x : OnlineFacts) → IsStoppedAt (Unload (f.rec.number ∷ [])) t.online x → IsAnsweredBy (MigratesBy path) t (Err Stopped) (record t { online = x; spent = true })
+        stopped_is x at =
+            let keep_x = keeps_stopped (f.rec.number ∷ []) t.online x at.stopped at.tied in record {
+              step = λ told belongs u here. leads_stopped x at.tells at.size keep_x at.stopped at.causes belongs u here told;
+              belongs = λ told was. kept_spent x at.tells at.size keep_x at.stopped Belongs (keep_x.belongs t refl unspent keeps was);
+            }
+
+        pub cut : Causes ⊥ (Unit {0}) t.online.disc new.disc → Migrates path t (Err Stopped) (record t { online = new; spent = true })
+        cut causes =
+            let store_then = keep.store t refl unspent keeps in
+            let at : IsStoppedAt (Unload (f.rec.number ∷ [])) t.online new = record { tied = store_then.tied; size = size; tells = same; stopped = stopped; causes = causes } in
+            let is_now = stopped_is new at in record {
+              event = record {
+                step = is_now.step;
+                wrote = tt;
+                keeps = kept_spent new same size keep stopped IsStore store_then;
+                told = λ told. told_then new.disc.held t.online.disc.held (told_reels t.rack) (sym same) told;
+                belongs = is_now.belongs;
+                spent = (λ _. refl, λ _. refl);
+                survives = stop_survives (IsAnsweredBy (MigratesBy path) t (Err Stopped)) (Unload (f.rec.number ∷ [])) t (record t { online = new; spent = true }) refl at stopped_is;
+              };
+              cause = record {
+                disc = Causes-for (λ no. absurd no) (λ is. (let no : ⊥ = cc in no)) (λ _. refl) (λ _. tt) causes;
+                tapes = nothing_read t.rack;
+                tape_read = λ is. absurd (let no : ⊥ = cc in no);
+                tape_read_only = λ _. refl;
+                writes = λ fault is other. absurd (other (let it : fault ≡ Stopped = cc in it));
+              };
+              dump = λ none. absurd (none refl);
+              same = λ other. absurd (other refl);
+              exact = λ text. exact_none _ t (record t { online = new; spent = true }) (Err Stopped) (granted Plain text []) (inl refl);
+              done = tt;
+              stopped = λ _. (full, record { number = f.rec.number; named = is.named; leaves = stopped });
+            }
 
 -- BY WHAT THE FILESTORE ANSWERED
 unnamed_in : (users : List UserRec) (files : List FileRec) (c : Contents) (path : Path) (fault : StoreFault) → users ≡ c.users → files ≡ recs_in c

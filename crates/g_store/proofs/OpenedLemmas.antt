@@ -26,6 +26,7 @@ use Rattle.g_plain.specs.declared.faults.StoreFault.{StoreFault}
 use Rattle.g_plain.specs.declared.faults.StoreFault.TheVariants.{CountersSpent, DiscReadFault, DumpOpen, NoMemory, NoTape, NotMounted, Stopped, TapeFull, TapeReadFault}
 use Rattle.g_plain.specs.PlainStep.{first_fault}
 use Rattle.g_disc_contents.specs.Contents.{Contents, File, Holds, recs_in, with_intent}
+use Rattle.g_disc_contents.specs.Durable.{IsDurable}
 use Rattle.g_disc_contents.specs.Facts.{IsPinOf, IsTied, OnlineFacts, Pin}
 use Rattle.g_incr.specs.Layout.{Dump, holds}
 use Rattle.g_incr.specs.Plan.{blocks_of, dump_of, first_content, needs, waiting, waits}
@@ -55,15 +56,17 @@ use Rattle.g_dumper.proofs.HeldLemmas.{held_of_one}
 use Rattle.g_dumper.proofs.IntentLemmas.{rules_here}
 use Rattle.g_dumper.proofs.PlanLemmas.{plan_keeps}
 use Rattle.g_dumper.proofs.KeepLemmas.{content_told}
-use Rattle.g_dumper.proofs.OpeningLemmas.{IsOpenedUp, opened_up}
+use Rattle.g_dumper.proofs.OpeningLemmas.{IsOpenedUp, keeps_opening, opened_up}
 use Rattle.g_dumper.proofs.ShelfLemmas.{reel_there, told_is}
 use Rattle.g_laws_store.proofs.RecordLemmas.{pairs_head, pairs_tail}
-use Rattle.g_store.specs.Events.{IsOfOpening, LeadsBy, Opens, StepsBy, WroteBy}
+use Rattle.g_store.specs.Events.{IsAnsweredBy, IsOfOpening, LeadsBy, Opens, StepsBy, WroteBy}
 use Rattle.g_store.specs.Refusing.{IsExact, capacity_of, needs_now, number_in, open_refuses as refuses_now}
 use Rattle.g_store.specs.Dumping.{is_stop_at}
 use Rattle.g_store.proofs.EventLemmas.{leads_same, none_written, refused}
 use Rattle.g_store.proofs.MountLemmas.{lacks_by, mounted_by, reel_unread, row_found}
 use Rattle.g_store_calls.proofs.SeenLemmas.{Seen, seen, stands}
+use Rattle.g_store_calls.proofs.SurvivalLemmas.{stays_durable}
+use Rattle.g_store.proofs.LossLemmas.{IsStoppedWith, commit_survives}
 use Rattle.g_store_calls.proofs.BehindLemmas.{files_seen}
 use Rattle.g_store_calls.proofs.RecordLemmas.{devices_hold}
 
@@ -377,6 +380,7 @@ module _ (serial : ℕ) (o : OnlineFacts) (rack : Rack) (on : Reel) (on_is : ree
           told = kept.told;
           belongs = λ told was. kept.belongs told keeps was;
           spent = (λ is. absurd (false≢true is), λ is. absurd (let no : ⊥ = cc in no));
+          survives = stays_durable (IsAnsweredBy (OpensBy serial) was_up (Ok d.plan.number)) was_up (up_with new after (Some d)) refl begins.opened.durable;
         };
         cause = record {
           disc = Causes-for (λ no. absurd no) (λ is. (let no : ⊥ = cc in no)) (λ no. absurd no) (λ is. (let no : ⊥ = cc in no)) causes;
@@ -423,6 +427,7 @@ module _ (serial : ℕ) (o : OnlineFacts) (rack : Rack) (on : Reel) (on_is : ree
         told = kept.told;
         belongs = λ told was. kept.belongs told keeps was;
         spent = (λ no. absurd (false≢true no), λ no. absurd (other (let same : fault ≡ Stopped = cc in same)));
+        survives = stays_durable (IsAnsweredBy (OpensBy serial) was_up (Err fault)) was_up behind refl (λ durable. subst IsDurable (sym is) durable);
       };
       cause = record {
         disc = record {
@@ -684,38 +689,68 @@ module _ (serial : ℕ) (o : OnlineFacts) (rack : Rack) (on : Reel) (on_is : ree
           by_held u v stopped.place f.state_is refused (end_then serial o rack on on_is mounted unspent v ∙ end_same)
           (files_seen o.disc.held new.disc.held (told_reels rack) v o.contents stopped.left.told f.is) blocks held (stopped.left.holds blocks held)
 
-      pub cut : AreReels rack.reels → StoppedOpening serial o new rack → new.disc.arms ≡ o.disc.arms → o.disc.writes ≤ new.disc.writes → new.disc.read_faults ≡ o.disc.read_faults → KeepsStore was_up (spent_with new after) → Refusal Stopped
-          → Opens serial was_up (Err Stopped) (spent_with new after)
-      cut right stopped arms later kept_reads kept refuses = record {
-        event = record {
-          step = leads_cut right stopped;
-          wrote = tt;
-          keeps = kept.store keeps;
-          told = kept.told;
+  -- stopped, with any disc that the failed write may have left
+  module _ (new : OnlineFacts) (after : Rack) (tied_new : IsTied new) (reads : OnlyReads rack after) (size : new.disc.size ≡ o.disc.size) (rose : Rose o.disc.write_faults new.disc.write_faults)
+      (right : AreReels rack.reels) (stopped : StoppedOpening serial o new rack) (refuses : (let r : Result DumpFacts StoreFault = Err Stopped in RefusesOpening serial o rack after r)) where
+    abbrev Left : List (List ℕ) → Type 0
+    Left blocks = Holds blocks o.contents ⊎ Holds blocks (with_intent (Some (intent_of (plan_of serial stopped.place o))) o.contents)
+
+    stopped_at : (x : OnlineFacts) → IsStoppedWith Left o x → StoppedOpening serial o x rack
+    stopped_at x a = record { place = stopped.place; end_is = stopped.end_is; fits = stopped.fits; left = record { live = a.live; told = a.tells; holds = a.holds; survives = a.survives } }
+
+    stopped_is : (x : OnlineFacts) → IsStoppedWith Left o x → IsAnsweredBy (OpensBy serial) was_up (Err Stopped) (spent_with x after)
+    stopped_is x a =
+        let kept = keeps_opening serial o x rack after (Err Stopped) (keeps.live refl) (keeps.pins refl refl) keeps.tied a.tied reads tt refuses tt (λ is. stopped_at x a) in record {
+          step = leads_cut x after a.tied reads a.size a.rose right (stopped_at x a);
           belongs = λ told was. kept.belongs told keeps was;
-          spent = (λ _. refl, λ _. refl);
-        };
-        cause = record {
-          disc = record {
-            size = size;
-            arms = arms;
-            later = later;
-            reads_kept = λ _. kept_reads;
-            reads_rose = λ no. absurd (let it : ⊥ = cc in it);
-            writes_kept = λ no. absurd (no refl);
-            writes_rose = λ _. rose;
+        }
+
+    pub cut : new.disc.arms ≡ o.disc.arms → o.disc.writes ≤ new.disc.writes → new.disc.read_faults ≡ o.disc.read_faults → KeepsStore was_up (spent_with new after)
+        → Opens serial was_up (Err Stopped) (spent_with new after)
+    cut arms later kept_reads kept =
+        let at : IsStoppedWith Left o new = record {
+          tied = tied_new;
+          live = stopped.left.live;
+          size = size;
+          tells = stopped.left.told;
+          arms = arms;
+          later = later;
+          reads_kept = kept_reads;
+          rose = rose;
+          holds = stopped.left.holds;
+          survives = stopped.left.survives;
+        } in
+        record {
+          event = record {
+            step = leads_cut new after tied_new reads size rose right stopped;
+            wrote = tt;
+            keeps = kept.store keeps;
+            told = kept.told;
+            belongs = λ told was. kept.belongs told keeps was;
+            spent = (λ _. refl, λ _. refl);
+            survives = commit_survives (IsAnsweredBy (OpensBy serial) was_up (Err Stopped)) Left was_up (spent_with new after) refl at stopped_is;
           };
-          tapes = reads;
-          tape_read = λ no. absurd (let it : ⊥ = cc in it);
-          tape_read_only = λ _. refuses.kept (λ no. let it : ⊥ = cc in it);
-          writes = λ f yes other. absurd (other (let it : f ≡ Stopped = cc in it));
-        };
-        dump = λ f yes other. absurd (other (let it : f ≡ Stopped = cc in it));
-        same = λ other. absurd (other refl);
-        exact = exact_none (Err Stopped) (spent_with new after) (inr (inr (inl refl)));
-        number = λ n no. absurd (let it : ⊥ = cc in it);
-        full = λ need room no. absurd (let it : ⊥ = cc in it);
-      }
+          cause = record {
+            disc = record {
+              size = size;
+              arms = arms;
+              later = later;
+              reads_kept = λ _. kept_reads;
+              reads_rose = λ no. absurd (let it : ⊥ = cc in it);
+              writes_kept = λ no. absurd (no refl);
+              writes_rose = λ _. rose;
+            };
+            tapes = reads;
+            tape_read = λ no. absurd (let it : ⊥ = cc in it);
+            tape_read_only = λ _. refuses.kept (λ no. let it : ⊥ = cc in it);
+            writes = λ f yes other. absurd (other (let it : f ≡ Stopped = cc in it));
+          };
+          dump = λ f yes other. absurd (other (let it : f ≡ Stopped = cc in it));
+          same = λ other. absurd (other refl);
+          exact = exact_none (Err Stopped) (spent_with new after) (inr (inr (inl refl)));
+          number = λ n no. absurd (let it : ⊥ = cc in it);
+          full = λ need room no. absurd (let it : ⊥ = cc in it);
+        }
 
   -- BY WHAT THE FILESTORE ANSWERED
   no_back : (fault : TapeFault) → IsKeptBack serial rack fault → ⊥
@@ -734,7 +769,7 @@ module _ (serial : ℕ) (o : OnlineFacts) (rack : Rack) (on : Reel) (on_is : ree
       opens_ok new after d said.tied said.reads (said.refused.kept (λ no. let it : ⊥ = cc in it)) begins
       (Causes-for (λ p. p) (λ p. p) (λ no. absurd (let it : ⊥ = cc in it)) (λ no. absurd no) said.causes) (omega (arith, room, capacity)) said.keeps
   by_answer right new after (Err Stopped) said =
-      cut new after said.tied said.reads said.causes.size (said.causes.writes_rose refl) right (said.stopped refl) said.causes.arms said.causes.later (said.causes.reads_kept (λ no. no)) said.keeps said.refused
+      cut new after said.tied said.reads said.causes.size (said.causes.writes_rose refl) right (said.stopped refl) said.refused said.causes.arms said.causes.later (said.causes.reads_kept (λ no. no)) said.keeps
   by_answer right new after (Err TapeReadFault) said = couldnt_read new after said.tied said.reads said.left said.keeps said.refused
   by_answer right new after (Err (TapeFull need room)) said = too_short new after said.tied said.reads right need room said.left said.keeps said.refused
   by_answer right new after (Err NoMemory) said = forgetful new after said.tied said.reads said.left said.keeps said.refused

@@ -1,23 +1,32 @@
 -- How a store answers a step of its open dump, for any answer of the dumper.
 -- serves: dump_step (dumps, event)
 use Rattle.std.proofs.Common.{◌≡◌, ℕ, ◌+◌, Bool, true, false, List, Option, Some, None, Result, Ok, Err, refl, sym, ◌∙◌, ap, arith, subst, inl, inr}
-use Rattle.std.specs.Prelude.{◌↔◌, All, IfSome, is_some}
+use Rattle.std.specs.Prelude.{◌⊎◌, ◌↔◌, All, IfSome, is_some}
 use Rattle.std.proofs.lemmas.Bool.{false≢true}
 use Rattle.g_tape.specs.Rack.{AreReels, Rack}
 use Rattle.g_plain.specs.declared.faults.StoreFault.{StoreFault}
 use Rattle.g_plain.specs.declared.faults.StoreFault.TheVariants.{DiscReadFault, Stopped}
-use Rattle.g_disc_contents.specs.Facts.{IsPinOf, OnlineFacts, Pin}
+use Rattle.g_disc_contents.specs.Contents.{Holds}
+use Rattle.g_disc_contents.specs.Durable.{IsDurable}
+use Rattle.g_disc_contents.specs.Facts.{IsPinOf, IsTied, OnlineFacts, Pin}
+use Rattle.g_online.specs.Change.{closed}
+use Rattle.g_online.specs.declared.fault.OnlineFault.TheVariants as online
 use Rattle.g_online.specs.Outcomes.{HasClosed}
+use Rattle.g_online.specs.Pins.{IsClosing}
+use Rattle.g_incr.specs.Plan.{needs}
 use Rattle.g_store_model.specs.State as state
 use Rattle.g_store_model.specs.DumpSteps.{Completed, Going, Stepped}
 use Rattle.g_store_meaning.specs.Answers.{Belongs, IsStore, Told, WroteCommits}
 use Rattle.g_store_meaning.specs.Reading.{StandsForState}
 use Rattle.g_store_meaning.specs.StoreInvariant.{DumpFacts, IsOpen, StoreFacts, content_in}
+use Rattle.g_store_meaning.specs.Surviving.{SurvivesOnDisc}
+use Rattle.g_store_calls.proofs.SurvivalLemmas.{stays_durable}
 use Rattle.g_dumper.specs.Invariant.{KeepsStore, behind_step, spent_with, up_with}
-use Rattle.g_dumper.specs.Steps.{Stepping}
-use Rattle.g_dumper.proofs.KeepLemmas.{content_told}
+use Rattle.g_dumper.specs.Steps.{Stepping, WroteBlock}
+use Rattle.g_dumper.proofs.KeepLemmas.{content_told, keeps_step}
 use Rattle.g_store.specs.Dumping.{KeepsDumps, LeavesOpen, is_stop_at}
-use Rattle.g_store.specs.Events.{IsStepOfDump, LeadsBy, StepsBy, StepsDump, WroteBy, commits_of_step}
+use Rattle.g_store.specs.Events.{IsAnsweredBy, IsStepOfDump, LeadsBy, StepsBy, StepsDump, WroteBy, commits_of_step}
+use Rattle.g_store.proofs.LossLemmas.{IsStoppedWith, belongs_left, commit_survives, leads_left, rack_survives}
 use Rattle.g_store.proofs.ShelvesLemmas.{adds}
 use Rattle.g_store.proofs.SteppedLemmas.{abandons, completes, goes, stops, stops_closing}
 
@@ -88,6 +97,74 @@ module _ (d : DumpFacts) (o : OnlineFacts) (old : Rack) (reels : AreReels old.re
   by_spent d' o' new (Err DiscReadFault) step = (λ no. absurd (false≢true no), λ no. absurd (let it : ⊥ = cc in it))
   by_spent d' o' new (Err fault) never = absurd never
 
+  -- WHAT SURVIVES, if the commit after the mark was stopped
+  module _ (d' : DumpFacts) (o' : OnlineFacts) (new : Rack) (plan_is : d'.plan ≡ d.plan) (last : d.done + 1 ≡ needs d.plan) (wrote : WroteBlock d o.pins old new)
+      (closing : IsClosing d.plan.number o o' (Err online.Stopped)) where
+    abbrev Left : List (List ℕ) → Type 0
+    Left blocks = Holds blocks o.contents ⊎ Holds blocks (closed d.plan.number o)
+
+    closing_at : (x : OnlineFacts) → IsStoppedWith Left o x → IsClosing d.plan.number o x (Err online.Stopped)
+    closing_at x a = record {
+      ok = tt;
+      stopped = record { live = a.live; holds = a.holds; survives = a.survives };
+      causes = record {
+        size = a.size;
+        arms = a.arms;
+        later = a.later;
+        reads_kept = λ _. a.reads_kept;
+        reads_rose = λ no. absurd no;
+        writes_kept = λ no. absurd (no refl);
+        writes_rose = λ _. a.rose;
+      };
+      tied = a.tied;
+      told = a.tells;
+      only = refl;
+    }
+
+    closing_is : (x : OnlineFacts) → IsStoppedWith Left o x → IsAnsweredBy IsStepOfDump before (Err Stopped) (spent_with x new)
+    closing_is x a =
+        let step : Stepping d o old (Err Stopped) d' x new = (plan_is, inr (last, wrote, closing_at x a)) in
+        let kept = keeps_step d d' o x old new (Err Stopped) reels (keeps.live refl) keeps.tied is step (λ no. absurd (let it : ⊥ = cc in it)) a.tied in record {
+          step = λ told was u here. by_state d' x new (Err Stopped) step told was u here;
+          belongs = λ told was. kept.belongs told keeps was;
+        }
+
+    closing_survives : SurvivesOnDisc (IsAnsweredBy IsStepOfDump before (Err Stopped)) before (spent_with o' new)
+    closing_survives =
+        commit_survives (IsAnsweredBy IsStepOfDump before (Err Stopped)) Left before (spent_with o' new) refl
+        (record {
+          tied = closing.tied;
+          live = closing.stopped.live;
+          size = closing.causes.size;
+          tells = closing.told;
+          arms = closing.causes.arms;
+          later = closing.causes.later;
+          reads_kept = closing.causes.reads_kept (λ no. no);
+          rose = closing.causes.writes_rose refl;
+          holds = closing.stopped.holds;
+          survives = closing.stopped.survives;
+        }) closing_is
+
+  by_survives : (d' : DumpFacts) (o' : OnlineFacts) (new : Rack) (answer : Result Stepped StoreFault) → Stepping d o old answer d' o' new → KeepsStore before (behind_step answer d' o' new)
+      → SurvivesOnDisc (IsAnsweredBy IsStepOfDump before answer) before (behind_step answer d' o' new)
+  by_survives d' o' new (Ok Going) (less, dump_is, same, wrote) kept =
+      stays_durable (IsAnsweredBy IsStepOfDump before (Ok Going)) before (up_with o' new (Some d')) refl (λ durable. subst IsDurable (sym same) durable)
+  by_survives d' o' new (Ok (Completed n)) (last, number, plan_is, wrote, closing) kept =
+      stays_durable (IsAnsweredBy IsStepOfDump before (Ok (Completed n))) before (up_with o' new None) refl closing.ok.durable
+  by_survives d' o' new (Err Stopped) (plan_is, inr (last, wrote, closing)) kept = closing_survives d' o' new plan_is last wrote closing
+  by_survives d' o' new (Err Stopped) (plan_is, inl (failed, same)) kept =
+      rack_survives (IsAnsweredBy IsStepOfDump before (Err Stopped)) before o' new (sym same) (subst IsTied (sym same) keeps.tied) (ap (λ (x : OnlineFacts). x.live) same ∙ keeps.live refl)
+      (λ had left durable told may. record {
+        step = λ all was u here.
+            leads_left o' (subst IsTied (sym same) keeps.tied) (ap (λ (x : OnlineFacts). x.live) same ∙ keeps.live refl) durable had left told may new IsStepOfDump u before (Err Stopped)
+            (by_state d' o' new (Err Stopped) (plan_is, inl (failed, same)) all was u here);
+        belongs = λ all was.
+            belongs_left o' (subst IsTied (sym same) keeps.tied) (ap (λ (x : OnlineFacts). x.live) same ∙ keeps.live refl) durable had left told may new (kept.belongs all keeps was);
+      })
+  by_survives d' o' new (Err DiscReadFault) (dump_is, same, left) kept =
+      stays_durable (IsAnsweredBy IsStepOfDump before (Err DiscReadFault)) before (up_with o' new None) refl (λ durable. subst IsDurable (sym left.facts) durable)
+  by_survives d' o' new (Err fault) never kept = absurd never
+
   -- THE ANSWER
   answers : (d' : DumpFacts) (o' : OnlineFacts) (new : Rack) (answer : Result Stepped StoreFault) → Stepping d o old answer d' o' new → KeepsStore before (behind_step answer d' o' new)
       → StepsDump before answer (behind_step answer d' o' new)
@@ -98,6 +175,7 @@ module _ (d : DumpFacts) (o : OnlineFacts) (old : Rack) (reels : AreReels old.re
     told = kept.told;
     belongs = λ told was. kept.belongs told keeps was;
     spent = by_spent d' o' new answer step;
+    survives = by_survives d' o' new answer step kept;
   }
 
 -- the store after a step

@@ -29,10 +29,11 @@ use Rattle.g_laws_store.proofs.DumpingLemmas.{events_stay_up}
 use Rattle.g_laws_store.proofs.TiedLemmas.{devices_belong}
 use Rattle.g_laws_store.specs.Rooms.{held_in}
 use Rattle.g_store.specs.Refusing.{DoneOr, is_on, mount_refuses, rack_answer, unmount_refuses}
-use Rattle.g_store.specs.Events.{AnswersEvent, LeadsBy, Mounts, Unmounts}
+use Rattle.g_store.specs.Events.{AnswersEvent, IsAnsweredBy, LeadsBy, Mounts, Unmounts}
 use Rattle.g_store.proofs.EventLemmas.{held_by, leads_same, none_written, refused}
 use Rattle.g_store.proofs.MountLemmas.{dumps_stay, lacks_by, mounted_by, other_reel, rows_turned, same_reel, serials_stay, shelved_turned, told_after, told_before, told_turned, turned}
 use Rattle.g_store_calls.proofs.SeenLemmas.{Seen, seen, stands}
+use Rattle.g_store_calls.proofs.SurvivalLemmas.{stays_durable}
 
 -- THE VIEW stays right
 module _ (s : ℕ) (is : Bool) (held : Option (List (List ℕ))) (reels : List Reel) where
@@ -136,6 +137,7 @@ module _ (s : ℕ) (is : Bool) (old : StoreFacts) (unspent : old.spent ≡ false
     told = told_still s is old;
     belongs = λ told was. belongs_still keeps was;
     spent = (λ is. absurd (false≢true (sym unspent ∙ is)), λ is. absurd (let no : ⊥ = cc in no));
+    survives = stays_durable (IsAnsweredBy by old (Ok tt)) old (after s is old) unspent (λ durable. durable);
   }
     where
       leads : (u : state.State) → StandsForState old u → LeadsBy by u old (after s is old) (Ok tt)

@@ -13,6 +13,7 @@ use Rattle.g_store_model.specs.DumpSteps.{OpenStep, DumpStep, Stepped, Going, Co
 use Rattle.g_store_meaning.specs.StoreInvariant.{StoreFacts}
 use Rattle.g_store_meaning.specs.Reading.{StandsForState, holding_of}
 use Rattle.g_store_meaning.specs.Answers.{Belongs, HasCause, IsStore, Raised, Told, WroteCommits}
+use Rattle.g_store_meaning.specs.Surviving.{SurvivesOnDisc}
 use Rattle.g_disc_contents.specs.Contents.{recs_in}
 use Rattle.g_disc_contents.specs.Facts.{OnlineFacts}
 use Rattle.g_online.specs.declared.change.Change.{Change}
@@ -43,6 +44,12 @@ WroteBy count old (Ok reply) new = WroteCommits (count reply) old new
 WroteBy count old (Err Stopped) new = Unit {0}
 WroteBy count old (Err fault) new = WroteCommits 0 old new
 
+-- The event took its step to what the store represents now; and disc and rack, if they belonged together, still do. Both assume
+-- that the devices expose their contents and belong together before the event.
+pub record IsAnsweredBy {A : Type 0} (by : State → Holding → Outcome → Result A StoreFault → State → Type 0) (old : StoreFacts) (answer : Result A StoreFault) (new : StoreFacts) : Type 0 where
+  pub step : Told old → Belongs old → (s : State) → StandsForState old s → StepsBy by s old answer new
+  pub belongs : Told old → Belongs old → Belongs new
+
 -- How an event is answered. The clauses on its step, on exposed contents and on belonging together assume that the devices
 -- satisfy this before the event; the others always hold.
 pub record AnswersEvent {A : Type 0} (by : State → Holding → Outcome → Result A StoreFault → State → Type 0) (count : A → ℕ) (old : StoreFacts) (answer : Result A StoreFault) (new : StoreFacts) : Type 0 where
@@ -52,6 +59,8 @@ pub record AnswersEvent {A : Type 0} (by : State → Holding → Outcome → Res
   pub told : Told old → Told new
   pub belongs : Told old → Belongs old → Belongs new
   pub spent : (new.spent ≡ true) ↔ (answer ≡ Err Stopped)
+  -- after a failed write, the event was answered as if that write had left what a power loss leaves on the disc
+  pub survives : SurvivesOnDisc (IsAnsweredBy by old answer) old new
 
 -- What an opening can answer if nothing refuses it before the reel is read.
 abbrev pub IsOfOpening : StoreFault → Type 0
