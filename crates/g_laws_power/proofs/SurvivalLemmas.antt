@@ -7,6 +7,7 @@ use Rattle.std.proofs.lemmas.Option.{same_Some}
 use Rattle.g_disc.specs.Durable.{MayLeave}
 use Rattle.g_tape.specs.Rack.{Rack}
 use Rattle.g_tape.specs.Reads.{OnlyReads}
+use Rattle.g_tape.specs.Reel.{Reel}
 use Rattle.g_tape.specs.Risk.{Leaves, Risk, risk}
 use Rattle.g_tape.proofs.ReadLemmas.{blocks_after_reads}
 use Rattle.g_plain.specs.declared.calls.StoreCall.{StoreCall}

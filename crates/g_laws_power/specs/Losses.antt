@@ -1,5 +1,5 @@
 -- What a power loss leaves of the devices of a store.
-use Rattle.std.specs.Prelude.{◌≡◌, ℕ, false, List, [], Option, Result, Some, Err, is_some}
+use Rattle.std.specs.Prelude.{◌≡◌, ℕ, true, false, List, [], Option, Result, Some, Err, is_some}
 use Rattle.std.specs.List.{AllZip}
 use Rattle.std.specs.Option.{ForSome}
 use Rattle.g_dirs.specs.Durable.{IsDiscSafe}
