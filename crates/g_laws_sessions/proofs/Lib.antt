@@ -1,5 +1,6 @@
 pub mod AfterLemmas
 pub mod EarlyLemmas
 pub mod LineLemmas
+mod MarkLemmas
 pub mod ScriptLemmas
 pub mod SessionLemmas

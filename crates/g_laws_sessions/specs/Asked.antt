@@ -15,7 +15,7 @@ use Rattle.g_typing.specs.declared.query.Query.TheVariants as query
 abbrev pub own_line : List ℕ → List ℕ
 own_line what = ended (codes "? " ++ what)
 
--- the console's own lines: no line of a run begins with `?`
+-- the console's own lines (that no line of a run begins with `?` is only tested)
 abbrev pub tick_line : ℕ → List ℕ
 tick_line count = ended (codes "? TICK " ++ decimal count)
 
@@ -38,12 +38,12 @@ dump_line None = []
 dump_line (Some number) = ended ((codes "? DUMP " ++ decimal number) ++ codes " OPEN")
 
 -- the first line of a text
+abbrev pub first_in : List (List ℕ) → List ℕ
+first_in [] = []
+first_in (line ∷ lines) = line
+
 abbrev pub first_line : List ℕ → List ℕ
 first_line text = first_in (lines_of text)
-  where
-    first_in : List (List ℕ) → List ℕ
-    first_in [] = []
-    first_in (line ∷ lines) = line
 
 -- the terminal of a job
 abbrev pub seat_text : Option ℕ → List ℕ

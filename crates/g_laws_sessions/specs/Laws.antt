@@ -12,7 +12,8 @@ use Rattle.g_store_model.specs.State.{State}
 use Rattle.g_run_model.specs.Laws.{HasDumped, IsPlain, charges_of}
 use Rattle.g_run_model.specs.Moves.{Move, Run}
 use Rattle.g_run_model.specs.World.{World, start}
-use Rattle.g_laws_sessions.specs.Session.{Comes, Exchange, Exchanges, IsOwn, Moment, Nothing, Piece, Then, Took, taken, text_in, told_in}
+use Rattle.g_laws_sessions.specs.Asked.{AreOwnLines}
+use Rattle.g_laws_sessions.specs.Session.{Comes, Exchange, Exchanges, IsOwn, Moment, Nothing, Own, Piece, Then, Told, Took, taken, text_in, told_in}
 use Rattle.g_typing.specs.Typed.{AtTime}
 
 -- A SCRIPT IS TYPED, each item with its time: the session is the run of that script, with the times that were typed
@@ -20,6 +21,14 @@ abbrev pub IsScript : Exchanges → Type 0
 IsScript Nothing = Unit {0}
 IsScript (Then said (Took item AtTime)) = IsScript said
 IsScript (Then said exchange) = ⊥
+
+-- THE CONSOLE'S OWN LINES in a session's text consist of lines that begin with `?` and a space
+abbrev pub IsMarked : Piece → Type 0
+IsMarked (Told text) = Unit {0}
+IsMarked (Own text) = AreOwnLines text
+
+abbrev pub OwnLinesAreMarked : Type 0
+OwnLinesAreMarked = (piece : Piece) → IsOwn piece → IsMarked piece
 
 module _ {F U : Type 0} (tariffs : Shared F (Bor Usage × Unit {0}) Charge) (tariff : F) (rules : Shared U (Bor Standing × Unit {0}) ℕ) (rule : U) where
   -- A SESSION IS A RUN of its script, to the same world, whose text is what was printed without the console's own lines
