@@ -1,2 +1,3 @@
+mod EventLemmas
 mod LeftLemmas
 mod SurvivalLemmas

@@ -1,5 +1,5 @@
 -- What a power loss leaves of a store between two calls, and after a call that was stopped.
--- serves: power_losses (between, left, making, safe, stopped)
+-- serves: power_losses (between, left, making, safe, stopped), EventLemmas
 use Rattle.std.proofs.Common.{◌≡◌, ℕ, ◌<◌, Bool, true, false, List, Option, Some, None, Err, is_some, refl, sym, ◌∙◌, ap, subst, inl, true≢false}
 use Rattle.std.specs.Prelude.{All, IfSome, Result}
 use Rattle.std.proofs.lemmas.List.Elements.{All-weaker}
@@ -41,7 +41,7 @@ up_view s u unspent here =
     subst (λ (b : Bool). Stands b s.online s.dump u (told_reels s.rack)) unspent (to s.spent s.online s.dump u s.rack here) in
     let (v, view, opened, same) = is in (v, view, same)
 
-spent_view : (s : StoreFacts) (u : State) → s.spent ≡ true → StandsForState s u → DevicesStandFor s.online.disc.size s.online.disc.held (told_reels s.rack) u
+pub spent_view : (s : StoreFacts) (u : State) → s.spent ≡ true → StandsForState s u → DevicesStandFor s.online.disc.size s.online.disc.held (told_reels s.rack) u
 unfolding Stands
 spent_view s u spent here =
     let is : Stands true s.online s.dump u (told_reels s.rack) =
@@ -98,7 +98,7 @@ store_survives s blocks rack safe left = (
 )
 
 -- AFTER A CALL: the reels were only read
-survive_call : (old new : StoreFacts) → IsSafe old → OnlyReads old.rack new.rack → (n : ℕ) → DumpsSurvive n new.rack
+pub survive_call : (old new : StoreFacts) → IsSafe old → OnlyReads old.rack new.rack → (n : ℕ) → DumpsSurvive n new.rack
 survive_call old new safe only n = survive_reads n old.rack new.rack only.durable (blocks_after_reads n old.rack new.rack only) (safe.dumps.up safe.up n)
 
 -- that was stopped
@@ -136,7 +136,7 @@ pub stopped_calls_survive : StoppedCallsSurvive
 stopped_calls_survive old new who call blocks rack safe answers left = call_survives old new who call blocks rack safe answers left
 
 -- that wasn't
-still_begun : (old new : Rack) → OnlyReads old new → (dump : Option DumpFacts) → IfSome dump (λ d. 0 < d.done → IsBegunDurably d.plan.serial d.plan.place d.done old)
+pub still_begun : (old new : Rack) → OnlyReads old new → (dump : Option DumpFacts) → IfSome dump (λ d. 0 < d.done → IsBegunDurably d.plan.serial d.plan.place d.done old)
     → IfSome dump (λ d. 0 < d.done → IsBegunDurably d.plan.serial d.plan.place d.done new)
 still_begun old new only None is = tt
 still_begun old new only (Some d) is = λ some. begun_reads d.plan.serial d.plan.place d.done old new only.durable (blocks_after_reads d.plan.serial old new only) (is some)

@@ -1,0 +1,8 @@
+use Rattle.g_laws_power.proofs.EventLemmas.{events_keep_safe, stopped_events_survive}
+use Rattle.g_laws_power.proofs.event_losses.Goals as goal
+
+pub returns-clause-stopped : goal.returns-clause-stopped
+returns-clause-stopped c = stopped_events_survive
+
+pub returns-clause-safe : goal.returns-clause-safe
+returns-clause-safe c = events_keep_safe
