@@ -27,6 +27,7 @@ use Rattle.g_store_meaning.specs.Meaning.{told_reels}
 use Rattle.g_store_meaning.specs.Reading.{AllTold, DevicesStandFor, HasText, IsView, StandsForState, View, state_up}
 use Rattle.g_store_meaning.specs.StoreInvariant.{DumpFacts, StoreFacts}
 use Rattle.g_store_meaning.specs.Surviving.{AreDumpsSafe, DumpsMadeSafe, with_disc_left}
+use Rattle.g_store_meaning.proofs.SafeLemmas.{safe_then_read}
 use Rattle.g_store_meaning.proofs.ViewLemmas.{Stands, to}
 use Rattle.g_laws_store.proofs.TiedLemmas.{holds_after_loss}
 use Rattle.g_laws_power.specs.Losses.{CallsKeepSafe, IsLeft, IsSafe, LeftIsDurable, MakingIsSafe, StoppedCallsSurvive, StopsLike, StoreSurvives}
@@ -198,5 +199,15 @@ making_is_safe = record {
         belongs = makes.belongs can.told can.belong;
         disc = makes.durable had at can.disc_safe;
         dumps = made_dumps rack new makes.no_dump can.dumps made;
+      };
+  format = λ disc rack new told disc_safe survive formats.
+      let makes = formats.makes in
+      let (had, at) = some_of disc.held told.disc in record {
+        told = makes.told told;
+        store = makes.keeps;
+        up = makes.running;
+        belongs = makes.belongs told tt;
+        disc = makes.durable had at disc_safe;
+        dumps = made_dumps rack new makes.no_dump (λ serial. inl (survive serial)) (safe_then_read rack rack new.rack (λ serial _. survive serial) makes.tapes);
       };
 }

@@ -22,7 +22,7 @@ use Rattle.g_store_meaning.specs.Meaning.{told_reels}
 use Rattle.g_store_meaning.specs.Reading.{AllTold, DevicesStandFor, StandsForState}
 use Rattle.g_store_meaning.specs.StoreInvariant.{StoreFacts}
 use Rattle.g_store_meaning.specs.Surviving.{AreDumpsSafe, DumpsMadeSafe, disc_left}
-use Rattle.g_store.specs.Making.{Begun, Restored}
+use Rattle.g_store.specs.Making.{Begun, Formats, Restored}
 
 -- A reel after a power loss: it isn't mounted, and has blocks that the loss may leave.
 pub record IsReelLeft (old : Rack) (was now : Reel) : Type 0 where
@@ -101,10 +101,12 @@ pub record CanBeSafe (disc : DiscState) (rack : Rack) : Type 0 where
   pub disc_safe : IsDiscSafe disc
   pub dumps : (serial : ℕ) → CanSurvive serial rack
 
--- START AND RESTORE MAKE A SAFE STORE of such devices
+-- START AND RESTORE MAKE A SAFE STORE of such devices. So does FORMAT of any safe disc, if the dumps of the rack survive a power loss already:
+-- it doesn't make the rack durable.
 pub record MakingIsSafe : Type 0 where
   pub start : (disc : DiscState) (rack : Rack) (adopted : Option ℕ) (new : StoreFacts) → CanBeSafe disc rack → Begun disc rack adopted new → DumpsMadeSafe rack new.rack → IsSafe new
   pub restore : (disc : DiscState) (rack : Rack) (number : ℕ) (new : StoreFacts) → CanBeSafe disc rack → Restored disc rack number new → DumpsMadeSafe rack new.rack → IsSafe new
+  pub format : (disc : DiscState) (rack : Rack) (new : StoreFacts) → AllTold disc.held (told_reels rack) → IsDiscSafe disc → ((serial : ℕ) → DumpsSurvive serial rack) → Formats disc rack new → IsSafe new
 
 -- WHAT A POWER LOSS LEAVES IS DURABLE: the disc is safe, and the dumps survive the next power loss.
 abbrev pub LeftIsDurable : Type 0
