@@ -3,6 +3,7 @@
 //! their durability either: it is a property of bytes that are observable.
 ghost use Rattle.std.specs.Prelude.{None};
 ghost use Rattle.g_files.specs.Durability.{all_durable};
+ghost use Rattle.g_files.specs.StoredSectors.{none_read, none_whole};
 
 use crate::names::{FileId, id_of};
 use g_files::{RawFile, RawInput, RawOutput};
@@ -36,6 +37,10 @@ impl RawFile for HostFile {
     ghost content = { λ f. None };
 
     ghost durability = { λ f. all_durable };
+
+    ghost remnants = { λ f. none_whole };
+
+    ghost read_left = { λ f. none_read };
 
     /// `InvalidData` unless it is a plain file: anything else has no length.
     fn len(&mut self) -> io::Result<u64> {

@@ -1,5 +1,5 @@
 -- What calls on a file do to the blocks of it that count.
--- serves: append (done, front, left), cut (front), cut_tail (same), drop_from (done, left), drop_last (bytes, front), end_with (done, left), and 3 more
+-- serves: append (done, front, left), cut (front), cut_tail (same), drop_from (done, left, written), drop_last (bytes, front), and 8 more
 use Rattle.std.proofs.Common.{◌≡◌, ◌⊎◌, ℕ, zero, suc, ◌+◌, ◌*◌, ◌<◌, ◌≤◌, List, [], ◌∷◌, ◌++◌, length, take, drop, Result, Ok, Err, is_ok, true, OnOk, OnErr, Some, None, refl, sym, ap, subst, ◌∙◌, inl, inr, arith, add-one, length-drop}
 use Rattle.std.specs.Prelude.{Option, option_map}
 use Rattle.std.specs.Option.{ForSome}
@@ -15,7 +15,7 @@ use Rattle.g_files.proofs.FrontLemmas.{changes_none, changes_then, cut_keeps, ke
 
 -- BLOCKS OF TWO FILES WITH A COMMON FRONT
 
-blocks_front : (n k : ℕ) (x y : List ℕ) → k ≤ n → take (512 * k) x ≡ take (512 * k) y → blocks_of k x ≡ take k (blocks_of n y)
+pub blocks_front : (n k : ℕ) (x y : List ℕ) → k ≤ n → take (512 * k) x ≡ take (512 * k) y → blocks_of k x ≡ take k (blocks_of n y)
 blocks_front n zero x y few same = refl
 blocks_front zero (suc k) x y few same = absurd (omega (arith, few))
 blocks_front (suc n) (suc k) x y few same =

@@ -1,5 +1,5 @@
 -- A file's bytes as blocks.
--- serves: DiscLemmas, FileReelLemmas
+-- serves: DiscLemmas, FileReelLemmas, RackRiskLemmas, ReelRiskLemmas, RiskLemmas, SectorLemmas
 use Rattle.std.proofs.Common.{◌≡◌, ℕ, zero, suc, ◌+◌, ◌-◌, ◌*◌, ◌<◌, ◌≤◌, List, length, take, drop, get_or, set, Some, refl, sym, ap, ◌∙◌, inl, inr, arith, length-set}
 use Rattle.std.specs.Prelude.{slice_get, slice_set}
 use Rattle.std.proofs.lemmas.List.{same_lists, drop-drop, take_all, get_or-set_same, get_or-set_other}

@@ -1,5 +1,5 @@
 -- Bytes that are written into others, and parts of them.
--- serves: copy (copied), write_at, write_block (torn), write_whole, BlockFileLemmas, BlockLemmas, CallLemmas, DiscLemmas, FileRackLemmas, and 5 more
+-- serves: copy (copied), write_at, write_block (torn), write_whole, BlockFileLemmas, BlockLemmas, CallLemmas, DiscLemmas, FileRackLemmas, and 6 more
 use Rattle.std.proofs.Common.{◌≡◌, ℕ, ◌+◌, ◌-◌, ◌<◌, ◌≤◌, List, [], ◌++◌, length, take, drop, get_or, refl, sym, ap, ◌∙◌, inl, inr, arith, length-append, length-take, length-drop}
 use Rattle.std.proofs.lemmas.List.{same_lists, get_or_past, append-nil, take-append-drop, get_or_append_left, get_or-append_right, get_or-take, get_or-drop, length-take-le, take-take, take_all}
 use Rattle.std.proofs.lemmas.Bool.{cases_lt}

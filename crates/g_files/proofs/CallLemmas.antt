@@ -1,5 +1,5 @@
 -- What several reads or writes do one after another, and what a mixture of old and new bytes is.
--- serves: buffer (written), cut (front), end_with (done, front, left), read, read_whole, secure, write (durability, written), write_at (written), and 7 more
+-- serves: buffer (written), cut (begun, front, kept, secured, stored), end_with (done, front, kept, left, orderly, stored), read, read_whole, and 13 more
 use Rattle.std.proofs.Common.{◌≡◌, ℕ, ◌+◌, ◌-◌, ◌<◌, ◌≤◌, List, [], ◌++◌, length, take, drop, get_or, Result, Ok, Err, is_err, false, true, OnErr, OnOk, Some, None, refl, sym, ap, subst, ◌∙◌, inl, inr, arith, length-append, length-drop}
 use Rattle.std.specs.Prelude.{Option, option_map}
 use Rattle.std.specs.Option.{ForSome}

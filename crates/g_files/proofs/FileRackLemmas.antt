@@ -1,5 +1,5 @@
 -- The calls of a rack of files, by what was done to the reel of the serial.
--- serves: finish_all, mount, place_of, push_reel (rack), read, secure, serial, unmount, write
+-- serves: finish_all, mount, place_of, push_reel (rack), read, secure, serial, unmount, write, RackRiskLemmas
 use Rattle.std.proofs.Common.{◌≡◌, ◌⊎◌, ℕ, suc, ◌==◌, ◌||◌, not, nat_lt, if◌then◌else◌, true, false, ◌+◌, ◌-◌, ◌<◌, ◌≤◌, List, [], ◌∷◌, ◌++◌, Bool, Option, Some, None, is_some, Result, Ok, Err, OnOk, OnErr, length, take, map, get_or, inl, inr, refl, ap, subst, sym, ◌∙◌, arith, length-append, length-set, length-take}
 use Rattle.std.specs.Prelude.{All, slice_get}
 use Rattle.std.specs.Result.{result_and}
@@ -27,6 +27,7 @@ use Rattle.g_tape.specs.declared.fault.TapeFault.TheVariants.{End, NoTape, NotMo
 use Rattle.g_tape.specs.Reel.{IsReel, Reel, Remains, Shortened, Torn, Unchanged, ending, left_by, read_at, with_mounted}
 use Rattle.g_tape.specs.Rack.{AreReels, Mounting, Rack, Reading, Securing, Writing, reel, refuses_read, refuses_write, with_reel}
 use Rattle.g_tape.specs.Place.{IsPlaceOf}
+use Rattle.g_tape.specs.Risk.{Risk}
 use Rattle.g_tape.proofs.PlaceLemmas.{reel-first}
 use Rattle.g_tape.proofs.RackLemmas.{AreReels-set, with_reel-place}
 
@@ -40,8 +41,8 @@ unread k r untold =
     let there : x ≡ y = cc in there ∙ ap (read_at k) (sym there)
 
 -- a rack of these reels
-abbrev pub rack : ℕ → ℕ → Option ℕ → Arms → List Reel → Rack
-rack reads writes fuse arms reels = record { reels = reels; read_faults = reads; write_faults = writes; fuse = fuse; arms = arms; risks = [] }
+abbrev pub rack : ℕ → ℕ → Option ℕ → Arms → List Reel → List Risk → Rack
+rack reads writes fuse arms reels risks = record { reels = reels; read_faults = reads; write_faults = writes; fuse = fuse; arms = arms; risks = risks }
 
 module _ {A : Type 0} (f : A → Reel) (s k i : ℕ) (items : List A) (was now : A) (place : IsPlaceOf s (map f items) i) (is : was ≡ get_or items i was) where
   within : i < length items
@@ -76,63 +77,76 @@ module _ {A : Type 0} (f : A → Reel) (s k i : ℕ) (items : List A) (was now :
   reels_set are new serial =
       subst AreReels (sym (map-set f items i now)) (AreReels-set (map f items) i (f was) (f now) are place.within there (λ kept. new) serial)
 
-  module _ (reads writes : ℕ) (fuse : Option ℕ) (arms : Arms) where
-    pub mount_done : (mounted : Bool) (refuses : Option Reel → Option TapeFault) → refuses (Some (f was)) ≡ None → f now ≡ with_mounted mounted (f was)
-        → Mounting refuses mounted s (rack reads writes fuse arms (map f items)) (Ok tt) (rack reads writes fuse arms (map f (set items i now)))
-    mount_done mounted refuses free value =
-        (ap refuses found ∙ free, ap (rack reads writes fuse arms) (changed_at (with_mounted mounted) value))
+  module _ (h : A → Risk) (reads writes : ℕ) (fuse : Option ℕ) (arms : Arms) where
+    abbrev pub before : Rack
+    before = rack reads writes fuse arms (map f items) (map h items)
+
+    abbrev pub risks : List Risk
+    risks = map h (set items i now)
+
+    same_risks : h now ≡ h was → risks ≡ map h items
+    same_risks value = map-set_same h items i now was (value ∙ ap h is)
+
+    pub mount_done : (mounted : Bool) (refuses : Option Reel → Option TapeFault) → refuses (Some (f was)) ≡ None → f now ≡ with_mounted mounted (f was) → h now ≡ h was
+        → Mounting refuses mounted s before (Ok tt) (rack reads writes fuse arms (map f (set items i now)) risks)
+    mount_done mounted refuses free value risk = (
+      ap refuses found ∙ free,
+      ap (λ (rs : List Reel). rack reads writes fuse arms rs risks) (changed_at (with_mounted mounted) value)
+          ∙ ap (rack reads writes fuse arms (with_reel s (with_mounted mounted) (map f items))) (same_risks risk),
+    )
 
     pub read_done : (into : List ℕ) → refuses_read k (Some (f was)) ≡ None → ForSome (f was).blocks (λ bs. slice_get bs k ≡ Some into)
-        → (f was).times_read ≡ None → f now ≡ f was
-        → Reading s k (rack reads writes fuse arms (map f items)) (Ok tt) into (rack reads writes fuse arms (map f (set items i now)))
-    read_done into allowed block no_times value = (
+        → (f was).times_read ≡ None → f now ≡ f was → h now ≡ h was
+        → Reading s k before (Ok tt) into (rack reads writes fuse arms (map f (set items i now)) risks)
+    read_done into allowed block no_times value risk = (
       ap (refuses_read k) found ∙ allowed,
       λ r at. let one : Some (f was) ≡ Some r = sym found ∙ at in let same : f was ≡ r = cc in
           subst (λ (x : Reel). ForSome x.blocks (λ bs. slice_get bs k ≡ Some into)) same block,
-      ap (rack reads writes fuse arms) (changed_at (read_at k) (value ∙ unread k (f was) no_times)),
+      ap (λ (rs : List Reel). rack reads writes fuse arms rs risks) (changed_at (read_at k) (value ∙ unread k (f was) no_times))
+          ∙ ap (rack reads writes fuse arms (with_reel s (read_at k) (map f items))) (same_risks risk),
     )
 
-    pub read_failed : (into : List ℕ) (faults : ℕ) → refuses_read k (Some (f was)) ≡ None → f now ≡ f was → faults ≡ one_more reads
-        → Reading s k (rack reads writes fuse arms (map f items)) (Err ReadFailed) into (rack faults writes fuse arms (map f (set items i now)))
-    read_failed into faults allowed value more = (
+    pub read_failed : (into : List ℕ) (faults : ℕ) → refuses_read k (Some (f was)) ≡ None → f now ≡ f was → h now ≡ h was → faults ≡ one_more reads
+        → Reading s k before (Err ReadFailed) into (rack faults writes fuse arms (map f (set items i now)) risks)
+    read_failed into faults allowed value risk more = (
       ap (refuses_read k) found ∙ allowed,
       record { more = omega (arith, more) },
-      ap (rack faults writes fuse arms) (same_at value),
+      ap (λ (rs : List Reel). rack faults writes fuse arms rs risks) (same_at value) ∙ ap (rack faults writes fuse arms (map f items)) (same_risks risk),
     )
 
     pub write_done : (block : List ℕ) (left : Option ℕ) → refuses_write k (Some (f was)) ≡ None → f now ≡ ending k block (f was) → left ≡ burnt fuse
         → (fuse ≡ Some 1 → ⊥)
-        → Writing s k block (rack reads writes fuse arms (map f items)) (Ok tt) (rack reads writes left arms (map f (set items i now)))
+        → Writing s k block before (Ok tt) (rack reads writes left arms (map f (set items i now)) risks)
     write_done block left allowed value burns good = (
       ap (refuses_write k) found ∙ allowed,
       good,
-      ap (rack reads writes left arms) (changed_at (ending k block) value)
-          ∙ ap (λ (z : Option ℕ). rack reads writes z arms (with_reel s (ending k block) (map f items))) burns,
+      ap (λ (rs : List Reel). rack reads writes left arms rs risks) (changed_at (ending k block) value)
+          ∙ ap (λ (z : Option ℕ). rack reads writes z arms (with_reel s (ending k block) (map f items)) risks) burns,
     )
 
     pub write_failed : (block : List ℕ) (left : Option ℕ) (faults : ℕ) → refuses_write k (Some (f was)) ≡ None
         → ((how : Remains) × (f now ≡ left_by how k (f was))) → left ≡ burnt fuse → faults ≡ one_more writes
-        → Writing s k block (rack reads writes fuse arms (map f items)) (Err WriteFailed) (rack reads faults left arms (map f (set items i now)))
+        → Writing s k block before (Err WriteFailed) (rack reads faults left arms (map f (set items i now)) risks)
     write_failed block left faults allowed (how, value) burns more = (
       ap (refuses_write k) found ∙ allowed,
       record { more = omega (arith, more) },
       (
         how,
-        ap (rack reads faults left arms) (changed_at (left_by how k) value)
-            ∙ ap (λ (z : Option ℕ). rack reads faults z arms (with_reel s (left_by how k) (map f items))) burns,
+        ap (λ (rs : List Reel). rack reads faults left arms rs risks) (changed_at (left_by how k) value)
+            ∙ ap (λ (z : Option ℕ). rack reads faults z arms (with_reel s (left_by how k) (map f items)) risks) burns,
       ),
     )
 
     -- a reel that was made durable is the reel that it was
-    pub secure_done : f now ≡ f was → Securing s (rack reads writes fuse arms (map f items)) (Ok tt) (rack reads writes fuse arms (map f (set items i now)))
-    secure_done value = (ap is_some found, ap (rack reads writes fuse arms) (same_at value))
+    pub secure_done : f now ≡ f was → Securing s before (Ok tt) (rack reads writes fuse arms (map f (set items i now)) risks)
+    secure_done value = (ap is_some found, ap (λ (rs : List Reel). rack reads writes fuse arms rs risks) (same_at value))
 
     pub secure_failed : (faults : ℕ) → f now ≡ f was → faults ≡ one_more reads
-        → Securing s (rack reads writes fuse arms (map f items)) (Err ReadFailed) (rack faults writes fuse arms (map f (set items i now)))
+        → Securing s before (Err ReadFailed) (rack faults writes fuse arms (map f (set items i now)) risks)
     secure_failed faults value more = (
       ap is_some found,
       record { more = omega (arith, more) },
-      ap (rack faults writes fuse arms) (same_at value),
+      ap (λ (rs : List Reel). rack faults writes fuse arms rs risks) (same_at value),
     )
 
 -- REFUSALS

@@ -1,5 +1,5 @@
 -- What calls preserve of a file's first bytes, and its last block.
--- serves: cut_at (cut, done), extend (front), fill (last), put_once (front), write_again, BlockFileLemmas
+-- serves: cut_at (cut, done), extend (front), fill (last), put_once (front), write_again, BlockFileLemmas, RiskLemmas, SectorLemmas
 use Rattle.std.proofs.Common.{◌≡◌, ℕ, ◌+◌, ◌-◌, ◌<◌, ◌≤◌, List, ◌++◌, length, take, drop, replicate, get_or, Result, Ok, Err, OnOk, Some, None, refl, sym, ap, subst, ◌∙◌, inl, inr, arith, length-append, length-take}
 use Rattle.std.specs.Prelude.{Option}
 use Rattle.std.specs.Option.{ForSome}
@@ -34,7 +34,7 @@ keeps_less n m x y less keeps = record {
   same = sym (take-take n m y less) ∙ ap (take n) keeps.same ∙ take-take n m x less;
 }
 
-keeps_padded : (n m : ℕ) (b : List ℕ) → n ≤ m → n ≤ length b → KeepsFront n b (padded m b)
+pub keeps_padded : (n m : ℕ) (b : List ℕ) → n ≤ m → n ≤ length b → KeepsFront n b (padded m b)
 keeps_padded n m b few long = record {
   long = omega (arith, few, length-padded m b);
   same = take-take n m (b ++ replicate (m - length b) 0) few ∙ take-append-le n b (replicate (m - length b) 0) long;
@@ -59,13 +59,8 @@ cut_keeps n x y (m, few, long, is) = record {
 
 pub set_cuts : {E : Type 0} (n : ℕ) (r : Result (Unit {0}) E) (b a : List ℕ) → n ≤ length b → HasCut n r b a → IsCut n b a
 set_cuts n (Ok done) b a long is = (n, omega arith, long, is ∙ padded_take n b long)
-set_cuts n (Err e) b a long (m, least, most, is) =
-    let low : n ≤ m = omega (arith, least, long) in
-    let high : m ≤ length b = elim most [
-      | inl under ↦ omega (arith, under, long)
-      | inr under ↦ under
-    ] in
-    (m, low, high, is ∙ padded_take m b high)
+set_cuts n (Err e) b a long (inl same) = (length b, long, omega arith, same ∙ sym (take_all (length b) b (omega arith)))
+set_cuts n (Err e) b a long (inr is) = (n, omega arith, long, is ∙ padded_take n b long)
 
 pub set_long : {E : Type 0} (n : ℕ) (r : Result (Unit {0}) E) (x y : Option (List ℕ)) → Changes (HasCut n r) x y → OnOk r (ForSome y (λ b. length b ≡ n))
 set_long {E = E} n (Ok done) x y c = λ b is. let f = Changes-back (HasCut {E = E} n (Ok done)) x y c b is in ap length f.2 ∙ length-padded n f.0
@@ -73,7 +68,8 @@ set_long n (Err e) x y c = tt
 
 pub set_keeps : {E : Type 0} (n m : ℕ) (r : Result (Unit {0}) E) (b a : List ℕ) → n ≤ m → n ≤ length b → HasCut m r b a → KeepsFront n b a
 set_keeps n m (Ok done) b a few long is = subst (KeepsFront n b) (sym is) (keeps_padded n m b few long)
-set_keeps n m (Err e) b a few long (l, least, most, is) = subst (KeepsFront n b) (sym is) (keeps_padded n l b (omega (arith, least, few, long)) long)
+set_keeps n m (Err e) b a few long (inl same) = subst (KeepsFront n b) (sym same) (record { long = long; same = refl })
+set_keeps n m (Err e) b a few long (inr is) = subst (KeepsFront n b) (sym is) (keeps_padded n m b few long)
 
 pub once_keeps : {E : Type 0} (n : ℕ) (p : List ℕ) (r : Result ℕ E) (b a : List ℕ) → n ≤ length b → HasWritten n p r b a → KeepsFront n b a
 once_keeps n p (Ok count) b a long is = subst (KeepsFront n b) (sym is) (keeps_put n (take count p) b long)

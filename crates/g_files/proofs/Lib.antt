@@ -1,6 +1,7 @@
 pub mod BlankLemmas
 pub mod BlockFileLemmas
 pub mod BlockLemmas
+pub mod BlockRiskLemmas
 pub mod BytesLemmas
 pub mod CallLemmas
 pub mod DiscLemmas
@@ -9,7 +10,13 @@ pub mod DurableBlocksLemmas
 pub mod FileRackLemmas
 pub mod FileReelLemmas
 pub mod FrontLemmas
+pub mod GrowthLemmas
 pub mod ImageLemmas
 pub mod MemoryLemmas
+pub mod RackRiskLemmas
+pub mod ReelRiskLemmas
+pub mod RiskLemmas
+pub mod SectorLemmas
 pub mod StreamLemmas
+pub mod UnseenLemmas
 pub mod WholeLemmas

@@ -10,12 +10,16 @@ use Rattle.g_base.proofs.ToldLemmas.{Changes-back}
 use Rattle.g_files.specs.Bytes.{part, put}
 use Rattle.g_files.specs.Durability.{Durability, HasSyncable, IsApart, WritesDurability}
 use Rattle.g_files.proofs.BytesLemmas.{part-part, put-part}
+use Rattle.g_files.proofs.SectorLemmas.{leaves_more}
 
 apart_rest : (at done j : ℕ) (from piece : List ℕ) → done ≤ length from → piece ≡ drop done from → IsApart at (length from) j
     → IsApart (at + done) (length piece) j
 apart_rest at done j from piece few same apart i below is =
     let long : length piece ≡ length from - done = ap length same ∙ length-drop done from in
     apart (done + i) (omega (arith, below, long, few)) (is ∙ ap (λ (m : ℕ). m / 512) (omega arith))
+
+rest_within : (done : ℕ) (from piece : List ℕ) → done ≤ length from → piece ≡ drop done from → done + length piece ≤ length from
+rest_within done from piece few same = omega (arith, few, ap (λ (p : List ℕ). length p) same, length-drop done from)
 
 -- the bytes were there already, so the first calls changed none
 rest_there : (at done : ℕ) (from piece : List ℕ) (x y : Option (List ℕ)) → ForSome x (λ b. at ≤ length b) → done ≤ length from → piece ≡ drop done from
@@ -43,6 +47,9 @@ more_ok at done n from piece x y a b c start few same told first second = record
   unchanged = λ there j was. second.unchanged (rest_there at done from piece x y start few same told there) j (first.unchanged there j was);
   kept = λ j was. second.kept j (first.kept j was);
   sound = λ was. second.sound (first.sound was);
+  sectors = λ left. leaves_more at done (length from) (length piece) a.remnants b.remnants c.remnants (rest_within done from piece few same) first.sectors second.sectors left;
+  no_other = λ there left leaves. first.no_other there left (second.no_other (rest_there at done from piece x y start few same told there) left leaves);
+  sized = λ was. second.sized (first.sized was);
 }
 
 pub more_syncable : {E : Type 0} (at done n : ℕ) (piece : List ℕ) (y : Option (List ℕ)) (b c : Durability)
@@ -66,15 +73,18 @@ more_err at done from piece r e x y a b c start few same told first second = rec
   unchanged = λ there j was. second.unchanged (rest_there at done from piece x y start few same told there) j (first.unchanged there j was);
   kept = tt;
   sound = λ was. second.sound (first.sound was);
+  sectors = λ left. leaves_more at done (length from) (length piece) a.remnants b.remnants c.remnants (rest_within done from piece few same) first.sectors second.sectors left;
+  no_other = λ there left leaves. first.no_other there left (second.no_other (rest_there at done from piece x y start few same told there) left leaves);
+  sized = tt;
 }
 
 -- the same, if the caller reports a failure
 pub writes_err : {T E T' E' : Type 0} {at : ℕ} {from : List ℕ} {x : Option (List ℕ)} {a b : Durability} (r : Result T E) (e : E')
     → WritesDurability at from x a b r → WritesDurability {T = T'} at from x a b (Err e)
-writes_err r e w = record { apart = w.apart; syncable_apart = w.syncable_apart; unchanged = w.unchanged; kept = tt; sound = w.sound }
+writes_err r e w = record { apart = w.apart; syncable_apart = w.syncable_apart; unchanged = w.unchanged; kept = tt; sound = w.sound; sectors = w.sectors; no_other = w.no_other; sized = tt }
 
 -- the same, if the caller reports success
 pub writes_ok : {E E' : Type 0} {at : ℕ} {from : List ℕ} {x : Option (List ℕ)} {a b : Durability} (r : Result (Unit {0}) E) → is_err r ≡ false
     → WritesDurability at from x a b r → WritesDurability {T = Unit {0}} {E = E'} at from x a b (Ok tt)
-writes_ok (Ok t) ok w = record { apart = w.apart; syncable_apart = w.syncable_apart; unchanged = w.unchanged; kept = w.kept; sound = w.sound }
+writes_ok (Ok t) ok w = record { apart = w.apart; syncable_apart = w.syncable_apart; unchanged = w.unchanged; kept = w.kept; sound = w.sound; sectors = w.sectors; no_other = w.no_other; sized = w.sized }
 writes_ok (Err e) ok w = absurd (cc)

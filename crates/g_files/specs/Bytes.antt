@@ -1,5 +1,5 @@
 -- A file as bytes, and as blocks of 512 bytes.
-use Rattle.std.specs.Prelude.{◌≡◌, ℕ, zero, suc, ◌+◌, ◌-◌, ◌<◌, ◌≤◌, List, [], ◌∷◌, ◌++◌, length, take, drop, replicate, slice_index}
+use Rattle.std.specs.Prelude.{◌≡◌, ℕ, zero, suc, ◌+◌, ◌-◌, ◌/◌, ◌<◌, ◌≤◌, List, [], ◌∷◌, ◌++◌, length, take, drop, replicate, slice_index}
 
 -- n bytes from position `at` on
 abbrev pub part : ℕ → ℕ → List ℕ → List ℕ
@@ -13,6 +13,10 @@ put at piece bytes = take at bytes ++ piece ++ drop (at + length piece) bytes
 abbrev pub blocks_of : ℕ → List ℕ → List (List ℕ)
 blocks_of zero bytes = []
 blocks_of (suc n) bytes = take 512 bytes ∷ blocks_of n (drop 512 bytes)
+
+-- the whole blocks of these bytes
+abbrev pub sectors_of : List ℕ → List (List ℕ)
+sectors_of bytes = blocks_of (length bytes / 512) bytes
 
 -- each number is a byte
 abbrev pub AreBytes : List ℕ → Type 0

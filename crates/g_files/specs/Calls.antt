@@ -1,5 +1,5 @@
 -- What single system calls do to a file whose bytes are observable.
-use Rattle.std.specs.Prelude.{◌≡◌, ◌⊎◌, ℕ, ◌+◌, ◌<◌, ◌≤◌, List, length, min, take, slice_index, Result, Ok, Err}
+use Rattle.std.specs.Prelude.{◌≡◌, ◌⊎◌, ℕ, ◌+◌, ◌<◌, ◌≤◌, List, length, take, slice_index, Result, Ok, Err}
 use Rattle.g_files.specs.Bytes.{padded, part, put}
 
 -- A read at position `at` returned the n bytes there. It returns none only at the end of the file.
@@ -26,7 +26,7 @@ abbrev pub HasWrittenAll : {E : Type 0} → ℕ → List ℕ → Result (Unit {0
 HasWrittenAll at from (Ok done) old new = new ≡ put at from old
 HasWrittenAll at from (Err e) old new = IsMixed at from old new
 
--- The length was to be set to n. On Ok it was; otherwise the length is any between the old one and n.
+-- The length was to be set to n. On Ok it was; otherwise it was, or nothing changed: a length is changed at once.
 abbrev pub HasCut : {E : Type 0} → ℕ → Result (Unit {0}) E → List ℕ → List ℕ → Type 0
 HasCut n (Ok done) old new = new ≡ padded n old
-HasCut n (Err e) old new = (m : ℕ) × (min n (length old) ≤ m) × ((m ≤ n) ⊎ (m ≤ length old)) × (new ≡ padded m old)
+HasCut n (Err e) old new = (new ≡ old) ⊎ (new ≡ padded n old)

@@ -1,17 +1,30 @@
 -- Which bytes of a file survive a power loss.
-use Rattle.std.specs.Prelude.{◌≡◌, ◌≢◌, ◌⊎◌, ℕ, ◌+◌, ◌*◌, ◌/◌, ◌<◌, Bool, true, not, ◌&&◌, ◌||◌, nat_le, nat_lt, List, length, Option, OnErr, OnOk, Result}
+use Rattle.std.specs.Prelude.{◌≡◌, ◌≢◌, ◌⊎◌, ℕ, ◌+◌, ◌*◌, ◌/◌, ◌<◌, ◌≤◌, Bool, true, not, ◌&&◌, ◌||◌, nat_le, nat_lt, List, [], ◌∷◌, length, slice_get, Option, Some, OnErr, OnOk, Result}
 use Rattle.std.specs.Option.{ForSome}
-use Rattle.g_files.specs.Bytes.{part}
+use Rattle.g_tape.specs.Risk.{Remnant}
+use Rattle.g_files.specs.Bytes.{part, sectors_of}
+use Rattle.g_files.specs.Sectors.{HasSectors, LeavesNoOther, LeavesResized, LeavesSectors, LeavesWritten}
 
 -- For each byte of a file: whether a power loss preserves it as reads see it, and whether it would after a sync that succeeds.
--- A byte that was written before a sync that failed, and not since, is neither: the system may consider it written.
+-- A byte that was written before a sync that failed, and not since, is neither: the system may consider it written. If the length of the
+-- file changes: what a power loss may leave of its whole sectors, and whether a sync that succeeds makes the length durable.
 pub record Durability : Type 0 where
   pub durable : ℕ → Bool
   pub syncable : ℕ → Bool
+  pub remnants : List Remnant
+  pub sized : Bool
 
--- a file all of whose bytes are durable at once
+-- a file whose bytes aren't observable: all are durable at once, and no remnant is listed
 abbrev pub all_durable : Durability
-all_durable = record { durable = λ j. true; syncable = λ j. true }
+all_durable = record { durable = λ j. true; syncable = λ j. true; remnants = []; sized = true }
+
+-- exactly these sectors
+abbrev pub remnant_of : List (List ℕ) → Remnant
+remnant_of sectors = record { front = sectors; longest = length sectors }
+
+-- a file of these bytes, all of which are durable at once
+abbrev pub stored : List ℕ → Durability
+stored bytes = record all_durable { remnants = remnant_of (sectors_of bytes) ∷ [] }
 
 -- durable bytes stay durable
 abbrev pub StayDurable : Durability → Durability → Type 0
@@ -42,13 +55,26 @@ abbrev pub IsApart : ℕ → ℕ → ℕ → Type 0
 IsApart at n j = (i : ℕ) → i < n → j / 512 ≢ (at + i) / 512
 
 -- What a write of `from` at position `at` does to bytes: it affects no other sector, and no durable byte if the range has these bytes
--- already. If it succeeds, no byte ceases to be syncable.
+-- already; then a power loss leaves nothing that it couldn't leave before. If it succeeds, no byte ceases to be syncable.
 pub record WritesDurability {T E : Type 0} (at : ℕ) (from : List ℕ) (content : Option (List ℕ)) (old new : Durability) (result : Result T E) : Type 0 where
   pub apart : (j : ℕ) → IsApart at (length from) j → old.durable j ≡ true → new.durable j ≡ true
   pub syncable_apart : (j : ℕ) → IsApart at (length from) j → old.syncable j ≡ true → new.syncable j ≡ true
   pub unchanged : ForSome content (λ bytes. from ≡ part at (length from) bytes) → StayDurable old new
   pub kept : OnOk result (StaySyncable old new)
   pub sound : DurableAreSyncable old → DurableAreSyncable new
+  pub sectors : (left : List (List ℕ)) → LeavesSectors new.remnants left → LeavesWritten at (length from) old.remnants left
+  pub no_other : ForSome content (λ bytes. from ≡ part at (length from) bytes) → LeavesNoOther old.remnants new.remnants
+  pub sized : OnOk result (old.sized ≡ true → new.sized ≡ true)
+
+-- What setting the length to n bytes does: no byte before it ceases to be durable or syncable. The device has the new length or the old
+-- one; and if the number of whole sectors didn't change, a power loss leaves nothing that it couldn't leave before.
+pub record SetsLength {T E : Type 0} (n : ℕ) (before after : Option (List ℕ)) (old new : Durability) (result : Result T E) : Type 0 where
+  pub durable : (j : ℕ) → j < n → old.durable j ≡ true → new.durable j ≡ true
+  pub syncable : (j : ℕ) → j < n → old.syncable j ≡ true → new.syncable j ≡ true
+  pub sound : DurableAreSyncable old → DurableAreSyncable new
+  pub sectors : (left : List (List ℕ)) → LeavesSectors new.remnants left → LeavesSectors old.remnants left ⊎ LeavesResized n old.remnants left
+  pub no_other : ForSome before (λ was. ForSome after (λ is. (s : ℕ) → HasSectors s was → HasSectors s is → LeavesNoOther old.remnants new.remnants))
+  pub sized : OnOk result (new.sized ≡ true)
 
 -- What a sync does: if it succeeds, all syncable bytes are durable. If it fails, those that aren't durable may not be syncable any more.
 pub record SyncsDurability {T E : Type 0} (old new : Durability) (result : Result T E) : Type 0 where
@@ -56,6 +82,15 @@ pub record SyncsDurability {T E : Type 0} (old new : Durability) (result : Resul
   pub kept : OnOk result (StaySyncable old new)
   pub synced : OnOk result (AreSynced new)
   pub sound : DurableAreSyncable old → DurableAreSyncable new
+  pub no_other : LeavesNoOther old.remnants new.remnants
+  pub sized : OnOk result (old.sized ≡ true → new.sized ≡ true)
+
+-- After a sync that succeeded, what a power loss leaves has each syncable sector as it is read, and the length of the file, if that was
+-- syncable.
+pub record AreSectorsSynced (bytes : List ℕ) (old new : Durability) : Type 0 where
+  pub whole : old.sized ≡ true → (left : List (List ℕ)) → LeavesSectors new.remnants left → HasSectors (length left) bytes
+  pub each : (i : ℕ) → HasSyncable (512 * i) 512 old → 512 * i + 512 ≤ length bytes → (left : List (List ℕ)) → LeavesSectors new.remnants left
+      → i < length left → slice_get left i ≡ Some (part (512 * i) 512 bytes)
 
 -- BYTES THAT ARE NOT WRITTEN TO THE FILE YET
 
@@ -66,7 +101,7 @@ is_within at n j = nat_le at j && nat_lt j (at + n)
 -- what reads see of a file, with n bytes from position `at` on that are only in memory: these aren't durable, and become so if they are
 -- written to the file and a sync succeeds
 abbrev pub overlaid : ℕ → ℕ → Durability → Durability
-overlaid at n d = record { durable = λ j. d.durable j && not (is_within at n j); syncable = λ j. is_within at n j || d.syncable j }
+overlaid at n d = record d { durable = λ j. d.durable j && not (is_within at n j); syncable = λ j. is_within at n j || d.syncable j }
 
 -- BLOCKS, OF 512 BYTES EACH
 

@@ -1,8 +1,12 @@
 -- A rack of reels in files.
-use Rattle.std.specs.Prelude.{List, [], None}
+use Rattle.std.specs.Prelude.{ℕ, ◌≤◌, List, None, All, length, map}
+use Rattle.std.specs.Option.{ForSome}
 use Rattle.g_base.specs.Fuse.{never}
 use Rattle.g_tape.specs.Reel.{Reel}
 use Rattle.g_tape.specs.Rack.{Rack}
+use Rattle.g_tape.specs.Reads.{MayLeave, blocks_of}
+use Rattle.g_tape.specs.Risk.{Risk}
+use Rattle.g_files.specs.ReelRisk.{risk_of}
 use Rattle.g_files.specs.Reels.{reels_of}
 use Rattle.g_files.specs.declared.file_reel.FileReel.{FileReel}
 use Rattle.g_files.specs.declared.file_tapes.FileTapes.{FileTapes}
@@ -20,9 +24,14 @@ rack_of t = record {
   write_faults = t.write_faults;
   fuse = t.fuse;
   arms = t.arms;
-  risks = [];
+  risks = map risk_of t.reels.items;
 }
 
--- a rack of these reels that was just opened
-abbrev pub opened : List Reel → Rack
-opened reels = record { reels = reels; read_faults = 0; write_faults = 0; fuse = None; arms = never; risks = [] }
+-- A power loss may leave each reel as reads see it, and no remnant is longer than it may be.
+pub record ListsWhatIsRead (rack : Rack) : Type 0 where
+  pub read : (s : ℕ) → ForSome (blocks_of s rack) (MayLeave s rack)
+  pub fits : All (λ r. All (λ m. length m.front ≤ m.longest) r.remnants) rack.risks
+
+-- a rack of these reels that was just opened, and what a power loss may leave of them
+abbrev pub opened : List Reel → List Risk → Rack
+opened reels risks = record { reels = reels; read_faults = 0; write_faults = 0; fuse = None; arms = never; risks = risks }

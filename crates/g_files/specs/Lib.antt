@@ -7,7 +7,12 @@ pub mod FileDisc
 pub mod FileReel
 pub mod FileTapes
 pub mod Front
+pub mod Growth
 pub mod Image
 pub mod MemoryFile
+pub mod ReelRisk
 pub mod Reels
+pub mod Risks
+pub mod Sectors
+pub mod StoredSectors
 pub mod Window

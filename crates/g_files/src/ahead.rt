@@ -56,6 +56,7 @@ impl ReadAhead {
         ensures owner { owner_of self.new ≡ place }
         ensures fresh { ForSome (F.content file.old) (IsFresh self.new) }
         ensures same { F.content file.new ≡ F.content file.old }
+        ensures as_durable { F.durability file.new ≡ F.durability file.old }
     {
         let in_order = self.turn_to(place, k);
         if self.blocks.copy(k, into) {
@@ -89,6 +90,7 @@ impl ReadAhead {
         ensures owner { owner_of self.new ≡ owner_of self.old }
         ensures fresh { ForSome (F.content file.old) (IsFresh self.new) }
         ensures same { F.content file.new ≡ F.content file.old }
+        ensures as_durable { F.durability file.new ≡ F.durability file.old }
     {
         if !in_order {
             self.wanted = 1;

@@ -1,8 +1,10 @@
 //! Calls on the blocks of a file: its last block is written, the file is cut at a block, and blocks are rewritten unchanged.
-ghost use Rattle.std.specs.Prelude.{◌≡◌, ◌⊎◌, ◌+◌, ◌*◌, ◌<◌, ◌≤◌, ℕ, List, OnOk, length, take, true};
+ghost use Rattle.std.specs.Prelude.{◌≡◌, ◌⊎◌, ◌+◌, ◌*◌, ◌<◌, ◌≤◌, ℕ, List, OnOk, is_ok, length, take, true};
 ghost use Rattle.std.specs.Option.{ForSome};
 ghost use Rattle.g_base.specs.ToldContent.{Changes};
 ghost use Rattle.g_files.specs.Bytes.{AreBytes, part};
+ghost use Rattle.g_files.specs.Growth.{Appends, Grows, Rewrites};
+ghost use Rattle.g_files.specs.Durability.{SetsLength};
 ghost use Rattle.g_files.specs.Front.{IsCut, KeepsFront};
 
 use crate::raw::RawFile;
@@ -22,6 +24,7 @@ pub(crate) fn has_blocks<F: RawFile>(file: &mut F, n: u32) -> bool
     ensures enough { result ≡ true → ForSome (F.content file.old) (λ bytes. 512 * n ≤ length bytes) }
     ensures bytes { ForSome (F.content file.old) AreBytes }
     ensures same { F.content file.new ≡ F.content file.old }
+    ensures as_durable { F.durability file.new ≡ F.durability file.old }
 {
     match file.len() {
         Ok(bytes) => start_of(n) <= bytes,
@@ -34,6 +37,7 @@ pub(crate) fn cut_at<F: RawFile>(file: &mut F, k: u32) -> io::Result<()>
     requires long { ForSome (F.content file.old) (λ bytes. 512 * k ≤ length bytes) }
     ensures cut { Changes (IsCut (512 * k)) (F.content file.old) (F.content file.new) }
     ensures done { OnOk result (ForSome (F.content file.new) (λ bytes. length bytes ≡ 512 * k)) }
+    ensures durability { SetsLength (512 * k) (F.content file.old) (F.content file.new) (F.durability file.old) (F.durability file.new) result }
 {
     file.set_len(start_of(k))
 }
@@ -48,6 +52,7 @@ pub(crate) fn put_last<F: RawFile>(file: &mut F, k: u32, block: &Block) -> io::R
     ensures front { Changes (KeepsFront (512 * k)) (F.content file.old) (F.content file.new) }
     ensures whole { OnOk result (ForSome (F.content file.new) (λ bytes. length bytes ≡ 512 * k + 512)) }
     ensures last { OnOk result (ForSome (F.content file.new) (λ bytes. part (512 * k) 512 bytes ≡ block.now)) }
+    ensures durability { Appends k (F.durability file.old) (F.durability file.new) (is_ok result ≡ true) }
 {
     if put_once(file, k, block) {
         return Ok(());
@@ -63,6 +68,7 @@ fn put_once<F: RawFile>(file: &mut F, k: u32, block: &Block) -> bool
     ensures front { Changes (KeepsFront (512 * k)) (F.content file.old) (F.content file.new) }
     ensures whole { result ≡ true → ForSome (F.content file.new) (λ bytes. length bytes ≡ 512 * k + 512) }
     ensures last { result ≡ true → ForSome (F.content file.new) (λ bytes. part (512 * k) 512 bytes ≡ block.now) }
+    ensures durability { Appends k (F.durability file.old) (F.durability file.new) (result ≡ true) }
 {
     match file.write_at(block, start_of(k)) {
         Ok(count) => count == 512,
@@ -76,6 +82,9 @@ fn extend<F: RawFile>(file: &mut F, k: u32) -> io::Result<()>
     requires room { k < 65536 }
     ensures front { Changes (KeepsFront (512 * k)) (F.content file.old) (F.content file.new) }
     ensures whole { OnOk result (ForSome (F.content file.new) (λ bytes. length bytes ≡ 512 * k + 512)) }
+    ensures grows { Grows k (F.durability file.old).remnants (F.durability file.new).remnants }
+    ensures syncable { (j : ℕ) → j < 512 * k → (F.durability file.old).syncable j ≡ true → (F.durability file.new).syncable j ≡ true }
+    ensures sized { OnOk result ((F.durability file.new).sized ≡ true) }
 {
     file.set_len(start_of(k))?;
     file.set_len(start_of(k + 1))
@@ -87,6 +96,7 @@ fn fill<F: RawFile>(file: &mut F, k: u32, block: &Block) -> io::Result<()>
     ensures front { Changes (KeepsFront (512 * k)) (F.content file.old) (F.content file.new) }
     ensures whole { OnOk result (ForSome (F.content file.new) (λ bytes. length bytes ≡ 512 * k + 512)) }
     ensures last { OnOk result (ForSome (F.content file.new) (λ bytes. part (512 * k) 512 bytes ≡ block.now)) }
+    ensures durability { Appends k (F.durability file.old) (F.durability file.new) (is_ok result ≡ true) }
 {
     write_whole(file, block, start_of(k))
 }
@@ -95,6 +105,7 @@ fn fill<F: RawFile>(file: &mut F, k: u32, block: &Block) -> io::Result<()>
 pub(crate) fn rewrite<F: RawFile>(file: &mut F, from: u32, to: u32) -> io::Result<()>
     requires long { ForSome (F.content file.old) (λ bytes. 512 * to ≤ length bytes) }
     ensures same { F.content file.new ≡ F.content file.old }
+    ensures durability { Rewrites from to (F.durability file.old) (F.durability file.new) (is_ok result ≡ true) }
 {
     for k in from..to {
         rewrite_block(file, k)?;
@@ -106,6 +117,7 @@ pub(crate) fn rewrite<F: RawFile>(file: &mut F, from: u32, to: u32) -> io::Resul
 fn rewrite_block<F: RawFile>(file: &mut F, k: u32) -> io::Result<()>
     requires long { ForSome (F.content file.old) (λ bytes. 512 * k + 512 ≤ length bytes) }
     ensures same { F.content file.new ≡ F.content file.old }
+    ensures durability { Rewrites k (k + 1) (F.durability file.old) (F.durability file.new) (is_ok result ≡ true) }
 {
     let mut block = [0; 512];
     read_block(file, k, &mut block)?;
@@ -116,6 +128,7 @@ fn rewrite_block<F: RawFile>(file: &mut F, k: u32) -> io::Result<()>
 pub(crate) fn read_block<F: RawFile>(file: &mut F, k: u32, into: &mut Block) -> io::Result<()>
     ensures block { OnOk result (ForSome (F.content file.old) (λ bytes. into.new ≡ part (512 * k) 512 bytes)) }
     ensures same { F.content file.new ≡ F.content file.old }
+    ensures as_durable { F.durability file.new ≡ F.durability file.old }
 {
     read_whole(file, into, start_of(k))
 }
@@ -125,6 +138,7 @@ fn write_again<F: RawFile>(file: &mut F, k: u32, block: &Block) -> io::Result<()
     requires long { ForSome (F.content file.old) (λ bytes. 512 * k + 512 ≤ length bytes) }
     requires block { ForSome (F.content file.old) (λ bytes. block.now ≡ part (512 * k) 512 bytes) }
     ensures same { F.content file.new ≡ F.content file.old }
+    ensures durability { Rewrites k (k + 1) (F.durability file.old) (F.durability file.new) (is_ok result ≡ true) }
 {
     write_whole(file, block, start_of(k))
 }
@@ -139,6 +153,7 @@ pub(crate) fn drop_last<F: RawFile>(file: &mut F, k: u32) -> u32
     ensures long { ForSome (F.content file.new) (λ bytes. 512 * result ≤ length bytes) }
     ensures bytes { ForSome (F.content file.new) AreBytes }
     ensures front { Changes (KeepsFront (512 * k)) (F.content file.old) (F.content file.new) }
+    ensures grows { Grows k (F.durability file.old).remnants (F.durability file.new).remnants }
 {
     if cut_at(file, k).is_ok() {
         return k;

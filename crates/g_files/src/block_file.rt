@@ -1,12 +1,15 @@
 //! A file of whole blocks that is written at its end: which of them count, and which are durable.
-ghost use Rattle.std.specs.Prelude.{◌≡◌, ◌+◌, ◌*◌, ◌<◌, ◌≤◌, ℕ, IfOk, List, OnErr, OnOk, length, option_map};
+ghost use Rattle.std.specs.Prelude.{◌≡◌, ◌+◌, ◌-◌, ◌*◌, ◌<◌, ◌≤◌, ◌⊎◌, ◌∷◌, ℕ, IfOk, List, OnErr, OnOk, length, min, option_map, true};
 ghost use Rattle.std.specs.Option.{ForSome};
 ghost use Rattle.g_base.specs.ToldContent.{Changes};
 ghost use Rattle.g_files.specs.Ahead.{IsFresh, owner_of};
 ghost use Rattle.g_files.specs.Bytes.{AreBytes, blocks_of, part};
+ghost use Rattle.g_files.specs.Growth.{AreWritten, Grows, IsOrderly};
 ghost use Rattle.g_files.specs.Front.{KeepsFront};
-ghost use Rattle.g_files.specs.declared.reach.Reach.TheVariants.{Failed};
+ghost use Rattle.g_files.specs.Sectors.{LeavesNoOther, LeavesResized, LeavesSectors};
+ghost use Rattle.g_files.specs.declared.reach.Reach.TheVariants.{Failed, There};
 ghost use Rattle.g_tape.specs.Reel.{Remains};
+ghost use Rattle.g_tape.specs.Risk.{IsSynced};
 
 use crate::ahead::ReadAhead;
 use crate::block_calls::{cut_at, drop_last, has_blocks, put_last, rewrite};
@@ -33,6 +36,10 @@ pub(crate) struct BlockFile<F: RawFile + Drop> {
     /// How many blocks, from block 0 on, `secure` needn't rewrite. They are durable; or an earlier run left them before the last
     /// block, and it made them durable before it wrote that one, unless that one completes no dump.
     durable: u32,
+    ghost counted: { durable ≤ len },
+    ghost there: { reach ≡ There → durable ≡ len },
+    ghost written: { IsOrderly reach → AreWritten durable len (F.durability file) },
+    ghost short: { IsOrderly reach → ForSome (F.content file) (λ bytes. (left : List (List ℕ)) → LeavesSectors (F.durability file).remnants left → length left ≤ len) },
     ghost long: { ForSome (F.content file) (λ bytes. 512 * len ≤ length bytes) },
     ghost bytes: { ForSome (F.content file) AreBytes },
     ghost ends: { (reach ≡ Failed → ⊥) → ForSome (F.content file) (λ bytes. length bytes < 512 * len + 512) },
@@ -40,6 +47,7 @@ pub(crate) struct BlockFile<F: RawFile + Drop> {
 
 impl<F: RawFile + Drop> BlockFile<F> {
     ghost use Rattle.g_files.specs.BlockFile.{EndsThere, blocks_seen, content_of, ended, left_of, len_of};
+    ghost use Rattle.g_files.specs.Risks.{IsStored, Keeps, KeepsTo, LeavesBegun, Secures, StayKept, durability_of, durable_of, reach_of};
 
     /// The whole blocks of a file. A piece of a block at its end doesn't count: a write that was torn by a kill or a power loss left
     /// it. `InvalidData` if there are more than `most`; otherwise the error is the system's.
@@ -47,6 +55,8 @@ impl<F: RawFile + Drop> BlockFile<F> {
         ensures few { IfOk result (λ f. len_of f ≤ most) }
         ensures whole { IfOk result EndsThere }
         ensures content { IfOk result (λ f. content_of f ≡ F.content file) }
+        ensures as_durable { IfOk result (λ f. durability_of f ≡ F.durability file) }
+        ensures durable { IfOk result (λ f. durable_of f ≡ len_of f - 1) }
     {
         let mut file = file;
         let len = count_blocks(&mut file, most)?;
@@ -86,6 +96,8 @@ impl<F: RawFile + Drop> BlockFile<F> {
         ensures fresh { ForSome (content_of self.old) (IsFresh ahead.new) }
         ensures content { content_of self.new ≡ content_of self.old }
         ensures len { len_of self.new ≡ len_of self.old }
+        ensures as_durable { durability_of self.new ≡ durability_of self.old }
+        ensures durable { durable_of self.new ≡ durable_of self.old }
     {
         ahead.read(&mut self.file, place, k, into)
     }
@@ -101,8 +113,13 @@ impl<F: RawFile + Drop> BlockFile<F> {
         ensures done { OnOk result (blocks_seen self.new ≡ ended k block.now (blocks_seen self.old)) }
         ensures left { OnErr result ((how : Remains) × (blocks_seen self.new ≡ left_of how k (blocks_seen self.old))) }
         ensures front { Changes (KeepsFront (512 * k)) (content_of self.old) (content_of self.new) }
+        ensures kept { StayKept k self.old self.new }
+        ensures secured { KeepsTo k self.old → Keeps (durable_of self.new) self.new }
+        ensures orderly { OnOk result (IsOrderly (reach_of self.new)) }
+        ensures stored { IsSynced k block.now → KeepsTo k self.old → OnOk result (IsStored self.new) }
+        ensures begun { LeavesBegun k (IsSynced k block.now × KeepsTo k self.old) self.old self.new }
     {
-        let syncs = k == 0 || is_bracket(block);
+        let syncs = is_synced(k, block);
         if self.write_last(k, block, syncs).is_err() {
             self.reach = Reach::Failed;
             return Err(WriteFailed);
@@ -121,14 +138,12 @@ impl<F: RawFile + Drop> BlockFile<F> {
         ensures same { blocks_seen self.new ≡ blocks_seen self.old }
         ensures ends { OnOk result (EndsThere self.new) }
         ensures front { Changes (KeepsFront (512 * len_of self.old)) (content_of self.old) (content_of self.new) }
+        ensures durable { Secures self.old self.new result }
     {
-        if self.reach == Reach::There {
-            return Ok(());
+        match self.reach {
+            Reach::There | Reach::Behind => self.bring(),
+            Reach::Unknown | Reach::Failed => self.renew_and_sync(),
         }
-        if self.reach != Reach::Behind && self.renew().is_err() {
-            return Err(Error::from(ErrorKind::Other));
-        }
-        self.sync()
     }
 
     /// Cuts off what a failed call may have left after the last block, and syncs what this run wrote, at the end of a run. On Ok the
@@ -141,6 +156,7 @@ impl<F: RawFile + Drop> BlockFile<F> {
             return Err(Error::from(ErrorKind::Other));
         }
         if self.reach == Reach::Behind || self.reach == Reach::Failed {
+            self.reach = Reach::Failed;
             return self.file.sync();
         }
         Ok(())
@@ -149,6 +165,7 @@ impl<F: RawFile + Drop> BlockFile<F> {
 
 impl<F: RawFile + Drop> BlockFile<F> {
     ghost use Rattle.g_files.specs.BlockFile.{EndsThere, blocks_seen, content_of, cut_blocks, ended, left_of, len_of};
+    ghost use Rattle.g_files.specs.Risks.{IsStored, Keeps, KeepsTo, LeavesBegun, LeavesNoMoreBlocks, MayLeaveBlocks, Secures, StayKept, durability_of, durable_of, reach_of};
 
     /// Writes block k, which is the last one then; `syncs` if everything before it has to be durable first.
     fn write_last(&mut self, k: u32, block: &Block, syncs: bool) -> io::Result<()>
@@ -157,8 +174,14 @@ impl<F: RawFile + Drop> BlockFile<F> {
         ensures done { OnOk result (blocks_seen self.new ≡ ended k block.now (blocks_seen self.old)) }
         ensures left { OnErr result ((how : Remains) × (blocks_seen self.new ≡ left_of how k (blocks_seen self.old))) }
         ensures front { Changes (KeepsFront (512 * k)) (content_of self.old) (content_of self.new) }
+        ensures kept { StayKept k self.old self.new }
+        ensures secured { KeepsTo k self.old → Keeps (durable_of self.new) self.new }
+        ensures orderly { OnOk result (IsOrderly (reach_of self.new)) }
+        ensures begun { LeavesBegun k ((syncs ≡ true) × KeepsTo k self.old) self.old self.new }
     {
         if self.make_room(k, syncs).is_err() {
+            // `secure` rewrites all blocks from block k on, so none of them needs to be durable.
+            self.durable = self.durable.min(k);
             return Err(Error::from(ErrorKind::Other));
         }
         self.append(block)
@@ -171,14 +194,20 @@ impl<F: RawFile + Drop> BlockFile<F> {
         ensures ends { OnOk result (EndsThere self.new) }
         ensures left { OnErr result ((how : Remains) × (blocks_seen self.new ≡ left_of how k (blocks_seen self.old))) }
         ensures front { Changes (KeepsFront (512 * k)) (content_of self.old) (content_of self.new) }
+        ensures begun { LeavesBegun k (KeepsTo k self.old) self.old self.new }
+        ensures kept { StayKept k self.old self.new }
+        ensures secured { KeepsTo k self.old → KeepsTo k self.new }
+        ensures orderly { OnOk result (IsOrderly (reach_of self.new)) }
+        ensures disorderly { OnErr result (IsOrderly (reach_of self.new) → ⊥) }
+        ensures stored { syncs ≡ true → KeepsTo k self.old → OnOk result (IsStored self.new) }
     {
-        if self.reach == Reach::Failed {
+        if self.reach.is_failed() {
             return Err(Error::from(ErrorKind::Other));
         }
         if k < self.len {
             return self.cut(k);
         }
-        if self.reach == Reach::Unknown {
+        if self.reach.is_unknown() {
             return self.secure();
         }
         if syncs {
@@ -189,11 +218,18 @@ impl<F: RawFile + Drop> BlockFile<F> {
 
     /// Drops block k and all that follow it, durably.
     fn cut(&mut self, k: u32) -> io::Result<()>
+        requires ends { EndsThere self.old }
         requires place { k ≤ len_of self.old }
         ensures done { OnOk result (blocks_seen self.new ≡ cut_blocks k (blocks_seen self.old)) }
         ensures ends { OnOk result (EndsThere self.new) }
         ensures left { OnErr result ((how : Remains) × (blocks_seen self.new ≡ left_of how k (blocks_seen self.old))) }
         ensures front { Changes (KeepsFront (512 * k)) (content_of self.old) (content_of self.new) }
+        ensures begun { LeavesBegun k (KeepsTo k self.old) self.old self.new }
+        ensures kept { StayKept k self.old self.new }
+        ensures secured { KeepsTo k self.old → KeepsTo k self.new }
+        ensures orderly { OnOk result (IsOrderly (reach_of self.new)) }
+        ensures disorderly { OnErr result (IsOrderly (reach_of self.new) → ⊥) }
+        ensures stored { KeepsTo k self.old → OnOk result (IsStored self.new) }
     {
         if self.secure_before(k).is_err() {
             return Err(Error::from(ErrorKind::Other));
@@ -201,37 +237,60 @@ impl<F: RawFile + Drop> BlockFile<F> {
         if self.drop_from(k).is_err() {
             return Err(Error::from(ErrorKind::Other));
         }
-        self.bring()
+        self.sync()
     }
 
-    /// Makes durable what an earlier run may have left before block k.
+    /// Makes the blocks before block k durable, if an earlier run left them or this one wrote some of them since its last sync.
     fn secure_before(&mut self, k: u32) -> io::Result<()>
+        requires ends { EndsThere self.old }
         requires place { k ≤ len_of self.old }
         ensures same { blocks_seen self.new ≡ blocks_seen self.old }
         ensures front { Changes (KeepsFront (512 * k)) (content_of self.old) (content_of self.new) }
+        ensures no_more { LeavesNoMoreBlocks self.old self.new }
+        ensures ends { OnOk result (EndsThere self.new) }
+        ensures ready { OnOk result ((j : ℕ) → 512 * durable_of self.new ≤ j → j < 512 * k → (durability_of self.new).syncable j ≡ true) }
+        ensures kept { KeepsTo k self.old → OnOk result (Keeps k self.new) }
+        ensures durable { OnErr result (durable_of self.new ≡ durable_of self.old) }
+        ensures disorderly { OnErr result (IsOrderly (reach_of self.new) → ⊥) }
     {
-        if k > 0 && self.reach == Reach::Unknown {
-            return self.secure();
+        if self.is_secured_to(k) {
+            return Ok(());
         }
-        Ok(())
+        self.secure()
+    }
+
+    /// Whether this run knows that the blocks before block k are durable.
+    fn is_secured_to(&self, k: u32) -> bool
+        ensures { result ≡ true → k ≤ durable_of self.now }
+    {
+        k == 0 || (self.durable >= k && self.reach != Reach::Unknown)
     }
 
     /// Drops block k and all that follow it. If that fails, all blocks count, or if the file may not have them any more, those below
     /// block k.
     fn drop_from(&mut self, k: u32) -> io::Result<()>
+        requires ends { EndsThere self.old }
         requires place { k ≤ len_of self.old }
+        requires below { (j : ℕ) → 512 * durable_of self.old ≤ j → j < 512 * k → (durability_of self.old).syncable j ≡ true }
         ensures done { OnOk result (blocks_seen self.new ≡ cut_blocks k (blocks_seen self.old)) }
         ensures ends { OnOk result (EndsThere self.new) }
         ensures left { OnErr result ((how : Remains) × (blocks_seen self.new ≡ left_of how k (blocks_seen self.old))) }
         ensures front { Changes (KeepsFront (512 * k)) (content_of self.old) (content_of self.new) }
+        ensures cuts { (left : List (List ℕ)) → LeavesSectors (durability_of self.new).remnants left
+            → LeavesSectors (durability_of self.old).remnants left ⊎ LeavesResized (512 * k) (durability_of self.old).remnants left }
+        ensures resized { ForSome (content_of self.old) (λ bytes. (left : List (List ℕ)) → MayLeaveBlocks self.new left
+            → MayLeaveBlocks self.old left ⊎ LeavesResized (512 * k) (durability_of self.old).remnants left) }
+        ensures least { k ≤ len_of self.new }
+        ensures durable { durable_of self.new ≡ min (durable_of self.old) k }
+        ensures reach { reach_of self.new ≡ Failed }
+        ensures written { OnOk result (AreWritten (durable_of self.new) (len_of self.new) (durability_of self.new)) }
     {
         self.durable = self.durable.min(k);
+        self.reach = Reach::Failed;
         if cut_at(&mut self.file, k).is_ok() {
             self.len = k;
-            self.reach = Reach::Behind;
             return Ok(());
         }
-        self.reach = Reach::Failed;
         if !has_blocks(&mut self.file, self.len) {
             self.len = k;
         }
@@ -242,10 +301,16 @@ impl<F: RawFile + Drop> BlockFile<F> {
     fn append(&mut self, block: &Block) -> io::Result<()>
         requires ends { EndsThere self.old }
         requires room { len_of self.old < 65536 }
+        requires orderly { IsOrderly (reach_of self.old) }
         ensures done { OnOk result (blocks_seen self.new ≡ ended (len_of self.old) block.now (blocks_seen self.old)) }
         ensures ends { OnOk result (EndsThere self.new) }
         ensures left { OnErr result ((how : Remains) × (blocks_seen self.new ≡ left_of how (len_of self.old) (blocks_seen self.old))) }
         ensures front { Changes (KeepsFront (512 * len_of self.old)) (content_of self.old) (content_of self.new) }
+        ensures grows { Grows (len_of self.old) (durability_of self.old).remnants (durability_of self.new).remnants }
+        ensures most { len_of self.new ≤ len_of self.old + 1 }
+        ensures least { len_of self.old ≤ len_of self.new }
+        ensures durable { durable_of self.new ≡ durable_of self.old }
+        ensures orderly { OnOk result (IsOrderly (reach_of self.new)) }
     {
         let k = self.len;
         if put_last(&mut self.file, k, block).is_ok() {
@@ -264,6 +329,7 @@ impl<F: RawFile + Drop> BlockFile<F> {
         ensures content { content_of self.new ≡ content_of self.old }
         ensures len { len_of self.new ≡ len_of self.old }
         ensures ends { OnOk result (EndsThere self.new) }
+        ensures durable { Secures self.old self.new result }
     {
         match self.reach {
             Reach::There => Ok(()),
@@ -276,15 +342,38 @@ impl<F: RawFile + Drop> BlockFile<F> {
     fn bring_if(&mut self, syncs: bool) -> io::Result<()>
         ensures content { content_of self.new ≡ content_of self.old }
         ensures len { len_of self.new ≡ len_of self.old }
+        ensures no_more { LeavesNoMoreBlocks self.old self.new }
+        ensures stored { syncs ≡ true → Keeps (durable_of self.old) self.old → OnOk result (IsStored self.new) }
+        ensures secured { Keeps (durable_of self.old) self.old → Keeps (durable_of self.new) self.new }
+        ensures orderly { IsOrderly (reach_of self.old) → OnOk result (IsOrderly (reach_of self.new)) }
     {
         if syncs { self.bring() } else { Ok(()) }
     }
 
-    /// Cuts off what follows the last block, and rewrites the blocks that may be missing on the device.
-    fn renew(&mut self) -> io::Result<()>
+    /// Makes the blocks durable if a call failed, or if this run has secured nothing yet.
+    fn renew_and_sync(&mut self) -> io::Result<()>
+        requires disorderly { IsOrderly (reach_of self.old) → ⊥ }
         ensures same { blocks_seen self.new ≡ blocks_seen self.old }
         ensures ends { OnOk result (EndsThere self.new) }
         ensures front { Changes (KeepsFront (512 * len_of self.old)) (content_of self.old) (content_of self.new) }
+        ensures durable { Secures self.old self.new result }
+    {
+        if self.renew().is_err() {
+            return Err(Error::from(ErrorKind::Other));
+        }
+        self.sync()
+    }
+
+    /// Cuts off what follows the last block, and rewrites the blocks that may be missing on the device.
+    fn renew(&mut self) -> io::Result<()>
+        requires disorderly { IsOrderly (reach_of self.old) → ⊥ }
+        ensures same { blocks_seen self.new ≡ blocks_seen self.old }
+        ensures ends { OnOk result (EndsThere self.new) }
+        ensures front { Changes (KeepsFront (512 * len_of self.old)) (content_of self.old) (content_of self.new) }
+        ensures no_more { LeavesNoMoreBlocks self.old self.new }
+        ensures durable { durable_of self.new ≡ durable_of self.old }
+        ensures reach { reach_of self.new ≡ reach_of self.old }
+        ensures written { OnOk result (AreWritten (durable_of self.new) (len_of self.new) (durability_of self.new)) }
     {
         if self.cut_tail().is_err() {
             return Err(Error::from(ErrorKind::Other));
@@ -294,9 +383,14 @@ impl<F: RawFile + Drop> BlockFile<F> {
 
     /// Cuts off what follows the last block.
     fn cut_tail(&mut self) -> io::Result<()>
+        requires disorderly { IsOrderly (reach_of self.old) → ⊥ }
         ensures same { blocks_seen self.new ≡ blocks_seen self.old }
         ensures ends { OnOk result (EndsThere self.new) }
         ensures front { Changes (KeepsFront (512 * len_of self.old)) (content_of self.old) (content_of self.new) }
+        ensures no_more { LeavesNoMoreBlocks self.old self.new }
+        ensures durable { durable_of self.new ≡ durable_of self.old }
+        ensures reach { reach_of self.new ≡ reach_of self.old }
+        ensures sized { OnOk result ((durability_of self.new).sized ≡ true) }
     {
         cut_at(&mut self.file, self.len)
     }
@@ -304,9 +398,11 @@ impl<F: RawFile + Drop> BlockFile<F> {
     /// Waits until the blocks have reached the device.
     fn sync(&mut self) -> io::Result<()>
         requires ends { EndsThere self.old }
+        requires written { AreWritten (durable_of self.old) (len_of self.old) (durability_of self.old) }
         ensures content { content_of self.new ≡ content_of self.old }
         ensures len { len_of self.new ≡ len_of self.old }
         ensures ends { EndsThere self.new }
+        ensures durable { Secures self.old self.new result }
     {
         self.reach = Reach::Failed;
         if self.file.sync().is_err() {
@@ -318,8 +414,20 @@ impl<F: RawFile + Drop> BlockFile<F> {
     }
 }
 
+/// Whether a write of block k is durable when it returns, with all before it.
+fn is_synced(k: u32, block: &Block) -> bool
+    ensures { IsSynced k block.now → result ≡ true }
+{
+    if k == 0 {
+        return true;
+    }
+    is_bracket(block)
+}
+
 /// Whether the block is the first or the last one of a dump.
-fn is_bracket(block: &Block) -> bool {
+fn is_bracket(block: &Block) -> bool
+    ensures { (rest : List ℕ) → (block.now ≡ 71 ∷ 51 ∷ 72 ∷ 68 ∷ rest) ⊎ (block.now ≡ 71 ∷ 51 ∷ 77 ∷ 75 ∷ rest) → result ≡ true }
+{
     block.starts_with(HEADER) || block.starts_with(MARK)
 }
 
@@ -330,6 +438,7 @@ fn count_blocks<F: RawFile>(file: &mut F, most: u32) -> io::Result<u32>
     ensures ends { IfOk result (λ n. ForSome (F.content file.old) (λ bytes. length bytes < 512 * n + 512)) }
     ensures bytes { ForSome (F.content file.old) AreBytes }
     ensures same { F.content file.new ≡ F.content file.old }
+    ensures as_durable { F.durability file.new ≡ F.durability file.old }
 {
     let bytes = file.len()?;
     match u32::try_from(bytes / BLOCK_BYTES) {

@@ -1,5 +1,5 @@
 //! One reel in a file of blocks.
-ghost use Rattle.std.specs.Prelude.{◌≡◌, ◌+◌, ◌*◌, ◌<◌, ◌≤◌, ℕ, IfOk, List, None, OnErr, OnOk, Some, false, slice_get};
+ghost use Rattle.std.specs.Prelude.{◌≡◌, ◌+◌, ◌-◌, ◌*◌, ◌<◌, ◌≤◌, ℕ, IfOk, List, None, OnErr, OnOk, Some, false, slice_get, true};
 ghost use Rattle.std.specs.Option.{ForSome};
 ghost use Rattle.g_base.specs.ToldContent.{Changes};
 ghost use Rattle.g_files.specs.Ahead.{IsFresh, owner_of};
@@ -26,15 +26,18 @@ pub struct FileReel<F: RawFile + Drop> {
 
 impl<F: RawFile + Drop> FileReel<F> {
     ghost use Rattle.g_files.specs.FileReel.{IsSaved, reel_file, reel_of};
+    ghost use Rattle.g_files.specs.ReelRisk.{ReelKeeps, SecuresReel, WritesReel, risk_of, with_cuts};
 
     /// The reel on a file, not mounted: its whole blocks, at most as many as the capacity. `InvalidData` if there are more; otherwise
-    /// the error is the system's.
+    /// the error is the system's. If all its blocks but the last one are durable, the reel is syncable: `secure` makes it durable.
     pub fn open(file: F, serial: u32, capacity: u32) -> io::Result<FileReel<F>>
         requires label { IsLabel (serial, capacity) }
         ensures label { IfOk result (λ r. ((reel_of r).serial ≡ serial) × ((reel_of r).capacity ≡ capacity)) }
         ensures unmounted { IfOk result (λ r. (reel_of r).mounted ≡ false) }
         ensures saved { IfOk result (λ r. IsSaved (reel_of r) (F.content file)) }
         ensures file { IfOk result (λ r. reel_file r ≡ F.content file) }
+        ensures left { IfOk result (λ r. (risk_of r).remnants ≡ with_cuts (reel_of r).len (F.durability file).remnants) }
+        ensures able { IfOk result (λ r. ReelKeeps ((reel_of r).len - 1) (reel_of r) (risk_of r) → (risk_of r).syncable ≡ true) }
     {
         let blocks = BlockFile::open(file, capacity)?;
         let len = blocks.len();
@@ -63,6 +66,7 @@ impl<F: RawFile + Drop> FileReel<F> {
     pub fn set_mounted(&mut self, mounted: bool)
         ensures value { reel_of self.new ≡ with_mounted mounted (reel_of self.old) }
         ensures file { reel_file self.new ≡ reel_file self.old }
+        ensures risk { risk_of self.new ≡ risk_of self.old }
     {
         self.state.set_mounted(mounted);
     }
@@ -82,6 +86,7 @@ impl<F: RawFile + Drop> FileReel<F> {
         ensures owner { owner_of ahead.new ≡ place }
         ensures fresh { ForSome (reel_file self.new) (IsFresh ahead.new) }
         ensures file { reel_file self.new ≡ reel_file self.old }
+        ensures risk { risk_of self.new ≡ risk_of self.old }
     {
         self.blocks.read(ahead, place, k, into)
     }
@@ -93,6 +98,8 @@ impl<F: RawFile + Drop> FileReel<F> {
         ensures done { OnOk result (reel_of self.new ≡ ending k block.now (reel_of self.old)) }
         ensures left { OnErr result ((how : Remains) × (reel_of self.new ≡ left_by how k (reel_of self.old))) }
         ensures front { Changes (KeepsFront (512 * k)) (reel_file self.old) (reel_file self.new) }
+        ensures serial { (risk_of self.new).serial ≡ (risk_of self.old).serial }
+        ensures durable { WritesReel k block.now (reel_of self.old) (reel_of self.new) (risk_of self.old) (risk_of self.new) result }
     {
         let written = self.blocks.end_with(k, block);
         let len = self.blocks.len();
@@ -104,6 +111,8 @@ impl<F: RawFile + Drop> FileReel<F> {
     pub fn secure(&mut self) -> io::Result<()>
         ensures same { reel_of self.new ≡ reel_of self.old }
         ensures front { Changes (KeepsFront (512 * (reel_of self.old).len)) (reel_file self.old) (reel_file self.new) }
+        ensures serial { (risk_of self.new).serial ≡ (risk_of self.old).serial }
+        ensures durable { SecuresReel (reel_of self.old) (reel_of self.new) (risk_of self.old) (risk_of self.new) result }
     {
         self.blocks.secure()
     }

@@ -2,6 +2,7 @@
 ghost use Rattle.std.specs.Prelude.{◌≡◌, ◌≤◌, [], Err, None, OnOk, Some, MatchOption, map, true, false};
 ghost use Rattle.g_base.specs.Fuse.{BurnsByFailures, never};
 ghost use Rattle.g_files.specs.FileReel.{reel_of};
+ghost use Rattle.g_files.specs.ReelRisk.{risk_of};
 ghost use Rattle.g_files.specs.Reels.{AreFresh, AreSaved};
 ghost use Rattle.g_files.specs.Ahead.{window_of};
 ghost use Rattle.g_files.specs.Window.{window};
@@ -38,7 +39,7 @@ impl<F: RawFile + Drop, L: Drop> FileTapes<F, L> {
     pub fn new(lock: L, reels: Vec<FileReel<F>>, ahead: ReadAhead) -> FileTapes<F, L>
         requires reels { AreReels (map reel_of reels.items) }
         requires ahead { window_of ahead ≡ window 0 [] }
-        ensures { rack_of result ≡ opened (map reel_of reels.items) }
+        ensures { rack_of result ≡ opened (map reel_of reels.items) (map risk_of reels.items) }
     {
         FileTapes {
             lock,
@@ -63,7 +64,7 @@ impl<F: RawFile + Drop, L: Drop> FileTapes<F, L> {
     /// first. No promise depends on it: each completed dump is durable already.
     pub fn finish(&mut self) -> io::Result<()>
         ensures saved { OnOk result (AreSaved (rack_reels self.new)) }
-        ensures same { rack_of self.new ≡ rack_of self.old }
+        ensures same { rack_of self.new ≡ record (rack_of self.old) { risks = (rack_of self.new).risks } }
     {
         self.ahead.forget(0);
         finish_all(&mut self.reels)

@@ -24,7 +24,7 @@ pub use file_disc::FileDisc;
 pub use file_reel::FileReel;
 pub use file_tapes::FileTapes;
 pub use image::Origin;
-pub use laws::blocks_are_their_bytes;
+pub use laws::{blocks_are_their_bytes, risks_list_what_is_read};
 pub use memory_file::MemoryFile;
 pub use raw::RawFile;
 pub use reels::push_reel;

@@ -1,7 +1,7 @@
 //! A file in memory, whose bytes are observable and durable at once. Its calls can be made short, and one of them can be made to fail.
 ghost use Rattle.std.specs.Prelude.{◌≡◌, ◌<◌, ◌≤◌, IfOk, OnErr, OnOk, Some, length, replicate, take};
 ghost use Rattle.g_files.specs.Bytes.{AreBytes, padded, put};
-ghost use Rattle.g_files.specs.Durability.{all_durable};
+ghost use Rattle.g_files.specs.Durability.{stored};
 
 use crate::raw::RawFile;
 use std::alloc::Global;
@@ -63,9 +63,15 @@ impl MemoryFile {
 }
 
 impl RawFile for MemoryFile {
+    ghost use Rattle.g_files.specs.StoredSectors.{stored_read, stored_whole};
+
     ghost content = { λ f. Some f.bytes.items };
 
-    ghost durability = { λ f. all_durable };
+    ghost durability = { λ f. stored f.bytes.items };
+
+    ghost remnants = { λ f. stored_whole f.bytes.items f.each };
+
+    ghost read_left = { λ f. stored_read f.bytes.items f.each };
 
     fn len(&mut self) -> io::Result<u64> {
         if self.fires() {

@@ -1,11 +1,12 @@
 //! An open file, accessed by single system calls.
-ghost use Rattle.std.specs.Prelude.{◌≡◌, ℕ, ◌<◌, ◌≤◌, true, List, Option, length, IfOk, IfErr};
+ghost use Rattle.std.specs.Prelude.{◌≡◌, ℕ, ◌≤◌, All, List, Option, length, IfOk, IfErr, OnOk};
 ghost use Rattle.std.specs.Option.{ForSome};
 ghost use Rattle.std.specs.IoError.{error_kind};
 ghost use Rattle.g_base.specs.ToldContent.{Changes};
 ghost use Rattle.g_files.specs.Bytes.{AreBytes};
 ghost use Rattle.g_files.specs.Calls.{HasCut, HasRead, HasWritten};
-ghost use Rattle.g_files.specs.Durability.{Durability, DurableAreSyncable, HasSyncable, SyncsDurability, WritesDurability};
+ghost use Rattle.g_files.specs.Durability.{Durability, AreSectorsSynced, DurableAreSyncable, HasSyncable, SetsLength, SyncsDurability, WritesDurability};
+ghost use Rattle.g_files.specs.Sectors.{IsWhole, LeavesRead};
 
 use std::io::{self, ErrorKind};
 
@@ -15,7 +16,7 @@ pub trait RawFile {
     /// The bytes of the file, if they are observable.
     ghost content: { Self → Option (List ℕ) };
 
-    /// Which of its bytes survive a power loss.
+    /// Which of its bytes survive a power loss; and, if its length changes, what a power loss may leave of it.
     ghost durability: { Self → Durability };
 
     /// The length in bytes.
@@ -45,15 +46,18 @@ pub trait RawFile {
         ensures interrupted { IfErr result (λ e. error_kind e ≡ ErrorKind.Interrupted → content self.new ≡ content self.old) }
         ensures as_durable { IfErr result (λ e. error_kind e ≡ ErrorKind.Interrupted → durability self.new ≡ durability self.old) };
 
-    /// Sets the length: cuts off what follows, or appends zeros.
+    /// Sets the length: cuts off what follows, or appends zeros. After an error the length is the old one or the new one.
     fn set_len(&mut self, len: u64) -> io::Result<()>
         ensures cut { Changes (HasCut len result) (content self.old) (content self.new) }
-        ensures durable { (j : ℕ) → j < len → (durability self.old).durable j ≡ true → (durability self.new).durable j ≡ true }
-        ensures syncable { (j : ℕ) → j < len → (durability self.old).syncable j ≡ true → (durability self.new).syncable j ≡ true }
-        ensures sound { DurableAreSyncable (durability self.old) → DurableAreSyncable (durability self.new) };
+        ensures durability { SetsLength len (content self.old) (content self.new) (durability self.old) (durability self.new) result };
 
     /// Waits until all writes have reached the device.
     fn sync(&mut self) -> io::Result<()>
         ensures same { content self.new ≡ content self.old }
-        ensures durability { SyncsDurability (durability self.old) (durability self.new) result };
+        ensures durability { SyncsDurability (durability self.old) (durability self.new) result }
+        ensures synced { OnOk result (ForSome (content self.old) (λ bytes. AreSectorsSynced bytes (durability self.old) (durability self.new))) };
+
+    ghost remnants: { (file : Self) → All IsWhole (durability file).remnants };
+
+    ghost read_left: { (file : Self) → LeavesRead (content file) (durability file).remnants };
 }

@@ -1,5 +1,8 @@
 //! Whether the blocks of a file are durable.
 
+ghost use Rattle.std.specs.Prelude.{◌≡◌, ◌↔◌, true};
+ghost use Rattle.g_files.specs.declared.reach.Reach.TheVariants.{Failed, Unknown};
+
 /// How far the blocks of a reel are known to have come.
 #[derive(Clone, Copy, PartialEq, Eq)]
 pub(crate) enum Reach {
@@ -11,4 +14,20 @@ pub(crate) enum Reach {
     Failed,
     /// Everything is durable.
     There,
+}
+
+impl Reach {
+    /// Whether a write, a cut or a sync failed since the blocks were last durable.
+    pub fn is_failed(&self) -> bool
+        ensures { (result ≡ true) ↔ (self.now ≡ Failed) }
+    {
+        matches!(self, Reach::Failed)
+    }
+
+    /// Whether nothing is known.
+    pub fn is_unknown(&self) -> bool
+        ensures { (result ≡ true) ↔ (self.now ≡ Unknown) }
+    {
+        matches!(self, Reach::Unknown)
+    }
 }

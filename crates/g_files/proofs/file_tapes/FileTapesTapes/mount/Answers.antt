@@ -1,5 +1,6 @@
 use Rattle.std.proofs.Common.{true, map, refl, subst, ap}
 use Rattle.g_files.specs.FileReel.{reel_file, reel_of}
+use Rattle.g_files.specs.ReelRisk.{risk_of}
 use Rattle.g_files.specs.Ahead.{IsFresh, owner_of}
 use Rattle.g_files.proofs.FileRackLemmas.{fresh_same, mount_done, reels_set}
 use Rattle.g_files.proofs.FileReelLemmas.{is_reel}
@@ -26,5 +27,5 @@ returns g c =
     let t = c.args.self.now in
     let i = c.in-Some.place in
     let place = subst (λ rs. IsPlaceOf c.args.serial (map reel_of rs) i) c.deref.ensures.value c.in-Some.ensures in
-    mount_done reel_of c.args.serial 0 i t.reels.items c.index_mut.result.now c.set_mounted.new.self place c.index_mut.ensures.value t.read_faults t.write_faults
-    t.fuse t.arms true refuses_mount refl c.set_mounted.ensures.value
+    mount_done reel_of c.args.serial 0 i t.reels.items c.index_mut.result.now c.set_mounted.new.self place c.index_mut.ensures.value risk_of t.read_faults t.write_faults
+    t.fuse t.arms true refuses_mount refl c.set_mounted.ensures.value c.set_mounted.ensures.risk

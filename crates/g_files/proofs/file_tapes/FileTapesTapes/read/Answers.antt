@@ -1,5 +1,6 @@
 use Rattle.std.proofs.Common.{Some, map, refl, subst, sym, ap, ◌∙◌}
 use Rattle.g_files.specs.FileReel.{reel_file, reel_of}
+use Rattle.g_files.specs.ReelRisk.{risk_of}
 use Rattle.g_files.specs.Ahead.{IsFresh, owner_of}
 use Rattle.g_files.specs.FileTapes.{rack_of}
 use Rattle.g_files.proofs.CallLemmas.{on_ok_at}
@@ -45,8 +46,8 @@ returns-then-is_err g c =
     let free = free_at reel_of c.args.serial 0 i t.reels.items was was place c.index_mut.ensures.value (refuses_read c.args.k) c.index.result.now
     c.refuses_read.result c.index.ensures (c.refuses_read.ensures ∙ ap (λ (r : Reel). refuses_read c.args.k (Some r)) c.state.ensures.value)
     c.in_default-refuses_read.is in
-    read_failed reel_of c.args.serial c.args.k i t.reels.items was c.read.new.self place c.index_mut.ensures.value t.read_faults t.write_faults t.fuse t.arms
-    c.read.new.into c.raised-self.result free c.read.ensures.same c.raised-self.ensures
+    read_failed reel_of c.args.serial c.args.k i t.reels.items was c.read.new.self place c.index_mut.ensures.value risk_of t.read_faults t.write_faults t.fuse t.arms
+    c.read.new.into c.raised-self.result free c.read.ensures.same c.read.ensures.risk c.raised-self.ensures
 
 pub returns : goal.returns
 returns g c =
@@ -57,8 +58,8 @@ returns g c =
     let free = free_at reel_of c.args.serial 0 i t.reels.items was was place c.index_mut.ensures.value (refuses_read c.args.k) c.index.result.now
     c.refuses_read.result c.index.ensures (c.refuses_read.ensures ∙ ap (λ (r : Reel). refuses_read c.args.k (Some r)) c.state.ensures.value)
     c.in_default-refuses_read.is in
-    read_done reel_of c.args.serial c.args.k i t.reels.items was c.read.new.self place c.index_mut.ensures.value t.read_faults t.write_faults t.fuse t.arms
-    c.read.new.into free (on_ok_at c.read.result (sym c.is_err.ensures.value ∙ c.if-is_err.false) c.read.ensures.block) refl c.read.ensures.same
+    read_done reel_of c.args.serial c.args.k i t.reels.items was c.read.new.self place c.index_mut.ensures.value risk_of t.read_faults t.write_faults t.fuse t.arms
+    c.read.new.into free (on_ok_at c.read.result (sym c.is_err.ensures.value ∙ c.if-is_err.false) c.read.ensures.block) refl c.read.ensures.same c.read.ensures.risk
 
 pub returns-in-Some-refuses_read : goal.returns-in-Some-refuses_read
 returns-in-Some-refuses_read g c =

@@ -1,5 +1,6 @@
 use Rattle.std.proofs.Common.{◌≡◌, ℕ, ◌*◌, ◌-◌, take, map, Ok, Err, refl, subst, sym, ap, ◌∙◌, arith}
 use Rattle.g_files.specs.FileReel.{reel_file, reel_of}
+use Rattle.g_files.specs.ReelRisk.{risk_of}
 use Rattle.g_files.specs.Ahead.{IsFresh, IsPartOf, owner_of, window_of}
 use Rattle.g_files.specs.Window.{Window, window}
 use Rattle.std.proofs.lemmas.List.{get_or_default, length-map}
@@ -8,10 +9,7 @@ use Rattle.g_tape.specs.Place.{IsPlaceOf}
 use Rattle.g_tape.specs.Reel.{Reel}
 use Rattle.g_files.proofs.FileRackLemmas.{fresh_set, reels_set, secure_done, secure_failed, written_fresh}
 use Rattle.std.specs.Option.{ForSome}
-use Rattle.g_tape.proofs.DurableLemmas.{secures_durably}
-use Rattle.g_tape.proofs.ReadLemmas.{same_risks}
-use Rattle.g_tape.specs.Rack.{Rack}
-use Rattle.g_tape.specs.Reads.{unread}
+use Rattle.g_files.proofs.RackRiskLemmas.{is_done, is_failed, rack_secures, secures_as}
 use Rattle.g_files.specs.FileTapes.{rack_of}
 use Rattle.g_tape.specs.declared.fault.TapeFault.TheVariants.{ReadFailed}
 use Rattle.g_files.proofs.file_tapes.FileTapesTapes.secure.Goals as goal
@@ -63,10 +61,14 @@ returns-then-is_err g c =
     let t = c.args.self.now in
     let i = c.in-Some.place in
     let place = subst (λ rs. IsPlaceOf c.args.serial (map reel_of rs) i) c.deref.ensures.value c.in-Some.ensures in
-    let secured = secure_failed reel_of c.args.serial 0 i t.reels.items c.index_mut.result.now c.secure.new.self place c.index_mut.ensures.value t.read_faults t.write_faults
+    let was = c.index_mut.result.now in
+    let now = c.secure.new.self in
+    let secured = secure_failed reel_of c.args.serial 0 i t.reels.items was now place c.index_mut.ensures.value risk_of t.read_faults t.write_faults
     t.fuse t.arms c.raised-self.result c.secure.ensures.same c.raised-self.ensures in record {
       secured = secured;
-      durable = secures_durably c.args.serial (rack_of t) _ refl refl (same_risks (rack_of t) _ (ap (λ (r : Rack). map unread r.reels) secured.2) refl) (Err ReadFailed);
+      durable = rack_secures reel_of risk_of (λ x. refl) c.args.serial i t.reels.items was now t.well_formed place c.index_mut.ensures.value c.secure.ensures.serial
+          (rack_of t) _ refl refl refl refl (Err ReadFailed) (secures_as (reel_of was) (reel_of now) (risk_of was) (risk_of now) c.secure.result (Err ReadFailed)
+          (is_failed c.secure.result (sym c.is_err.ensures.value ∙ c.if-is_err.true)) c.secure.ensures.durable);
     }
 
 pub returns : goal.returns
@@ -74,8 +76,12 @@ returns g c =
     let t = c.args.self.now in
     let i = c.in-Some.place in
     let place = subst (λ rs. IsPlaceOf c.args.serial (map reel_of rs) i) c.deref.ensures.value c.in-Some.ensures in
-    let secured = secure_done reel_of c.args.serial 0 i t.reels.items c.index_mut.result.now c.secure.new.self place c.index_mut.ensures.value t.read_faults t.write_faults
+    let was = c.index_mut.result.now in
+    let now = c.secure.new.self in
+    let secured = secure_done reel_of c.args.serial 0 i t.reels.items was now place c.index_mut.ensures.value risk_of t.read_faults t.write_faults
     t.fuse t.arms c.secure.ensures.same in record {
       secured = secured;
-      durable = secures_durably c.args.serial (rack_of t) _ refl refl (same_risks (rack_of t) _ (ap (λ (r : Rack). map unread r.reels) secured.1) refl) (Ok tt);
+      durable = rack_secures reel_of risk_of (λ x. refl) c.args.serial i t.reels.items was now t.well_formed place c.index_mut.ensures.value c.secure.ensures.serial
+          (rack_of t) _ refl refl refl refl (Ok tt) (secures_as (reel_of was) (reel_of now) (risk_of was) (risk_of now) c.secure.result (Ok tt)
+          (is_done c.secure.result (sym c.is_err.ensures.value ∙ c.if-is_err.false)) c.secure.ensures.durable);
     }

@@ -1,5 +1,6 @@
 use Rattle.std.proofs.Common.{Some, false, map, subst, ap, ◌∙◌}
 use Rattle.g_files.specs.FileReel.{reel_file, reel_of}
+use Rattle.g_files.specs.ReelRisk.{risk_of}
 use Rattle.g_files.specs.Ahead.{IsFresh, owner_of}
 use Rattle.g_files.proofs.FileRackLemmas.{free_at, fresh_same, mount_done, reels_set}
 use Rattle.g_files.proofs.FileReelLemmas.{is_reel}
@@ -30,5 +31,5 @@ returns g c =
     let free = free_at reel_of c.args.serial 0 i t.reels.items was was place c.index_mut.ensures.value refuses_unmount c.index.result.now
     (c.refuses_unmount.result) c.index.ensures (c.refuses_unmount.ensures ∙ ap (λ (r : Reel). refuses_unmount (Some r)) c.state.ensures.value)
     c.in_default-refuses_unmount.is in
-    mount_done reel_of c.args.serial 0 i t.reels.items was c.set_mounted.new.self place c.index_mut.ensures.value t.read_faults t.write_faults
-    t.fuse t.arms false refuses_unmount free c.set_mounted.ensures.value
+    mount_done reel_of c.args.serial 0 i t.reels.items was c.set_mounted.new.self place c.index_mut.ensures.value risk_of t.read_faults t.write_faults
+    t.fuse t.arms false refuses_unmount free c.set_mounted.ensures.value c.set_mounted.ensures.risk

@@ -1,18 +1,19 @@
-use Rattle.std.proofs.Common.{◌≡◌, ℕ, ◌*◌, ◌≤◌, List, Some, Ok, Err, true, length, map, refl, subst, sym, ap, ◌∙◌, arith}
+use Rattle.std.proofs.Common.{◌≡◌, ℕ, ◌*◌, ◌≤◌, List, Some, Ok, Err, OnOk, true, length, map, refl, subst, sym, ap, ◌∙◌, arith}
 use Rattle.g_files.specs.FileReel.{reel_file, reel_of}
+use Rattle.g_files.specs.ReelRisk.{WritesReel, risk_of}
 use Rattle.g_files.specs.Ahead.{IsFresh, IsPartOf, owner_of, window_of}
 use Rattle.g_files.specs.FileTapes.{rack_of}
 use Rattle.g_files.specs.Window.{Window}
 use Rattle.g_files.proofs.CallLemmas.{on_ok_at}
 use Rattle.g_files.proofs.FileReelLemmas.{is_reel}
 use Rattle.g_tape.specs.Place.{IsPlaceOf}
-use Rattle.g_tape.specs.Reel.{Reel}
+use Rattle.g_tape.specs.Reel.{Reel, ending}
 use Rattle.std.specs.Option.{ForSome}
 use Rattle.g_base.proofs.FuseLemmas.{fused_failed, fused_well}
 use Rattle.g_files.proofs.FileRackLemmas.{free_at, fresh_set, left_any, reels_set, refused_at, serial_left, window_cut, write_done, write_failed, write_refused, written_fresh}
 use Rattle.g_tape.specs.Rack.{refuses_write}
 use Rattle.g_tape.proofs.ReelLemmas.{allowed-write}
-use Rattle.g_tape.proofs.DurableLemmas.{writes_durably}
+use Rattle.g_files.proofs.RackRiskLemmas.{armed_writes, is_done, is_failed, rack_writes, refused_durably, writes_as}
 use Rattle.g_tape.specs.declared.fault.TapeFault.TheVariants.{WriteFailed}
 use Rattle.g_files.proofs.file_tapes.FileTapesTapes.write.Goals as goal
 
@@ -99,12 +100,18 @@ returns-then-burn g c =
     let free = free_at reel_of c.args.serial 0 i t.reels.items was was place c.index_mut.ensures.value (refuses_write k) c.index.result.now
     c.refuses_write.result c.index.ensures (c.refuses_write.ensures ∙ ap (λ (r : Reel). refuses_write k (Some r)) c.state.ensures.value)
     c.in_default-refuses_write.is in
-    let written = write_failed reel_of c.args.serial k i t.reels.items was c.end_with-left.new.self place c.index_mut.ensures.value t.read_faults t.write_faults t.fuse t.arms
+    let written = write_failed reel_of c.args.serial k i t.reels.items was c.end_with-left.new.self place c.index_mut.ensures.value risk_of t.read_faults t.write_faults t.fuse t.arms
     c.args.from.now c.burn.new.self c.raised-self.result free
     (left_any k _ (reel_of was) (reel_of c.end_with-left.new.self) c.end_with-left.result c.end_with-left.ensures.done c.end_with-left.ensures.left)
     c.burn.ensures.left c.raised-self.ensures in record {
       written = written;
-      durable = writes_durably c.args.serial k c.args.from.now (rack_of t) _ refl refl t.well_formed (Err WriteFailed) written;
+      durable = rack_writes reel_of risk_of (λ x. refl) c.args.serial i t.reels.items was c.end_with-left.new.self t.well_formed place c.index_mut.ensures.value
+          c.end_with-left.ensures.serial (rack_of t) _ refl refl refl refl k c.args.from.now (Err WriteFailed)
+          (armed_writes k c.args.from.now (reel_of was) (reel_of c.end_with-left.new.self) (risk_of was) (risk_of c.end_with-left.new.self) c.end_with-left.result WriteFailed
+          (subst (λ (b : List ℕ). OnOk c.end_with-left.result (reel_of c.end_with-left.new.self ≡ ending k b (reel_of was))) c.half_of.ensures c.end_with-left.ensures.done)
+          (λ bs at. let long = (is_reel was).told bs at in let few = (allowed-write k (reel_of was) free).0 in omega (arith, long, few))
+          (subst (λ (b : List ℕ). WritesReel k b (reel_of was) (reel_of c.end_with-left.new.self) (risk_of was) (risk_of c.end_with-left.new.self) c.end_with-left.result)
+          c.half_of.ensures c.end_with-left.ensures.durable));
     }
 
 pub returns-then-is_err : goal.returns-then-is_err
@@ -117,12 +124,14 @@ returns-then-is_err g c =
     let free = free_at reel_of c.args.serial 0 i t.reels.items was was place c.index_mut-2.ensures.value (refuses_write k) c.index.result.now
     c.refuses_write.result c.index.ensures (c.refuses_write.ensures ∙ ap (λ (r : Reel). refuses_write k (Some r)) c.state.ensures.value)
     c.in_default-refuses_write.is in
-    let written = write_failed reel_of c.args.serial k i t.reels.items was c.end_with.new.self place c.index_mut-2.ensures.value t.read_faults t.write_faults t.fuse t.arms
+    let written = write_failed reel_of c.args.serial k i t.reels.items was c.end_with.new.self place c.index_mut-2.ensures.value risk_of t.read_faults t.write_faults t.fuse t.arms
     c.args.from.now c.burn.new.self c.raised-self-then-is_err.result free
     (left_any k _ (reel_of was) (reel_of c.end_with.new.self) c.end_with.result c.end_with.ensures.done c.end_with.ensures.left)
     c.burn.ensures.left c.raised-self-then-is_err.ensures in record {
       written = written;
-      durable = writes_durably c.args.serial k c.args.from.now (rack_of t) _ refl refl t.well_formed (Err WriteFailed) written;
+      durable = rack_writes reel_of risk_of (λ x. refl) c.args.serial i t.reels.items was c.end_with.new.self t.well_formed place c.index_mut-2.ensures.value c.end_with.ensures.serial
+          (rack_of t) _ refl refl refl refl k c.args.from.now (Err WriteFailed) (writes_as k c.args.from.now (reel_of was) (reel_of c.end_with.new.self) (risk_of was)
+          (risk_of c.end_with.new.self) c.end_with.result (Err WriteFailed) (is_failed c.end_with.result (sym c.is_err.ensures.value ∙ c.if-is_err.true)) c.end_with.ensures.durable);
     }
 
 pub returns : goal.returns
@@ -135,11 +144,13 @@ returns g c =
     let free = free_at reel_of c.args.serial 0 i t.reels.items was was place c.index_mut-2.ensures.value (refuses_write k) c.index.result.now
     c.refuses_write.result c.index.ensures (c.refuses_write.ensures ∙ ap (λ (r : Reel). refuses_write k (Some r)) c.state.ensures.value)
     c.in_default-refuses_write.is in
-    let written = write_done reel_of c.args.serial k i t.reels.items was c.end_with.new.self place c.index_mut-2.ensures.value t.read_faults t.write_faults t.fuse t.arms
+    let written = write_done reel_of c.args.serial k i t.reels.items was c.end_with.new.self place c.index_mut-2.ensures.value risk_of t.read_faults t.write_faults t.fuse t.arms
     c.args.from.now c.burn.new.self free (on_ok_at c.end_with.result (sym c.is_err.ensures.value ∙ c.if-is_err.false) c.end_with.ensures.done)
     c.burn.ensures.left (λ armed. let fires : c.burn.result ≡ true = c.burn.ensures.fires.1 armed in cc) in record {
       written = written;
-      durable = writes_durably c.args.serial k c.args.from.now (rack_of t) _ refl refl t.well_formed (Ok tt) written;
+      durable = rack_writes reel_of risk_of (λ x. refl) c.args.serial i t.reels.items was c.end_with.new.self t.well_formed place c.index_mut-2.ensures.value c.end_with.ensures.serial
+          (rack_of t) _ refl refl refl refl k c.args.from.now (Ok tt) (writes_as k c.args.from.now (reel_of was) (reel_of c.end_with.new.self) (risk_of was)
+          (risk_of c.end_with.new.self) c.end_with.result (Ok tt) (is_done c.end_with.result (sym c.is_err.ensures.value ∙ c.if-is_err.false)) c.end_with.ensures.durable);
     }
 
 pub returns-in-Some-refuses_write : goal.returns-in-Some-refuses_write
@@ -153,5 +164,5 @@ returns-in-Some-refuses_write g c =
     c.in-Some-refuses_write.fault (c.refuses_write.ensures ∙ ap (λ (r : Reel). refuses_write k (Some r)) c.state.ensures.value) c.in-Some-refuses_write.is in
     let written = write_refused c.args.serial k c.args.from.now (rack_of t) c.in-Some-refuses_write.fault refused in record {
       written = written;
-      durable = writes_durably c.args.serial k c.args.from.now (rack_of t) _ refl refl t.well_formed (Err c.in-Some-refuses_write.fault) written;
+      durable = refused_durably c.args.serial k c.args.from.now (rack_of t) c.in-Some-refuses_write.fault refused;
     }
