@@ -1,5 +1,5 @@
 -- What calls on a file do to the blocks of it that count.
--- serves: append (done, front, left), cut (front), cut_tail (same), drop_from (done, left, written), drop_last (bytes, front), and 8 more
+-- serves: append (done, front, left), cut (front), cut_tail (same), drop_from (done, left, written), drop_last (bytes, front), and 7 more
 use Rattle.std.proofs.Common.{◌≡◌, ◌⊎◌, ℕ, zero, suc, ◌+◌, ◌*◌, ◌<◌, ◌≤◌, List, [], ◌∷◌, ◌++◌, length, take, drop, Result, Ok, Err, is_ok, true, OnOk, OnErr, Some, None, refl, sym, ap, subst, ◌∙◌, inl, inr, arith, add-one, length-drop}
 use Rattle.std.specs.Prelude.{Option, option_map}
 use Rattle.std.specs.Option.{ForSome}
