@@ -1,5 +1,5 @@
 -- What a power loss leaves after an opening of a dump, a MIGRATE, a mount and an unmount.
--- serves: event_losses (safe, stopped)
+-- serves: event_losses (can, process, safe, stopped)
 use Rattle.std.proofs.Common.{◌≡◌, ℕ, ◌<◌, Bool, true, false, List, [], Option, Some, None, Ok, Err, refl, sym, ◌∙◌, ap, arith, subst, inl, inr, option_map}
 use Rattle.std.specs.Prelude.{◌⊎◌, IfSome, Result}
 use Rattle.std.proofs.lemmas.Bool.{cases_eq}
@@ -14,6 +14,9 @@ use Rattle.g_plain.specs.declared.faults.StoreFault.{StoreFault}
 use Rattle.g_plain.specs.declared.faults.StoreFault.TheVariants.{Stopped}
 use Rattle.g_plain.specs.PlainTree.{input_name}
 use Rattle.g_plain.proofs.Found.{some_of}
+use Rattle.g_dirs.specs.Durable.{IsDiscSafe}
+use Rattle.g_disc_contents.specs.Durable.{IsDurable}
+use Rattle.g_incr.specs.Layout.{Dump}
 use Rattle.g_shelf.specs.Surviving.{DumpsSurvive, IsBegunDurably}
 use Rattle.g_shelf.proofs.SurvivingLemmas.{begun_reads, survive_reads}
 use Rattle.g_store_model.specs.State.{Holding, State}
@@ -23,14 +26,16 @@ use Rattle.g_store_meaning.specs.Belonging.{BelongWith}
 use Rattle.g_store_meaning.specs.Meaning.{told_reels}
 use Rattle.g_store_meaning.specs.Reading.{StandsForState}
 use Rattle.g_store_meaning.specs.StoreInvariant.{DumpFacts, StoreFacts}
-use Rattle.g_store_meaning.specs.Surviving.{with_disc_left}
+use Rattle.g_store_meaning.specs.Surviving.{disc_left, with_disc_left}
+use Rattle.g_process.specs.PowerLosses.{LeavesMark, LeavesNew, LeavesOld, LeavesReleasing, LossLeaves}
+use Rattle.g_process.specs.Processing.{Processes}
 use Rattle.g_store.specs.Dumping.{OpensDump}
 use Rattle.g_store.specs.Events.{AnswersEvent, IsAnsweredBy, Migrates, Mounts, Opens, Unmounts}
 use Rattle.g_store.specs.Refusing.{DoneOr, mount_refuses, unmount_refuses}
-use Rattle.g_laws_power.specs.Events.{EventsKeepSafe, StoppedEventsSurvive, StopsLikeBy}
-use Rattle.g_laws_power.specs.Losses.{IsLeft, IsSafe}
+use Rattle.g_laws_power.specs.Events.{EventsKeepSafe, ProcessKeepsSafe, StoppedCanBeSafe, StoppedEventsSurvive, StopsLikeBy}
+use Rattle.g_laws_power.specs.Losses.{CanBeSafe, IsLeft, IsSafe}
 use Rattle.g_laws_power.proofs.LeftLemmas.{belong_left, stand_left}
-use Rattle.g_laws_power.proofs.SurvivalLemmas.{spent_view, still_begun, survive_call}
+use Rattle.g_laws_power.proofs.SurvivalLemmas.{can_again, spent_view, still_begun, survive_call}
 
 abbrev By : Type 0 → Type 1
 By A = State → Holding → Outcome → Result A StoreFault → State → Type 0
@@ -145,3 +150,56 @@ stopped_events_survive = record {
   migrating = λ path old new blocks rack safe migrates left.
       event_survives (λ s k o a n. MigrateStep s k path.user (input_name k.tree [] path) o a n) (λ full. 1) old new safe migrates.event migrates.cause.tapes blocks rack left;
 }
+
+-- WHAT A STOPPED EVENT LEFT can be safe again
+module _ {A : Type 0} (by : By A) (count : A → ℕ) (old new : StoreFacts) (safe : IsSafe old) (answers : AnswersEvent by count old (Err Stopped) new) (only : OnlyReads old.rack new.rack) where
+  pub stopped_can : CanBeSafe new.online.disc new.rack
+  stopped_can = record {
+    told = answers.told safe.told;
+    belong = (answers.belongs safe.told safe.belongs).devices;
+    disc_safe = answers.survives.safe (answers.spent.1 refl) safe.disc;
+    dumps = λ serial. inl (survive_call old new safe only serial);
+  }
+
+  pub left_can : (blocks : List (List ℕ)) (rack : Rack) → IsLeft new blocks rack → CanBeSafe (disc_left blocks new.online.disc) rack
+  left_can blocks rack left = can_again new blocks rack (answers.told safe.told) (survive_call old new safe only) left (event_survives by count old new safe answers only blocks rack left).0
+
+pub stopped_can_be_safe : StoppedCanBeSafe
+stopped_can_be_safe = record {
+  opening = λ serial old new blocks rack safe opens left. left_can (λ s k o a n. OpenStep s k serial o a n) (λ number. 1) old new safe opens.event opens.cause.tapes blocks rack left;
+  migrating = λ path old new blocks rack safe migrates left.
+      left_can (λ s k o a n. MigrateStep s k path.user (input_name k.tree [] path) o a n) (λ full. 1) old new safe migrates.event migrates.cause.tapes blocks rack left;
+  opening_alone = λ serial old new safe opens. stopped_can (λ s k o a n. OpenStep s k serial o a n) (λ number. 1) old new safe opens.event opens.cause.tapes;
+  migrating_alone = λ path old new safe migrates. stopped_can (λ s k o a n. MigrateStep s k path.user (input_name k.tree [] path) o a n) (λ full. 1) old new safe migrates.event migrates.cause.tapes;
+}
+
+-- PROCESS
+disc_of_stop : (text : ℕ → List ℕ) (shelf : ℕ → List Dump) (serial : ℕ) (old new : StoreFacts) → IsDurable old.online → LossLeaves text shelf serial old new → IsDiscSafe new.online.disc
+disc_of_stop text shelf serial old new durable (LeavesOld disc reels) = (disc.survives durable).0
+disc_of_stop text shelf serial old new durable (LeavesMark disc content has reels) = (disc.survives durable).0
+disc_of_stop text shelf serial old new durable (LeavesNew disc content has reels) = (disc.survives durable).0
+disc_of_stop text shelf serial old new durable (LeavesReleasing disc content has last reels) = (disc.survives durable).0
+
+pub process_keeps_safe : ProcessKeepsSafe
+process_keeps_safe = record {
+  safe = λ serial old new answer safe it isnt.
+      let up = unspent_after old new answer it isnt new.spent refl in record {
+        told = it.told safe.told;
+        store = it.keeps;
+        up = up;
+        belongs = it.belongs safe.told safe.belongs;
+        disc = it.durable up safe.disc;
+        dumps = it.dumps safe.told safe.belongs safe.dumps;
+      };
+  stop = λ serial old new safe it.
+      let (text, shelf, shelved, up) = safe.belongs.up safe.up in record {
+        told = it.told safe.told;
+        belong = (it.belongs safe.told safe.belongs).devices;
+        disc_safe = disc_of_stop text shelf serial old new safe.disc (it.left safe.told text shelf shelved up safe.up safe.dumps refl);
+        dumps = (it.dumps safe.told safe.belongs safe.dumps).can;
+      };
+}
+  where
+    unspent_after : {serial : ℕ} (old new : StoreFacts) (answer : Result ℕ StoreFault) → Processes serial old answer new → (answer ≡ Err Stopped → ⊥) → (b : Bool) → new.spent ≡ b → new.spent ≡ false
+    unspent_after old new answer it isnt true is = absurd (isnt (it.spent.0 is))
+    unspent_after old new answer it isnt false is = is

@@ -1,5 +1,5 @@
 -- What a power loss leaves of a store between two calls, and after a call that was stopped.
--- serves: power_losses (between, left, making, safe, stopped), EventLemmas
+-- serves: power_losses (between, can, left, making, safe, stopped), EventLemmas
 use Rattle.std.proofs.Common.{◌≡◌, ℕ, ◌<◌, Bool, true, false, List, Option, Some, None, Err, is_some, refl, sym, ◌∙◌, ap, subst, inl, true≢false}
 use Rattle.std.specs.Prelude.{All, IfSome, Result}
 use Rattle.std.proofs.lemmas.List.Elements.{All-weaker}
@@ -8,7 +8,6 @@ use Rattle.g_disc.specs.Durable.{MayLeave}
 use Rattle.g_tape.specs.Rack.{Rack}
 use Rattle.g_tape.specs.Reads.{OnlyReads}
 use Rattle.g_tape.specs.Reel.{Reel}
-use Rattle.g_tape.specs.Risk.{Leaves, Risk, risk}
 use Rattle.g_tape.proofs.ReadLemmas.{blocks_after_reads}
 use Rattle.g_plain.specs.declared.calls.StoreCall.{StoreCall}
 use Rattle.g_plain.specs.declared.calls.StoreReply.{StoreReply}
@@ -21,17 +20,17 @@ use Rattle.g_shelf.specs.Surviving.{CanSurvive, DumpsSurvive, IsBegunDurably}
 use Rattle.g_shelf.proofs.SurvivingLemmas.{begun_reads, durable_dumps, survive_reads}
 use Rattle.g_store_model.specs.State.{State}
 use Rattle.g_store_model.specs.CallStep.{CallStep, down}
-use Rattle.g_store_meaning.specs.Answers.{Answers, IsAnswered}
+use Rattle.g_store_meaning.specs.Answers.{Answers, IsAnswered, Told}
 use Rattle.g_store_meaning.specs.Belonging.{BelongWith, DiscBelongs}
 use Rattle.g_store_meaning.specs.Meaning.{told_reels}
 use Rattle.g_store_meaning.specs.Reading.{AllTold, DevicesStandFor, HasText, IsView, StandsForState, View, state_up}
 use Rattle.g_store_meaning.specs.StoreInvariant.{DumpFacts, StoreFacts}
-use Rattle.g_store_meaning.specs.Surviving.{AreDumpsSafe, DumpsMadeSafe, with_disc_left}
+use Rattle.g_store_meaning.specs.Surviving.{AreDumpsSafe, DumpsMadeSafe, disc_left, with_disc_left}
 use Rattle.g_store_meaning.proofs.SafeLemmas.{safe_then_read}
 use Rattle.g_store_meaning.proofs.ViewLemmas.{Stands, to}
 use Rattle.g_laws_store.proofs.TiedLemmas.{holds_after_loss}
-use Rattle.g_laws_power.specs.Losses.{CallsKeepSafe, IsLeft, IsSafe, LeftIsDurable, MakingIsSafe, StoppedCallsSurvive, StopsLike, StoreSurvives}
-use Rattle.g_laws_power.proofs.LeftLemmas.{belong_left, stand_left}
+use Rattle.g_laws_power.specs.Losses.{CallsKeepSafe, CanBeSafe, IsLeft, IsRackLeft, IsSafe, LeftCanBeSafe, LeftIsDurable, MakingIsSafe, StoppedCallsSurvive, StopsLike, StoreSurvives}
+use Rattle.g_laws_power.proofs.LeftLemmas.{belong_left, stand_left, told_left}
 
 -- THE STATE of a store that is up, and that of one that was stopped
 up_view : (s : StoreFacts) (u : State) → s.spent ≡ false → StandsForState s u
@@ -167,8 +166,31 @@ calls_keep_safe old new who call answer safe answers isnt =
 pub left_is_durable : LeftIsDurable
 left_is_durable s blocks rack left = (
   λ held at side names. record { slot = λ k within. refl; files = λ e stands k within. refl },
-  λ serial. durable_dumps serial rack (λ had at now leaves. subst (λ (rs : List Risk). Leaves (risk serial rs) had now) left.reels.durable leaves),
+  λ serial. durable_dumps serial rack (left.reels.durable serial),
 )
+
+-- what is left can be safe again
+pub can_again : (s : StoreFacts) (blocks : List (List ℕ)) (rack : Rack) → Told s → ((n : ℕ) → DumpsSurvive n s.rack) → IsLeft s blocks rack → BelongWith (Some blocks) (told_reels rack)
+    → CanBeSafe (disc_left blocks s.online.disc) rack
+can_again s blocks rack told survive left belong = record {
+  told = record { disc = refl; each = told_left s.rack rack left.reels told.each survive };
+  belong = belong;
+  disc_safe = (left_is_durable s blocks rack left).0;
+  dumps = λ serial. inl ((left_is_durable s blocks rack left).1 serial);
+}
+
+pub left_can_be_safe : LeftCanBeSafe
+left_can_be_safe = record {
+  between = λ s blocks rack safe left. can_again s blocks rack safe.told (safe.dumps.up safe.up) left (store_survives s blocks rack safe left).0;
+  stopped = λ old new who call blocks rack safe answers left.
+      can_again new blocks rack (answers.told safe.told) (survive_call old new safe answers.cause.tapes) left (call_survives old new who call blocks rack safe answers left).0;
+  stop = λ old new who call safe answers. record {
+    told = answers.told safe.told;
+    belong = (answers.belongs safe.told safe.belongs).devices;
+    disc_safe = answers.survives.safe (answers.spent.1 refl) safe.disc;
+    dumps = λ serial. inl (survive_call old new safe answers.cause.tapes serial);
+  };
+}
 
 -- A STORE THAT IS MADE of it is safe
 made_dumps : (rack : Rack) (new : StoreFacts) → new.dump ≡ None → ((serial : ℕ) → CanSurvive serial rack) → DumpsMadeSafe rack new.rack → AreDumpsSafe new

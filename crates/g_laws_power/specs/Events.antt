@@ -1,4 +1,5 @@
--- What a power loss leaves after the operator's events that write no tape: an opening of a dump, a MIGRATE, a mount and an unmount.
+-- What a power loss leaves after the operator's events: an opening of a dump, a MIGRATE, a mount and an unmount. Of PROCESS, whether its store is
+-- safe.
 use Rattle.std.specs.Prelude.{◌≡◌, ℕ, List, [], Result, Some, Err}
 use Rattle.g_name.specs.declared.full.Full.{Full}
 use Rattle.g_name.specs.declared.path.Path.{Path}
@@ -13,9 +14,11 @@ use Rattle.g_store_meaning.specs.Belonging.{BelongWith}
 use Rattle.g_store_meaning.specs.Meaning.{told_reels}
 use Rattle.g_store_meaning.specs.Reading.{StandsForState}
 use Rattle.g_store_meaning.specs.StoreInvariant.{StoreFacts}
+use Rattle.g_store_meaning.specs.Surviving.{disc_left}
+use Rattle.g_process.specs.Processing.{Processes}
 use Rattle.g_store.specs.Dumping.{OpensDump}
 use Rattle.g_store.specs.Events.{Migrates, Mounts, Opens, Unmounts}
-use Rattle.g_laws_power.specs.Losses.{IsLeft, IsSafe, StandLike}
+use Rattle.g_laws_power.specs.Losses.{CanBeSafe, IsLeft, IsSafe, StandLike}
 
 -- EACH OF THEM LEAVES A SAFE STORE, unless a write failed
 pub record EventsKeepSafe : Type 0 where
@@ -40,3 +43,16 @@ pub record StoppedEventsSurvive : Type 0 where
   pub migrating : (path : Path) (old new : StoreFacts) (blocks : List (List ℕ)) (rack : Rack) → IsSafe old → Migrates path old (Err Stopped) new → IsLeft new blocks rack
       → BelongWith (Some blocks) (told_reels rack)
       × ((s : State) → StandsForState old s → StopsLikeBy (λ s k o a n. MigrateStep s k path.user (input_name k.tree [] path) o a n) s new.online.disc.size blocks rack)
+
+-- WHAT IS LEFT after one that was stopped can be safe again, with a power loss or without one.
+pub record StoppedCanBeSafe : Type 0 where
+  pub opening : (serial : ℕ) (old new : StoreFacts) (blocks : List (List ℕ)) (rack : Rack) → IsSafe old → Opens serial old (Err Stopped) new → IsLeft new blocks rack → CanBeSafe (disc_left blocks new.online.disc) rack
+  pub migrating : (path : Path) (old new : StoreFacts) (blocks : List (List ℕ)) (rack : Rack) → IsSafe old → Migrates path old (Err Stopped) new → IsLeft new blocks rack
+      → CanBeSafe (disc_left blocks new.online.disc) rack
+  pub opening_alone : (serial : ℕ) (old new : StoreFacts) → IsSafe old → Opens serial old (Err Stopped) new → CanBeSafe new.online.disc new.rack
+  pub migrating_alone : (path : Path) (old new : StoreFacts) → IsSafe old → Migrates path old (Err Stopped) new → CanBeSafe new.online.disc new.rack
+
+-- PROCESS LEAVES A SAFE STORE, or, if a write failed, devices that can be safe again.
+pub record ProcessKeepsSafe : Type 0 where
+  pub safe : (serial : ℕ) (old new : StoreFacts) (answer : Result ℕ StoreFault) → IsSafe old → Processes serial old answer new → (answer ≡ Err Stopped → ⊥) → IsSafe new
+  pub stop : (serial : ℕ) (old new : StoreFacts) → IsSafe old → Processes serial old (Err Stopped) new → CanBeSafe new.online.disc new.rack

@@ -1,10 +1,11 @@
 -- What a power loss leaves of the devices of a store.
-use Rattle.std.specs.Prelude.{◌≡◌, ℕ, true, false, List, [], Option, Result, Some, Err, is_some}
+use Rattle.std.specs.Prelude.{◌≡◌, ℕ, true, false, List, Option, Result, Some, Err, is_some}
 use Rattle.std.specs.List.{AllZip}
 use Rattle.std.specs.Option.{ForSome}
 use Rattle.g_dirs.specs.Durable.{IsDiscSafe}
 use Rattle.g_disc.specs.Disc.{DiscState}
 use Rattle.g_disc.specs.Durable.{MayLeave as MayLeaveDisc}
+use Rattle.g_tape.specs.Durable.{IsDurable}
 use Rattle.g_tape.specs.Rack.{Rack}
 use Rattle.g_tape.specs.Reads.{MayLeave}
 use Rattle.g_tape.specs.Reel.{Reel}
@@ -12,7 +13,7 @@ use Rattle.g_plain.specs.declared.calls.StoreCall.{StoreCall}
 use Rattle.g_plain.specs.declared.calls.StoreReply.{StoreReply}
 use Rattle.g_plain.specs.declared.faults.StoreFault.{StoreFault}
 use Rattle.g_plain.specs.declared.faults.StoreFault.TheVariants.{Stopped}
-use Rattle.g_disc_contents.specs.Durable.{IsDurable}
+use Rattle.g_disc_contents.specs.Durable as contents
 use Rattle.g_store_model.specs.State.{Holding, ReelRow, State}
 use Rattle.g_store_model.specs.CallStep.{CallStep, Outcome, down}
 use Rattle.g_store_meaning.specs.Answers.{Answers, Belongs, IsStore, Told}
@@ -35,7 +36,7 @@ pub record IsReelLeft (old : Rack) (was now : Reel) : Type 0 where
 -- A rack after a power loss: what is left of each reel, and all of it is durable.
 pub record IsRackLeft (old new : Rack) : Type 0 where
   pub reels : AllZip (IsReelLeft old) old.reels new.reels
-  pub durable : new.risks ≡ []
+  pub durable : (serial : ℕ) → IsDurable serial new
 
 -- These blocks and this rack are what a power loss may leave of the devices of a store.
 pub record IsLeft (s : StoreFacts) (blocks : List (List ℕ)) (rack : Rack) : Type 0 where
@@ -48,7 +49,7 @@ pub record IsSafe (s : StoreFacts) : Type 0 where
   pub store : IsStore s
   pub up : s.spent ≡ false
   pub belongs : Belongs s
-  pub disc : IsDurable s.online
+  pub disc : contents.IsDurable s.online
   pub dumps : AreDumpsSafe s
 
 -- A row of the same reel, with the same dumps; but the reel isn't mounted, and may have blocks or none.
@@ -111,3 +112,11 @@ pub record MakingIsSafe : Type 0 where
 -- WHAT A POWER LOSS LEAVES IS DURABLE: the disc is safe, and the dumps survive the next power loss.
 abbrev pub LeftIsDurable : Type 0
 LeftIsDurable = (s : StoreFacts) (blocks : List (List ℕ)) (rack : Rack) → IsLeft s blocks rack → IsDiscSafe (disc_left blocks s.online.disc) × ((serial : ℕ) → DumpsSurvive serial rack)
+
+-- WHAT IS LEFT CAN BE SAFE AGAIN: what a power loss leaves of a safe store, and of a store of which a call was stopped; and what that call left
+-- without a power loss.
+pub record LeftCanBeSafe : Type 0 where
+  pub between : (s : StoreFacts) (blocks : List (List ℕ)) (rack : Rack) → IsSafe s → IsLeft s blocks rack → CanBeSafe (disc_left blocks s.online.disc) rack
+  pub stopped : (old new : StoreFacts) (who : List ℕ) (call : StoreCall) (blocks : List (List ℕ)) (rack : Rack) → IsSafe old → Answers old who call (Err Stopped) new → IsLeft new blocks rack
+      → CanBeSafe (disc_left blocks new.online.disc) rack
+  pub stop : (old new : StoreFacts) (who : List ℕ) (call : StoreCall) → IsSafe old → Answers old who call (Err Stopped) new → CanBeSafe new.online.disc new.rack

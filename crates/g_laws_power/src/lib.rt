@@ -1,22 +1,26 @@
 //! Theorems about what a power loss leaves of the devices of a store. No code is involved.
 #![tactic(auto)]
 
-ghost use Rattle.g_laws_power.specs.Events.{EventsKeepSafe, StoppedEventsSurvive};
-ghost use Rattle.g_laws_power.specs.Losses.{CallsKeepSafe, LeftIsDurable, MakingIsSafe, StoppedCallsSurvive, StoreSurvives};
+ghost use Rattle.g_laws_power.specs.Events.{EventsKeepSafe, ProcessKeepsSafe, StoppedCanBeSafe, StoppedEventsSurvive};
+ghost use Rattle.g_laws_power.specs.Losses.{CallsKeepSafe, LeftCanBeSafe, LeftIsDurable, MakingIsSafe, StoppedCallsSurvive, StoreSurvives};
 
 /// A power loss between two calls of a safe store leaves disc and rack with what the store would leave by going down. After a call
-/// that was stopped it leaves them with what the call may leave. Each other call leaves the store safe. What is left is durable, and
-/// START or RESTORE makes a safe store of it.
+/// that was stopped it leaves them with what the call may leave. Each other call leaves the store safe. Of what is left, START or
+/// RESTORE makes a safe store.
 pub fn power_losses()
     ensures between { StoreSurvives }
     ensures stopped { StoppedCallsSurvive }
     ensures safe { CallsKeepSafe }
     ensures left { LeftIsDurable }
+    ensures can { LeftCanBeSafe }
     ensures making { MakingIsSafe }
 {}
 
-/// The same of the operator's events that write no tape: the opening of a dump, MIGRATE, a mount and an unmount.
+/// The same of the operator's events that write no tape: the opening of a dump, MIGRATE, a mount and an unmount. PROCESS leaves a safe
+/// store too, or, if a write failed, devices that can be safe again.
 pub fn event_losses()
     ensures stopped { StoppedEventsSurvive }
     ensures safe { EventsKeepSafe }
+    ensures can { StoppedCanBeSafe }
+    ensures process { ProcessKeepsSafe }
 {}
