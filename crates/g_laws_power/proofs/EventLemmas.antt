@@ -33,7 +33,7 @@ use Rattle.g_store.specs.Dumping.{OpensDump}
 use Rattle.g_store.specs.Events.{AnswersEvent, IsAnsweredBy, Migrates, Mounts, Opens, Unmounts}
 use Rattle.g_store.specs.Refusing.{DoneOr, mount_refuses, unmount_refuses}
 use Rattle.g_laws_power.specs.Events.{EventsKeepSafe, ProcessKeepsSafe, StoppedCanBeSafe, StoppedEventsSurvive, StopsLikeBy}
-use Rattle.g_laws_power.specs.Losses.{CanBeSafe, IsLeft, IsSafe}
+use Rattle.g_store_meaning.specs.Safety.{CanBeSafe, IsLeft, IsSafe}
 use Rattle.g_laws_power.proofs.LeftLemmas.{belong_left, stand_left}
 use Rattle.g_laws_power.proofs.SurvivalLemmas.{can_again, spent_view, still_begun, survive_call}
 
@@ -59,7 +59,7 @@ module _ {A : Type 0} (by : By A) (count : A → ℕ) (old new : StoreFacts) (an
 
 -- A STORE THAT WAS STOPPED, and whose reels were only read
 module _ {A : Type 0} (by : By A) (count : A → ℕ) (old new : StoreFacts) (safe : IsSafe old) (answers : AnswersEvent by count old (Err Stopped) new) (only : OnlyReads old.rack new.rack)
-    (blocks : List (List ℕ)) (rack : Rack) (left : IsLeft new blocks rack) where
+    (blocks : List (List ℕ)) (rack : Rack) (left : IsLeft new.online.disc new.rack blocks rack) where
   abbrev cut : StoreFacts
   cut = with_disc_left blocks new
 
@@ -67,7 +67,7 @@ module _ {A : Type 0} (by : By A) (count : A → ℕ) (old new : StoreFacts) (sa
   spent = answers.spent.1 refl
 
   answered : IsAnsweredBy by old (Err Stopped) cut
-  answered = let (had, at) = some_of old.online.disc.held safe.told.disc in answers.survives.left spent safe.disc had at blocks left.disc
+  answered = let (had, at) = some_of old.online.disc.held safe.told.disc in answers.survives.left spent safe.disc had at blocks left.on_disc
 
   pub event_survives : BelongWith (Some blocks) (told_reels rack) × ((s : State) → StandsForState old s → StopsLikeBy by s new.online.disc.size blocks rack)
   event_survives = (
@@ -161,7 +161,7 @@ module _ {A : Type 0} (by : By A) (count : A → ℕ) (old new : StoreFacts) (sa
     dumps = λ serial. inl (survive_call old new safe only serial);
   }
 
-  pub left_can : (blocks : List (List ℕ)) (rack : Rack) → IsLeft new blocks rack → CanBeSafe (disc_left blocks new.online.disc) rack
+  pub left_can : (blocks : List (List ℕ)) (rack : Rack) → IsLeft new.online.disc new.rack blocks rack → CanBeSafe (disc_left blocks new.online.disc) rack
   left_can blocks rack left = can_again new blocks rack (answers.told safe.told) (survive_call old new safe only) left (event_survives by count old new safe answers only blocks rack left).0
 
 pub stopped_can_be_safe : StoppedCanBeSafe

@@ -18,7 +18,7 @@ use Rattle.g_store_meaning.specs.Belonging.{BelongWith}
 use Rattle.g_store_meaning.specs.Meaning.{told_reels}
 use Rattle.g_store_meaning.specs.Reading.{AllTold, DevicesStandFor, HasText, IsRackView, IsView, ReelsTold, View, row_of, state_down}
 use Rattle.g_laws_store.proofs.DumpingLemmas.{moved_disc, moved_dumps, moved_rack}
-use Rattle.g_laws_power.specs.Losses.{IsLike, IsRackLeft, IsReelLeft, IsRowLike, StandLike}
+use Rattle.g_store_meaning.specs.Safety.{IsLike, IsRackLeft, IsReelLeft, IsRowLike, StandLike}
 
 -- A REEL AMONG OTHERS is found by its serial, if all of them expose their blocks
 found_told : (rs : List Reel) (r : Reel) → Contains rs r → All (λ x. is_some x.blocks ≡ true) (map unread rs) → (blocks : List (List ℕ)) × (blocks_in (reel r.serial rs) ≡ Some blocks)

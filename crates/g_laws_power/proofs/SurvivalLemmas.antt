@@ -29,7 +29,8 @@ use Rattle.g_store_meaning.specs.Surviving.{AreDumpsSafe, DumpsMadeSafe, disc_le
 use Rattle.g_store_meaning.proofs.SafeLemmas.{safe_then_read}
 use Rattle.g_store_meaning.proofs.ViewLemmas.{Stands, to}
 use Rattle.g_laws_store.proofs.TiedLemmas.{holds_after_loss}
-use Rattle.g_laws_power.specs.Losses.{CallsKeepSafe, CanBeSafe, IsLeft, IsRackLeft, IsSafe, LeftCanBeSafe, LeftIsDurable, MakingIsSafe, StoppedCallsSurvive, StopsLike, StoreSurvives}
+use Rattle.g_store_meaning.specs.Safety.{CanBeSafe, IsLeft, IsRackLeft, IsSafe}
+use Rattle.g_laws_power.specs.Losses.{CallsKeepSafe, LeftCanBeSafe, LeftIsDurable, MakingIsSafe, StoppedCallsSurvive, StopsLike, StoreSurvives}
 use Rattle.g_laws_power.proofs.LeftLemmas.{belong_left, stand_left, told_left}
 
 -- THE STATE of a store that is up, and that of one that was stopped
@@ -93,8 +94,8 @@ module _ (s : StoreFacts) (blocks : List (List ℕ)) (safe : IsSafe s) (may : Ma
 
 pub store_survives : StoreSurvives
 store_survives s blocks rack safe left = (
-  belong_left s.rack rack left.reels safe.told.each (safe.dumps.up safe.up) (Some blocks) (belongs_before s blocks safe left.disc),
-  λ u here. stand_left s.rack rack left.reels safe.told.each (safe.dumps.up safe.up) s.online.disc.size blocks (down u) (down_before s blocks safe left.disc u here),
+  belong_left s.rack rack left.reels safe.told.each (safe.dumps.up safe.up) (Some blocks) (belongs_before s blocks safe left.on_disc),
+  λ u here. stand_left s.rack rack left.reels safe.told.each (safe.dumps.up safe.up) s.online.disc.size blocks (down u) (down_before s blocks safe left.on_disc u here),
 )
 
 -- AFTER A CALL: the reels were only read
@@ -102,7 +103,7 @@ pub survive_call : (old new : StoreFacts) → IsSafe old → OnlyReads old.rack 
 survive_call old new safe only n = survive_reads n old.rack new.rack only.durable (blocks_after_reads n old.rack new.rack only) (safe.dumps.up safe.up n)
 
 -- that was stopped
-module _ (old new : StoreFacts) (who : List ℕ) (call : StoreCall) (blocks : List (List ℕ)) (rack : Rack) (safe : IsSafe old) (answers : Answers old who call (Err Stopped) new) (left : IsLeft new blocks rack) where
+module _ (old new : StoreFacts) (who : List ℕ) (call : StoreCall) (blocks : List (List ℕ)) (rack : Rack) (safe : IsSafe old) (answers : Answers old who call (Err Stopped) new) (left : IsLeft new.online.disc new.rack blocks rack) where
   abbrev cut : StoreFacts
   cut = with_disc_left blocks new
 
@@ -110,7 +111,7 @@ module _ (old new : StoreFacts) (who : List ℕ) (call : StoreCall) (blocks : Li
   spent = answers.spent.1 refl
 
   answered : IsAnswered old who call (Err Stopped) cut
-  answered = let (had, at) = some_of old.online.disc.held safe.told.disc in answers.survives.left spent safe.disc had at blocks left.disc
+  answered = let (had, at) = some_of old.online.disc.held safe.told.disc in answers.survives.left spent safe.disc had at blocks left.on_disc
 
   stops : (s : State) → StandsForState old s → StopsLike s who call new.online.disc.size blocks rack
   stops s here =
@@ -170,7 +171,7 @@ left_is_durable s blocks rack left = (
 )
 
 -- what is left can be safe again
-pub can_again : (s : StoreFacts) (blocks : List (List ℕ)) (rack : Rack) → Told s → ((n : ℕ) → DumpsSurvive n s.rack) → IsLeft s blocks rack → BelongWith (Some blocks) (told_reels rack)
+pub can_again : (s : StoreFacts) (blocks : List (List ℕ)) (rack : Rack) → Told s → ((n : ℕ) → DumpsSurvive n s.rack) → IsLeft s.online.disc s.rack blocks rack → BelongWith (Some blocks) (told_reels rack)
     → CanBeSafe (disc_left blocks s.online.disc) rack
 can_again s blocks rack told survive left belong = record {
   told = record { disc = refl; each = told_left s.rack rack left.reels told.each survive };

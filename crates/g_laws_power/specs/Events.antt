@@ -18,7 +18,7 @@ use Rattle.g_store_meaning.specs.Surviving.{disc_left}
 use Rattle.g_process.specs.Processing.{Processes}
 use Rattle.g_store.specs.Dumping.{OpensDump}
 use Rattle.g_store.specs.Events.{Migrates, Mounts, Opens, Unmounts}
-use Rattle.g_laws_power.specs.Losses.{CanBeSafe, IsLeft, IsSafe, StandLike}
+use Rattle.g_store_meaning.specs.Safety.{CanBeSafe, IsLeft, IsSafe, StandLike}
 
 -- EACH OF THEM LEAVES A SAFE STORE, unless a write failed
 pub record EventsKeepSafe : Type 0 where
@@ -38,16 +38,16 @@ pub record StopsLikeBy {A : Type 0} (by : State → Holding → Outcome → Resu
 
 -- WHATEVER A POWER LOSS LEAVES after one that was stopped belongs together, and represents a state that the event may leave then.
 pub record StoppedEventsSurvive : Type 0 where
-  pub opening : (serial : ℕ) (old new : StoreFacts) (blocks : List (List ℕ)) (rack : Rack) → IsSafe old → Opens serial old (Err Stopped) new → IsLeft new blocks rack
+  pub opening : (serial : ℕ) (old new : StoreFacts) (blocks : List (List ℕ)) (rack : Rack) → IsSafe old → Opens serial old (Err Stopped) new → IsLeft new.online.disc new.rack blocks rack
       → BelongWith (Some blocks) (told_reels rack) × ((s : State) → StandsForState old s → StopsLikeBy (λ s k o a n. OpenStep s k serial o a n) s new.online.disc.size blocks rack)
-  pub migrating : (path : Path) (old new : StoreFacts) (blocks : List (List ℕ)) (rack : Rack) → IsSafe old → Migrates path old (Err Stopped) new → IsLeft new blocks rack
+  pub migrating : (path : Path) (old new : StoreFacts) (blocks : List (List ℕ)) (rack : Rack) → IsSafe old → Migrates path old (Err Stopped) new → IsLeft new.online.disc new.rack blocks rack
       → BelongWith (Some blocks) (told_reels rack)
       × ((s : State) → StandsForState old s → StopsLikeBy (λ s k o a n. MigrateStep s k path.user (input_name k.tree [] path) o a n) s new.online.disc.size blocks rack)
 
 -- WHAT IS LEFT after one that was stopped can be safe again, with a power loss or without one.
 pub record StoppedCanBeSafe : Type 0 where
-  pub opening : (serial : ℕ) (old new : StoreFacts) (blocks : List (List ℕ)) (rack : Rack) → IsSafe old → Opens serial old (Err Stopped) new → IsLeft new blocks rack → CanBeSafe (disc_left blocks new.online.disc) rack
-  pub migrating : (path : Path) (old new : StoreFacts) (blocks : List (List ℕ)) (rack : Rack) → IsSafe old → Migrates path old (Err Stopped) new → IsLeft new blocks rack
+  pub opening : (serial : ℕ) (old new : StoreFacts) (blocks : List (List ℕ)) (rack : Rack) → IsSafe old → Opens serial old (Err Stopped) new → IsLeft new.online.disc new.rack blocks rack → CanBeSafe (disc_left blocks new.online.disc) rack
+  pub migrating : (path : Path) (old new : StoreFacts) (blocks : List (List ℕ)) (rack : Rack) → IsSafe old → Migrates path old (Err Stopped) new → IsLeft new.online.disc new.rack blocks rack
       → CanBeSafe (disc_left blocks new.online.disc) rack
   pub opening_alone : (serial : ℕ) (old new : StoreFacts) → IsSafe old → Opens serial old (Err Stopped) new → CanBeSafe new.online.disc new.rack
   pub migrating_alone : (path : Path) (old new : StoreFacts) → IsSafe old → Migrates path old (Err Stopped) new → CanBeSafe new.online.disc new.rack

@@ -5,6 +5,7 @@ pub mod Laws
 pub mod Meaning
 pub mod OneState
 pub mod Reading
+pub mod Safety
 pub mod Staying
 pub mod StoreInvariant
 pub mod Surviving
