@@ -21,10 +21,10 @@ fault_from fault (Some serial) = (true, fault serial)
 abbrev pub coming_up : State → Holding → State
 coming_up s k = record s { up = true; holding = Some (record k { kept = empty }); open_dump = None }
 
--- FORMAT creates a new filestore, whatever the disc held. Every reel must be empty, and durably so.
+-- FORMAT creates a new filestore, whatever the disc held. Every reel must be empty.
 abbrev pub FormatStep : State → Outcome → Result (Unit {0}) StoreFault → State → Type 0
 FormatStep s o answer new = Event
-    (first_fault (fault_from RackNotEmpty (first_reel (λ r. r.used) s.reels) ∷ (is_tape_read o, TapeReadFault) ∷ (is_disc_read o, DiscReadFault) ∷ (is_cut o, Stopped) ∷ []))
+    (first_fault (fault_from RackNotEmpty (first_reel (λ r. r.used) s.reels) ∷ (is_disc_read o, DiscReadFault) ∷ (is_cut o, Stopped) ∷ []))
     tt s (coming_up s (record { tree = formatted; places = empty; last = 0; intent = None; kept = empty })) answer new
 
 -- The serial of the intent's reel, if that isn't mounted.
