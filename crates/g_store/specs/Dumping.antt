@@ -12,6 +12,7 @@ use Rattle.g_shelf.specs.CompletedDumps.{AreShelved}
 use Rattle.g_store_meaning.specs.Answers.{Belongs, Told}
 use Rattle.g_store_meaning.specs.Meaning.{told_reels}
 use Rattle.g_store_meaning.specs.StoreInvariant.{DumpFacts, StoreFacts, content_in, with_dump}
+use Rattle.g_store_meaning.specs.Surviving.{AreDumpsSafe}
 use Rattle.g_dumper.specs.Beginning.{Begins, IsTooLong, StoppedOpening}
 use Rattle.g_dumper.specs.Steps.{Stepping}
 
@@ -82,3 +83,7 @@ pub record DumpsStay (shelf : ℕ → List Dump) (old : StoreFacts) (answer : Re
 -- No completed dump is lost or changed, for any outcome of the step, and only the open dump is added, complete.
 abbrev pub KeepsDumps : StoreFacts → Result Stepped StoreFault → StoreFacts → Type 0
 KeepsDumps old answer new = Told old → Belongs old → (shelf : ℕ → List Dump) → AreShelved shelf (told_reels old.rack) → DumpsStay shelf old answer new.rack
+
+-- The completed dumps stay safe over a step. (To be extended by what a power loss leaves of disc and reels after a stop.)
+pub record KeepsDumpsSafe (old : StoreFacts) (answer : Result Stepped StoreFault) (new : StoreFacts) : Type 0 where
+  pub dumps : Told old → Belongs old → AreDumpsSafe old → AreDumpsSafe new
