@@ -381,10 +381,10 @@ module _ (d : DumpFacts) (o : OnlineFacts) (old new : Rack) (reels : AreReels ol
     where
       by_place : (d.done + 1 ≡ needs d.plan) ⊎ ((d.done + 1 < needs d.plan) ⊎ (needs d.plan < d.done + 1)) → StoppedStepLeaves d shelf more (up_with o old (Some d)) (spent_with o' new)
       by_place (inl last) =
-          StopsAtMark same (left_at_mark d o old reels told.each is text shelf shelved up content has safe new failed last)
+          StopsAtMark last same (left_at_mark d o old reels told.each is text shelf shelved up content has safe new failed last)
           (has_block d o old reels told.each is text shelf shelved up content has safe new failed last)
       by_place (inr (inl less)) =
-          StopsBeforeMark same
+          StopsBeforeMark less same
           (as_shelved shelf new (shelved_then d old new failed.how new.write_faults failed.rack shelf (quiet_shelf d o old reels told.each is text shelf shelved up content has failed.how less))
           (dumps_failed d o old reels told.each is text shelf shelved up content has safe new failed less))
       by_place (inr (inr beyond)) = let within = is.within in absurd (let no : ⊥ = omega (arith, within, beyond) in no)
@@ -400,7 +400,7 @@ leaves_step d d' o o' old new (Err Stopped) reels live tied is (plan_is, inl (fa
 leaves_step d d' o o' old new (Err Stopped) reels live tied is (plan_is, inr (last, wrote, closing)) =
     record {
       left = λ told is' text shelf shelved up content has safe.
-          StopsAtClosing closing.stopped (leaves_marked d o old new reels live tied is' told text shelf shelved up content has safe wrote last);
+          StopsAtClosing last closing.stopped (leaves_marked d o old new reels live tied is' told text shelf shelved up content has safe wrote last);
     }
 leaves_step d d' o o' old new (Err DiscReadFault) reels live tied is (dump_is, same, left) =
     record {

@@ -1,5 +1,5 @@
 -- What the opening of a dump and its steps preserve, for any store that the filestore and the rack belong to.
-use Rattle.std.specs.Prelude.{◌≡◌, ℕ, ◌<◌, true, false, List, Option, Some, None, Result, Ok, Err}
+use Rattle.std.specs.Prelude.{◌≡◌, ℕ, ◌+◌, ◌<◌, true, false, List, Option, Some, None, Result, Ok, Err}
 use Rattle.g_tape.specs.Rack.{Rack, reel}
 use Rattle.g_tape.specs.Reel.{Reel}
 use Rattle.g_plain.specs.declared.faults.StoreFault.{StoreFault}
@@ -7,7 +7,7 @@ use Rattle.g_plain.specs.declared.faults.StoreFault.TheVariants.{Stopped}
 use Rattle.g_store_model.specs.DumpSteps.{Stepped, Going, Completed}
 use Rattle.g_disc_contents.specs.Facts.{OnlineFacts}
 use Rattle.g_incr.specs.Layout.{Dump}
-use Rattle.g_incr.specs.Plan.{dump_of}
+use Rattle.g_incr.specs.Plan.{dump_of, needs}
 use Rattle.g_online.specs.Outcomes.{StoppedClosing}
 use Rattle.g_shelf.specs.CompletedDumps.{AreShelved}
 use Rattle.g_shelf.specs.Surviving.{DumpsSurvive}
@@ -67,12 +67,12 @@ pub record HasBlock (serial : ℕ) (rack : Rack) : Type 0 where
 -- step, and `more` has the open dump too.
 pub data StoppedStepLeaves (d : DumpFacts) (shelf more : ℕ → List Dump) (old new : StoreFacts) : Type 0 where
   -- before the mark: the filestore is unchanged, and the reels have their dumps
-  StopsBeforeMark : new.online ≡ old.online → SurviveAs shelf new.rack → StoppedStepLeaves d shelf more old new
+  StopsBeforeMark : d.done + 1 < needs d.plan → new.online ≡ old.online → SurviveAs shelf new.rack → StoppedStepLeaves d shelf more old new
   -- at the mark: the filestore is unchanged, the reels have their dumps or also the open one, and the reel of the open one has a block
-  StopsAtMark : new.online ≡ old.online → ((serial : ℕ) → PowerLossLeavesEither serial new.rack (shelf serial) (more serial)) → HasBlock d.plan.serial new.rack
-      → StoppedStepLeaves d shelf more old new
+  StopsAtMark : d.done + 1 ≡ needs d.plan → new.online ≡ old.online → ((serial : ℕ) → PowerLossLeavesEither serial new.rack (shelf serial) (more serial))
+      → HasBlock d.plan.serial new.rack → StoppedStepLeaves d shelf more old new
   -- at the commit after the mark: the reels have the open dump too, and the disc holds the old contents or those of the closed dump
-  StopsAtClosing : StoppedClosing d.plan.number old.online new.online → SurviveAs more new.rack → StoppedStepLeaves d shelf more old new
+  StopsAtClosing : d.done + 1 ≡ needs d.plan → StoppedClosing d.plan.number old.online new.online → SurviveAs more new.rack → StoppedStepLeaves d shelf more old new
 
 -- The same after any step: if it wasn't stopped, the reels have the open dump too exactly if it is completed.
 abbrev pub StepLeaves : Result Stepped StoreFault → DumpFacts → (ℕ → List Dump) → (ℕ → List Dump) → StoreFacts → StoreFacts → Type 0
