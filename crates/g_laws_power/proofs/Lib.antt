@@ -1,3 +1,4 @@
 mod EventLemmas
 mod LeftLemmas
+mod ProcessLossLemmas
 mod SurvivalLemmas
