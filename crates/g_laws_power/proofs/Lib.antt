@@ -1,3 +1,5 @@
 mod EventLemmas
 mod LeftLemmas
+mod StepLemmas
+mod StepStateLemmas
 mod SurvivalLemmas
