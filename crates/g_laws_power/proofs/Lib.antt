@@ -1,4 +1,6 @@
 mod EventLemmas
 mod LeftLemmas
 mod ProcessLossLemmas
+mod StepLemmas
+mod StepStateLemmas
 mod SurvivalLemmas
