@@ -1,5 +1,6 @@
-mod EventLemmas
+pub mod EventLemmas
 mod LeftLemmas
-mod StepLemmas
+pub mod ProcessLossLemmas
+pub mod StepLemmas
 mod StepStateLemmas
-mod SurvivalLemmas
+pub mod SurvivalLemmas
