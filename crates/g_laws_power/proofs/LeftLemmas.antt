@@ -1,6 +1,6 @@
 -- Reels after a power loss have the dumps that survive it, and belong to the same states.
 -- serves: EventLemmas, StepLemmas, StepStateLemmas, SurvivalLemmas
-use Rattle.std.proofs.Common.{◌≡◌, ℕ, zero, suc, ◌<◌, Bool, true, false, List, [], ◌∷◌, map, Option, Some, None, is_some, refl, sym, ◌∙◌, ap, arith, subst, inl, inr, if◌then◌else◌}
+use Rattle.std.proofs.Common.{◌≡◌, ℕ, zero, suc, Bool, true, false, List, [], ◌∷◌, map, Option, Some, None, is_some, refl, sym, ◌∙◌, ap, arith, subst, inl, inr, if◌then◌else◌}
 use Rattle.std.specs.Prelude.{◌⊎◌, ◌==◌, All, Contains, IfSome}
 use Rattle.std.specs.List.{AllZip}
 use Rattle.std.specs.Option.{ForSome}
@@ -14,7 +14,7 @@ use Rattle.g_disc_contents.specs.Contents.{Contents, File, Holds}
 use Rattle.g_incr.specs.Layout.{Dump}
 use Rattle.g_shelf.specs.CompletedDumps.{AreCompleted, AreShelved}
 use Rattle.g_shelf.specs.Surviving.{DumpsSurvive}
-use Rattle.g_store_model.specs.State.{ReelRow, State}
+use Rattle.g_store_model.specs.State.{State}
 use Rattle.g_store_meaning.specs.Belonging.{BelongWith}
 use Rattle.g_store_meaning.specs.Meaning.{told_reels}
 use Rattle.g_store_meaning.specs.Reading.{AllTold, DevicesStandFor, HasText, IsRackView, IsView, ReelsTold, View, row_of, state_down}

@@ -1,6 +1,6 @@
 -- What a power loss leaves after a step of an open dump.
 -- serves: step_losses (safe), StepStateLemmas
-use Rattle.std.proofs.Common.{◌≡◌, ℕ, zero, suc, ◌+◌, ◌<◌, ◌==◌, Bool, true, false, List, [], ◌∷◌, ◌++◌, map, Option, Some, None, Result, Err, is_some, refl, sym, ◌∙◌, ap, arith, subst, inl, inr}
+use Rattle.std.proofs.Common.{◌≡◌, ℕ, zero, suc, ◌+◌, ◌<◌, ◌==◌, Bool, true, false, List, [], ◌∷◌, ◌++◌, map, Option, Some, None, Result, Err, refl, sym, ◌∙◌, ap, arith, subst, inl, inr}
 use Rattle.std.specs.Prelude.{◌⊎◌, All, AllPairs, Contains, IfSome}
 use Rattle.std.specs.List.{AllZip}
 use Rattle.std.specs.Option.{ForSome}
@@ -8,16 +8,15 @@ use Rattle.std.proofs.lemmas.Bool.{cases_eq, cond-false, ne_eqb}
 use Rattle.std.proofs.lemmas.List.Elements.{All-contains}
 use Rattle.std.proofs.lemmas.List.Kept.{AllPairs-from_increasing}
 use Rattle.std.proofs.lemmas.Option.{same_Some}
-use Rattle.g_disc.specs.Disc.{DiscState}
 use Rattle.g_disc.specs.Durable.{MayLeave}
-use Rattle.g_tape.specs.Rack.{AreReels, Rack, reel}
+use Rattle.g_tape.specs.Rack.{Rack}
 use Rattle.g_tape.specs.Reads.{unread}
 use Rattle.g_tape.specs.Reel.{Reel}
 use Rattle.g_tape.proofs.PlaceLemmas.{reel-found}
 use Rattle.g_plain.specs.declared.faults.StoreFault.{StoreFault}
 use Rattle.g_plain.specs.declared.faults.StoreFault.TheVariants.{Stopped}
 use Rattle.g_plain.proofs.Found.{some_of}
-use Rattle.g_disc_contents.specs.Contents.{Contents, Holds}
+use Rattle.g_disc_contents.specs.Contents.{Holds}
 use Rattle.g_disc_contents.specs.Facts.{OnlineFacts, Pin}
 use Rattle.g_disc_contents.proofs.HoldLemmas.{holds_one}
 use Rattle.g_incr.specs.Layout.{Dump}
@@ -27,13 +26,12 @@ use Rattle.g_shelf.specs.Surviving.{DumpsSurvive}
 use Rattle.g_store_model.specs.DumpSteps.{Stepped}
 use Rattle.g_store_meaning.specs.Belonging.{BelongWith, DiscBelongs, RackBelongs}
 use Rattle.g_store_meaning.specs.Meaning.{told_reels}
-use Rattle.g_store_meaning.specs.Reading.{ReelsTold}
 use Rattle.g_store_meaning.specs.Safety.{AreSafe, CanBeSafe, IsLeft, IsSafe}
 use Rattle.g_store_meaning.specs.StoreInvariant.{DumpFacts, IsReady, IsUp, StoreFacts, content_in, with_dump}
-use Rattle.g_store_meaning.specs.Surviving.{PowerLossLeavesEither, disc_left, with_disc_left}
+use Rattle.g_store_meaning.specs.Surviving.{PowerLossLeavesEither, with_disc_left}
 use Rattle.g_laws_store.proofs.DumpingLemmas.{moved_disc, moved_rack}
 use Rattle.g_laws_store.proofs.RecordLemmas.{pairs_head, pairs_tail}
-use Rattle.g_dumper.specs.Invariant.{HasBlock, StoppedStepLeaves, StopsAtClosing, StopsAtMark, StopsBeforeMark, SurviveAs}
+use Rattle.g_dumper.specs.Invariant.{StoppedStepLeaves, StopsAtClosing, StopsAtMark, StopsBeforeMark}
 use Rattle.g_store.specs.Dumping.{KeepsDumpsSafe, LeavesAfterStep}
 use Rattle.g_store.specs.Events.{IsAnsweredBy, IsStepOfDump, StepsDump}
 use Rattle.g_laws_power.specs.Devices.{StepsKeepSafe}

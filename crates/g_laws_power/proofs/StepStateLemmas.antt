@@ -1,18 +1,15 @@
 -- Which state a power loss leaves after a step of an open dump that was stopped.
 -- serves: step_losses (stopped)
-use Rattle.std.proofs.Common.{◌≡◌, ℕ, zero, suc, ◌+◌, ◌<◌, Bool, true, false, List, [], ◌∷◌, map, Option, Some, None, Result, Err, refl, sym, ◌∙◌, ap, arith, subst, inl, inr, true≢false}
-use Rattle.std.specs.Prelude.{◌⊎◌, Contains, nat_lt}
+use Rattle.std.proofs.Common.{◌≡◌, ℕ, ◌+◌, true, false, List, [], ◌∷◌, map, Some, None, Err, refl, sym, ◌∙◌, ap, arith, subst, inl, inr, true≢false}
+use Rattle.std.specs.Prelude.{◌⊎◌}
 use Rattle.std.specs.List.{AllZip}
 use Rattle.std.proofs.lemmas.Bool.{lt-ltb}
 use Rattle.std.proofs.lemmas.Option.{same_Some}
 use Rattle.g_base.specs.Fuse.{burnt}
 use Rattle.g_tape.specs.Rack.{Rack, changed}
-use Rattle.g_tape.specs.Reads.{unread}
-use Rattle.g_tape.specs.Reel.{Reel, Remains, Torn, left_by}
-use Rattle.g_plain.specs.declared.faults.StoreFault.{StoreFault}
+use Rattle.g_tape.specs.Reel.{Reel, Torn, left_by}
 use Rattle.g_plain.specs.declared.faults.StoreFault.TheVariants.{Stopped}
-use Rattle.g_plain.proofs.Found.{some_of}
-use Rattle.g_disc_contents.specs.Contents.{Contents, Holds}
+use Rattle.g_disc_contents.specs.Contents.{Holds}
 use Rattle.g_disc_contents.specs.Facts.{OnlineFacts, Pin}
 use Rattle.g_incr.specs.Layout.{Dump}
 use Rattle.g_incr.specs.Plan.{dump_of, needs}
@@ -20,10 +17,10 @@ use Rattle.g_shelf.specs.CompletedDumps.{AreShelved, all_dumps}
 use Rattle.g_shelf.specs.Surviving.{DumpsSurvive}
 use Rattle.g_store_model.specs.State as state
 use Rattle.g_store_model.specs.CallStep.{Cut, down}
-use Rattle.g_store_model.specs.DumpSteps.{Stepped, marked, uses}
+use Rattle.g_store_model.specs.DumpSteps.{marked, uses}
 use Rattle.g_store_meaning.specs.Meaning.{told_reels}
 use Rattle.g_store_meaning.specs.Reading.{IsView, StandsForState, row_of, state_down}
-use Rattle.g_store_meaning.specs.Safety.{IsLeft, IsReelLeft, IsRowLike, IsSafe, StandLike}
+use Rattle.g_store_meaning.specs.Safety.{IsLeft, IsRowLike, IsSafe, StandLike}
 use Rattle.g_store_meaning.specs.StoreInvariant.{DumpFacts, IsOpen, IsUp, StoreFacts, content_in, with_dump}
 use Rattle.g_store_meaning.specs.Surviving.{PowerLossLeavesEither, with_disc_left}
 use Rattle.g_laws_store.proofs.DumpingLemmas.{moved_dumps}
