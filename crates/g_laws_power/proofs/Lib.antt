@@ -1,4 +1,6 @@
-mod EventLemmas
+pub mod EventLemmas
 mod LeftLemmas
-mod ProcessLossLemmas
-mod SurvivalLemmas
+pub mod ProcessLossLemmas
+pub mod StepLemmas
+mod StepStateLemmas
+pub mod SurvivalLemmas
