@@ -1,5 +1,5 @@
 -- What a power loss leaves after an opening of a dump, a MIGRATE, a mount and an unmount.
--- serves: event_losses (can, process, safe, stopped)
+-- serves: event_losses (can, process, safe, stopped), DeviceLemmas
 use Rattle.std.proofs.Common.{◌≡◌, ℕ, ◌<◌, Bool, true, false, List, [], Option, Some, None, Ok, Err, refl, sym, ◌∙◌, ap, arith, subst, inl, inr, option_map}
 use Rattle.std.specs.Prelude.{◌⊎◌, IfSome, Result}
 use Rattle.std.proofs.lemmas.Bool.{cases_eq}
