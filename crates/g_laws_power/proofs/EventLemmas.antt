@@ -156,6 +156,7 @@ module _ {A : Type 0} (by : By A) (count : A → ℕ) (old new : StoreFacts) (sa
     belong = (answers.belongs safe.told safe.belongs).devices;
     disc_safe = answers.survives.safe (answers.spent.1 refl) safe.disc;
     dumps = λ serial. inl (survive_call old new safe only serial);
+    blank = λ _. survive_call old new safe only;
   }
 
   pub left_can : (blocks : List (List ℕ)) (rack : Rack) → IsLeft new.online.disc new.rack blocks rack → CanBeSafe (disc_left blocks new.online.disc) rack

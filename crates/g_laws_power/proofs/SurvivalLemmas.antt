@@ -178,6 +178,7 @@ can_again s blocks rack told survive left belong = record {
   belong = belong;
   disc_safe = (left_is_durable s blocks rack left).0;
   dumps = λ serial. inl ((left_is_durable s blocks rack left).1 serial);
+  blank = λ _. (left_is_durable s blocks rack left).1;
 }
 
 pub left_can_be_safe : LeftCanBeSafe
@@ -190,6 +191,7 @@ left_can_be_safe = record {
     belong = (answers.belongs safe.told safe.belongs).devices;
     disc_safe = answers.survives.safe (answers.spent.1 refl) safe.disc;
     dumps = λ serial. inl (survive_call old new safe answers.cause.tapes serial);
+    blank = λ _. survive_call old new safe answers.cause.tapes;
   };
 }
 
@@ -210,27 +212,25 @@ making_is_safe = record {
         store = makes.keeps;
         up = makes.running;
         belongs = makes.belongs can.told can.belong;
-        disc = makes.durable had at can.disc_safe;
+        disc = begun.durable had at can.disc_safe;
         dumps = made_dumps rack new makes.no_dump can.dumps made;
       };
   restore = λ disc rack number new can restored made.
-      let makes = restored.makes in
-      let (had, at) = some_of disc.held can.told.disc in record {
+      let makes = restored.makes in record {
         told = makes.told can.told;
         store = makes.keeps;
         up = makes.running;
         belongs = makes.belongs can.told can.belong;
-        disc = makes.durable had at can.disc_safe;
+        disc = restored.durable;
         dumps = made_dumps rack new makes.no_dump can.dumps made;
       };
   format = λ disc rack new told disc_safe survive formats.
-      let makes = formats.makes in
-      let (had, at) = some_of disc.held told.disc in record {
+      let makes = formats.makes in record {
         told = makes.told told;
         store = makes.keeps;
         up = makes.running;
         belongs = makes.belongs told tt;
-        disc = makes.durable had at disc_safe;
+        disc = formats.durable;
         dumps = made_dumps rack new makes.no_dump (λ serial. inl (survive serial)) (safe_then_read rack rack new.rack (λ serial _. survive serial) makes.tapes);
       };
 }
