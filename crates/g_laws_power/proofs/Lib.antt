@@ -1,3 +1,3 @@
-mod EventLemmas
+pub mod EventLemmas
 mod LeftLemmas
-mod SurvivalLemmas
+pub mod SurvivalLemmas
