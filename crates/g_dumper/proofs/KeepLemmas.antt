@@ -7,7 +7,6 @@ use Rattle.std.proofs.lemmas.Bool.{cases_order}
 use Rattle.std.proofs.lemmas.List.Elements.{All-head, All-tail}
 use Rattle.std.proofs.lemmas.Option.{none-some, same_Some}
 use Rattle.g_base.specs.Fuse.{burnt}
-use Rattle.g_tape.specs.Durable.{AfterPowerLoss}
 use Rattle.g_tape.specs.Rack.{AreReels, Rack, changed, with_reel}
 use Rattle.g_tape.specs.Reads.{unread}
 use Rattle.g_tape.specs.Reel.{Reel, Remains, Torn, ending, left_by}
@@ -24,7 +23,7 @@ use Rattle.g_online.specs.declared.fault.OnlineFault.TheVariants as online
 use Rattle.g_online.specs.Change.{closed as closed_by}
 use Rattle.g_online.specs.Outcomes.{HasClosed, StoppedClosing}
 use Rattle.g_online.specs.Pins.{IsClosing}
-use Rattle.g_shelf.specs.CompletedDumps.{AreCompleted, AreShelved, all_dumps}
+use Rattle.g_shelf.specs.CompletedDumps.{AreShelved, all_dumps}
 use Rattle.g_shelf.specs.Surviving.{CanSurvive, DumpsSurvive}
 use Rattle.g_store_meaning.specs.Answers.{Belongs, IsStore, Told}
 use Rattle.g_store_meaning.specs.Belonging.{BelongWith, DiscBelongs, RackBelongs}
@@ -37,10 +36,10 @@ use Rattle.g_laws_store.proofs.ClosingLemmas.{closing_stays}
 use Rattle.g_laws_store.proofs.DumpingLemmas.{events_stay_up}
 use Rattle.g_laws_store.proofs.PinLemmas.{both_told}
 use Rattle.g_laws_store.proofs.TiedLemmas.{devices_belong}
-use Rattle.g_dumper.specs.Invariant.{CompletesOpening, KeepsStore, LeavesDumps, behind_step, spent_with, up_with}
+use Rattle.g_dumper.specs.Invariant.{CompletesOpening, KeepsStore, LeavesDumps, StoppedStepLeaves, StopsAtClosing, StopsAtMark, StopsBeforeMark, SurviveAs, behind_step, spent_with, up_with}
 use Rattle.g_dumper.specs.Steps.{Abandoned, FailedWrite, IsNextBlock, Stepping, WroteBlock}
 use Rattle.g_dumper.proofs.ReelLemmas.{same_serials, still_told}
-use Rattle.g_dumper.proofs.SafeLemmas.{begun_going, can_survive, dumps_failed, dumps_going, dumps_marked, left_at_mark, left_shelved}
+use Rattle.g_dumper.proofs.SafeLemmas.{begun_going, can_survive, dumps_failed, dumps_going, dumps_marked, has_block, left_at_mark, left_shelved}
 use Rattle.g_dumper.proofs.ShelfLemmas.{cut_shelf, left_serial, left_told, marked_shelf, quiet_shelf, ready}
 
 -- the invariant of a store that is up depends only on contents, pins and the marked users
@@ -352,57 +351,60 @@ completes_step d d' o o' old new (Ok (Completed n)) number reels live tied is (l
     completes d o old new reels live tied is wrote o' last (subst (λ (m : ℕ). HasClosed m o o') at closing.ok)
 completes_step d d' o o' old new (Err fault) number reels live tied is step same = let no : ⊥ = cc in absurd no
 
--- WHAT A POWER LOSS LEAVES at each moment of a step
+-- WHAT A POWER LOSS LEAVES after a step
 module _ (d : DumpFacts) (o : OnlineFacts) (old new : Rack) (reels : AreReels old.reels) (live : o.live ≡ true) (tied : IsTied o) (is : IsOpen d o old) (told : Told (up_with o old (Some d)))
     (text : ℕ → List ℕ) (shelf : ℕ → List Dump) (shelved : AreShelved shelf (told_reels old)) (up : IsUp text shelf (up_with o old (Some d))) (content : List (List ℕ))
     (has : content_in is.pins ≡ Some content) (safe : AreDumpsSafe (up_with o old (Some d))) where
-  abbrev LeavesEither : Rack → ℕ → Type 0
-  LeavesEither rack n = AfterPowerLoss n rack (λ left. AreCompleted n left (shelf n) ⊎ AreCompleted n left (with_dump (dump_of d.plan content) shelf n))
+  abbrev more : ℕ → List Dump
+  more = with_dump (dump_of d.plan content) shelf
 
-  without : (rack : Rack) → AreShelved shelf (told_reels rack) → ((n : ℕ) → DumpsSurvive n rack) → (n : ℕ) → LeavesEither rack n
-  without rack there survive n blocks at left leaves = inl (left_shelved n rack shelf there (survive n) blocks at left leaves)
+  as_shelved : (dumps : ℕ → List Dump) (rack : Rack) → AreShelved dumps (told_reels rack) → ((n : ℕ) → DumpsSurvive n rack) → SurviveAs dumps rack
+  as_shelved dumps rack there survive = record { left = λ n. left_shelved n rack dumps there (survive n); survive = survive }
 
-  with_it : (rack : Rack) → AreShelved (with_dump (dump_of d.plan content) shelf) (told_reels rack) → ((n : ℕ) → DumpsSurvive n rack) → (n : ℕ) → LeavesEither rack n
-  with_it rack there survive n blocks at left leaves = inr (left_shelved n rack (with_dump (dump_of d.plan content) shelf) there (survive n) blocks at left leaves)
+  pub leaves_same : SurviveAs shelf old
+  leaves_same = as_shelved shelf old shelved (safe.up refl)
 
-  pub leaves_same : (n : ℕ) → LeavesEither old n
-  leaves_same = without old shelved (safe.up refl)
-
-  pub leaves_going : WroteBlock d o.pins old new → d.done + 1 < needs d.plan → (n : ℕ) → LeavesEither new n
+  pub leaves_going : WroteBlock d o.pins old new → d.done + 1 < needs d.plan → SurviveAs shelf new
   leaves_going wrote less =
-      without new (shelved_then d old new (Torn wrote.block) old.write_faults wrote.rack shelf (quiet_shelf d o old reels told.each is text shelf shelved up content has (Torn wrote.block) less))
+      as_shelved shelf new (shelved_then d old new (Torn wrote.block) old.write_faults wrote.rack shelf (quiet_shelf d o old reels told.each is text shelf shelved up content has (Torn wrote.block) less))
       (dumps_going d o old reels told.each is text shelf shelved up content has safe new wrote less)
 
-  pub leaves_marked : WroteBlock d o.pins old new → d.done + 1 ≡ needs d.plan → (n : ℕ) → LeavesEither new n
+  pub leaves_marked : WroteBlock d o.pins old new → d.done + 1 ≡ needs d.plan → SurviveAs more new
   leaves_marked wrote last =
-      with_it new (shelved_then d old new (Torn wrote.block) old.write_faults wrote.rack (with_dump (dump_of d.plan content) shelf)
+      as_shelved more new
+      (shelved_then d old new (Torn wrote.block) old.write_faults wrote.rack more
       (marked_shelf d o old reels told.each is text shelf shelved up content has last wrote.block (wrote.next.is is.pins is.pinned content has)))
       (dumps_marked d o old reels told.each is text shelf shelved up content has safe new wrote last)
 
-  pub leaves_failed : FailedWrite d o.pins old new → (n : ℕ) → LeavesEither new n
-  leaves_failed failed = by_place (cases_order (d.done + 1) (needs d.plan))
+  pub leaves_failed : (o' : OnlineFacts) → o' ≡ o → FailedWrite d o.pins old new → StoppedStepLeaves d shelf more (up_with o old (Some d)) (spent_with o' new)
+  leaves_failed o' same failed = by_place (cases_order (d.done + 1) (needs d.plan))
     where
-      by_place : (d.done + 1 ≡ needs d.plan) ⊎ ((d.done + 1 < needs d.plan) ⊎ (needs d.plan < d.done + 1)) → (n : ℕ) → LeavesEither new n
-      by_place (inl last) = left_at_mark d o old reels told.each is text shelf shelved up content has safe new failed last
+      by_place : (d.done + 1 ≡ needs d.plan) ⊎ ((d.done + 1 < needs d.plan) ⊎ (needs d.plan < d.done + 1)) → StoppedStepLeaves d shelf more (up_with o old (Some d)) (spent_with o' new)
+      by_place (inl last) =
+          StopsAtMark last same (left_at_mark d o old reels told.each is text shelf shelved up content has safe new failed last)
+          (has_block d o old reels told.each is text shelf shelved up content has safe new failed last)
       by_place (inr (inl less)) =
-          without new (shelved_then d old new failed.how new.write_faults failed.rack shelf (quiet_shelf d o old reels told.each is text shelf shelved up content has failed.how less))
-          (dumps_failed d o old reels told.each is text shelf shelved up content has safe new failed less)
+          StopsBeforeMark less same
+          (as_shelved shelf new (shelved_then d old new failed.how new.write_faults failed.rack shelf (quiet_shelf d o old reels told.each is text shelf shelved up content has failed.how less))
+          (dumps_failed d o old reels told.each is text shelf shelved up content has safe new failed less))
       by_place (inr (inr beyond)) = let within = is.within in absurd (let no : ⊥ = omega (arith, within, beyond) in no)
 
 pub leaves_step : (d d' : DumpFacts) (o o' : OnlineFacts) (old new : Rack) (answer : Result Stepped StoreFault) → AreReels old.reels → o.live ≡ true → IsTied o → IsOpen d o old
-    → Stepping d o old answer d' o' new → LeavesDumps d (up_with o old (Some d)) (behind_step answer d' o' new)
+    → Stepping d o old answer d' o' new → LeavesDumps d (up_with o old (Some d)) answer (behind_step answer d' o' new)
 leaves_step d d' o o' old new (Ok Going) reels live tied is (less, dump_is, same, wrote) =
     record { left = λ told is' text shelf shelved up content has safe. leaves_going d o old new reels live tied is' told text shelf shelved up content has safe wrote less }
 leaves_step d d' o o' old new (Ok (Completed n)) reels live tied is (last, number, plan_is, wrote, closing) =
     record { left = λ told is' text shelf shelved up content has safe. leaves_marked d o old new reels live tied is' told text shelf shelved up content has safe wrote last }
 leaves_step d d' o o' old new (Err Stopped) reels live tied is (plan_is, inl (failed, same)) =
-    record { left = λ told is' text shelf shelved up content has safe. leaves_failed d o old new reels live tied is' told text shelf shelved up content has safe failed }
+    record { left = λ told is' text shelf shelved up content has safe. leaves_failed d o old new reels live tied is' told text shelf shelved up content has safe o' same failed }
 leaves_step d d' o o' old new (Err Stopped) reels live tied is (plan_is, inr (last, wrote, closing)) =
-    record { left = λ told is' text shelf shelved up content has safe. leaves_marked d o old new reels live tied is' told text shelf shelved up content has safe wrote last }
+    record {
+      left = λ told is' text shelf shelved up content has safe.
+          StopsAtClosing last closing.stopped (leaves_marked d o old new reels live tied is' told text shelf shelved up content has safe wrote last);
+    }
 leaves_step d d' o o' old new (Err DiscReadFault) reels live tied is (dump_is, same, left) =
     record {
-      left = λ told is' text shelf shelved up content has safe n.
-          subst (λ (r : Rack). AfterPowerLoss n r (λ left. AreCompleted n left (shelf n) ⊎ AreCompleted n left (with_dump (dump_of d.plan content) shelf n))) (sym same)
-          (leaves_same d o old old reels live tied is' told text shelf shelved up content has safe n);
+      left = λ told is' text shelf shelved up content has safe.
+          subst (SurviveAs shelf) (sym same) (leaves_same d o old old reels live tied is' told text shelf shelved up content has safe);
     }
 leaves_step d d' o o' old new (Err fault) reels live tied is never = absurd never

@@ -23,7 +23,7 @@ use Rattle.g_store_meaning.specs.Meaning.{told_reels}
 use Rattle.g_store_meaning.specs.Reading.{ReelsTold}
 use Rattle.g_store_meaning.specs.StoreInvariant.{DumpFacts, IsOpen, IsUp, content_in, with_dump}
 use Rattle.g_store_meaning.specs.Surviving.{AreDumpsSafe}
-use Rattle.g_dumper.specs.Invariant.{up_with}
+use Rattle.g_dumper.specs.Invariant.{HasBlock, up_with}
 use Rattle.g_dumper.specs.Steps.{FailedWrite, WroteBlock}
 use Rattle.g_dumper.proofs.OpenLemmas.{reel_then}
 use Rattle.g_dumper.proofs.BeginLemmas.{reel_named}
@@ -53,6 +53,12 @@ left_exposed : (how : Remains) (k : ℕ) (r : Reel) (was : List (List ℕ)) → 
 left_exposed Unchanged k r was at = at
 left_exposed Shortened k r was at = ap (option_map (take k)) at
 left_exposed (Torn block) k r was at = ap (option_map (λ (bs : List (List ℕ)). take k bs ++ block ∷ [])) at
+
+-- how long a failed write leaves a reel that had k blocks
+left_length : (how : Remains) (k : ℕ) (r : Reel) → r.len ≡ k → k ≤ (left_by how k r).len
+left_length Unchanged k r long = omega (arith, long)
+left_length Shortened k r long = omega arith
+left_length (Torn block) k r long = omega arith
 
 -- the header is the first block of a dump
 first_block : (d : Dump) (block : List ℕ) → slice_get (dump_blocks d) 0 ≡ Some block → block ≡ header_block d
@@ -169,6 +175,13 @@ module _ (d : DumpFacts) (o : OnlineFacts) (old : Rack) (reels : AreReels old.re
 
       pub can_survive : (n : ℕ) → CanSurvive n new
       can_survive = each_reel (λ n. CanSurvive n new) (inr mark_failed.1) (λ n apart. inl (dumps_beside n apart))
+
+      pub has_block : HasBlock serial new
+      has_block =
+          let sum = counts d o old reels tell is text shelf shelved up content has in
+          let long = is.length_is (omega (arith, last, sum)) in
+          let kept = left_length failed.how at_block is.on long in
+          record { on = left_by failed.how at_block is.on; is = reel_left; len = omega (arith, last, sum, kept) }
 
       pub left_at_mark : (n : ℕ) → AfterPowerLoss n new (λ left. AreCompleted n left (shelf n) ⊎ AreCompleted n left (with_dump made shelf n))
       left_at_mark = each_reel (λ n. AfterPowerLoss n new (λ left. AreCompleted n left (shelf n) ⊎ AreCompleted n left (with_dump made shelf n)))

@@ -33,7 +33,7 @@ impl Dump {
         ensures tied { IsTied online.new }
         ensures keeps { KeepsStore (up_with online.old (T.rack tapes.old) (Some self.old))
             (behind_step (stepped_of result) self.new online.new (T.rack tapes.new)) }
-        ensures left { LeavesDumps self.old (up_with online.old (T.rack tapes.old) (Some self.old))
+        ensures left { LeavesDumps self.old (up_with online.old (T.rack tapes.old) (Some self.old)) (stepped_of result)
             (behind_step (stepped_of result) self.new online.new (T.rack tapes.new)) }
         ensures dumped { (number : ℕ) → stepped_of result ≡ Ok (Completed number)
             → CompletesOpening self.old (up_with online.old (T.rack tapes.old) (Some self.old))

@@ -1,11 +1,13 @@
 -- What a power loss may leave of the reels of a rack of files.
--- serves: risks_list_what_is_read, secure, write
+-- serves: finish, finish_all, risks_list_what_is_read, secure, write
 use Rattle.std.proofs.Common.{◌≡◌, ◌⊎◌, ◌==◌, ℕ, zero, suc, ◌+◌, ◌*◌, ◌<◌, ◌≤◌, Bool, true, false, if◌then◌else◌, List, [], ◌∷◌, ◌++◌, length, map, get_or, take, replicate, Result, Ok, Err, OnOk, is_err, is_ok, Some, refl, sym, ap, subst, ◌∙◌, inl, inr, arith, length-set, length-take}
 use Rattle.std.specs.Prelude.{All, Option, option_map}
+use Rattle.std.specs.List.{AllZip}
 use Rattle.std.specs.Option.{ForSome}
 use Rattle.std.specs.List.Sorted.{IsStrictlyIncreasing}
 use Rattle.std.proofs.Math.ListN.{set}
 use Rattle.std.proofs.lemmas.Bool.{cases_eq, cases_lt, eq-eqb, ne_eqb}
+use Rattle.std.proofs.Math.Seq.{take-append_seam}
 use Rattle.std.proofs.lemmas.List.{get_or-map, get_or-set_other, get_or-set_same, length-map, length-take-le, take-append-le, take-take}
 use Rattle.std.proofs.lemmas.List.Elements.{All-append, All-map}
 use Rattle.std.proofs.lemmas.Option.{none-some, same_Some}
@@ -20,7 +22,7 @@ use Rattle.g_tape.proofs.PlaceLemmas.{reel-found}
 use Rattle.g_files.specs.BlockFile.{content_of, len_of}
 use Rattle.g_files.specs.Bytes.{AreBytes, sectors_of}
 use Rattle.g_files.specs.Bytes.{blocks_of as file_blocks}
-use Rattle.g_files.specs.ReelRisk.{ReelIsBegun, ReelKeeps, SecuresReel, WritesReel, cut_remnant, with_cuts}
+use Rattle.g_files.specs.ReelRisk.{ReelIsBegun, ReelKeeps, ReelLeavesNoMore, SecuresReel, WritesReel, cut_remnant, with_cuts}
 use Rattle.g_files.specs.Risks.{durability_of}
 use Rattle.g_files.specs.Sectors.{AreResized, IsWhole, LeavesRead}
 use Rattle.g_files.specs.StoredSectors.{blocks_whole}
@@ -104,6 +106,103 @@ module _ (s : ℕ) (old new : Rack) (r r' : Reel) (was is : Risk) (before : bloc
       | inl same ↦ inl (λ bs here. subst (λ (o : Option Risk). Leaves o bs left) (sym risked) (same bs (sym before ∙ here)))
       | inr begun ↦ inr (record { short = begun.short; synced = λ needed can bs here. begun.front needed (able k can) bs (sym before ∙ here) })
     ];
+  }
+
+-- A RACK OF WHICH A POWER LOSS LEAVES NO MORE, since it leaves no more of any reel
+module _ {A : Type 0} (f : A → Reel) (h : A → Risk) (named : (x : A) → (h x).serial ≡ (f x).serial) where
+  abbrev pub IsAlike : A → A → Type 0
+  IsAlike x y = (f y ≡ f x) × ((h y).serial ≡ (h x).serial) × ReelLeavesNoMore (f x) (f y) (h x) (h y)
+
+  pub alike : (x : A) → IsAlike x x
+  alike x = (refl, refl, record { leaves = λ left there. there; syncable = λ can. can })
+
+  pub alike_then : (x y z : A) → IsAlike x y → IsAlike y z → IsAlike x z
+  alike_then x y z one two = (
+    two.0 ∙ one.0,
+    two.1 ∙ one.1,
+    record { leaves = λ left there. one.2.leaves left (two.2.leaves left there); syncable = λ can. two.2.syncable (one.2.syncable can) },
+  )
+
+  pub all_alike : (xs : List A) → AllZip IsAlike xs xs
+  all_alike [] = tt
+  all_alike (x ∷ xs) = (alike x, all_alike xs)
+
+  -- one more of them changed
+  pub alike_set : (xs ys : List A) (i : ℕ) (was now : A) → i < length ys → was ≡ get_or ys i was → AllZip IsAlike xs ys → IsAlike was now → AllZip IsAlike xs (set ys i now)
+  alike_set [] [] i was now within is all one = absurd (omega (arith, within))
+  alike_set [] (y ∷ ys) i was now within is all one = absurd all
+  alike_set (x ∷ xs) [] i was now within is all one = absurd all
+  alike_set (x ∷ xs) (y ∷ ys) zero was now within is all one = (alike_then x y now all.0 (subst (λ (a : A). IsAlike a now) is one), all.1)
+  alike_set (x ∷ xs) (y ∷ ys) (suc i) was now within is all one = (all.0, alike_set xs ys i was now (omega (arith, within)) is all.1 one)
+
+  module _ (s : ℕ) where
+    abbrev pub MayBe : Option Reel → Option Risk → List (List ℕ) → Type 0
+    MayBe r k left = ForSome (blocks_in r) (λ blocks. Leaves k blocks left)
+
+    here_reel : (x : A) (xs : List A) → s ≡ (f x).serial → reel s (map f (x ∷ xs)) ≡ Some (f x)
+    here_reel x xs at = ap (λ (b : Bool). if b then Some (f x) else reel s (map f xs)) (eq-eqb s (f x).serial at)
+
+    here_risk : (x : A) (xs : List A) → s ≡ (h x).serial → risk s (map h (x ∷ xs)) ≡ Some (h x)
+    here_risk x xs at = ap (λ (b : Bool). if b then Some (h x) else risk s (map h xs)) (eq-eqb s (h x).serial at)
+
+    next_reel : (x : A) (xs : List A) → (s ≡ (f x).serial → ⊥) → reel s (map f (x ∷ xs)) ≡ reel s (map f xs)
+    next_reel x xs apart = ap (λ (b : Bool). if b then Some (f x) else reel s (map f xs)) (ne_eqb s (f x).serial apart)
+
+    next_risk : (x : A) (xs : List A) → (s ≡ (h x).serial → ⊥) → risk s (map h (x ∷ xs)) ≡ risk s (map h xs)
+    next_risk x xs apart = ap (λ (b : Bool). if b then Some (h x) else risk s (map h xs)) (ne_eqb s (h x).serial apart)
+
+    serial_now : (x y : A) → IsAlike x y → (h y).serial ≡ (f x).serial
+    serial_now x y one = one.1 ∙ named x
+
+    leaves_in : (xs ys : List A) → AllZip IsAlike xs ys → (left : List (List ℕ)) → MayBe (reel s (map f ys)) (risk s (map h ys)) left → MayBe (reel s (map f xs)) (risk s (map h xs)) left
+    leaves_in [] [] all left there = there
+    leaves_in [] (y ∷ ys) all left there = absurd all
+    leaves_in (x ∷ xs) [] all left there = absurd all
+    leaves_in (x ∷ xs) (y ∷ ys) all left there = elim (cases_eq s (f x).serial) [
+      | inl at ↦
+          let now : MayBe (Some (f y)) (Some (h y)) left =
+          subst (λ (k : Option Risk). MayBe (Some (f y)) k left) (here_risk y ys (at ∙ sym (serial_now x y all.0)))
+          (subst (λ (r : Option Reel). MayBe r (risk s (map h (y ∷ ys))) left) (here_reel y ys (at ∙ ap (λ (r : Reel). r.serial) (sym all.0.0))) there) in
+          subst (λ (r : Option Reel). MayBe r (risk s (map h (x ∷ xs))) left) (sym (here_reel x xs at))
+          (subst (λ (k : Option Risk). MayBe (Some (f x)) k left) (sym (here_risk x xs (at ∙ sym (named x)))) (all.0.2.leaves left now))
+      | inr apart ↦
+          let now : MayBe (reel s (map f ys)) (risk s (map h ys)) left =
+          subst (λ (k : Option Risk). MayBe (reel s (map f ys)) k left) (next_risk y ys (λ at. apart (at ∙ serial_now x y all.0)))
+          (subst (λ (r : Option Reel). MayBe r (risk s (map h (y ∷ ys))) left) (next_reel y ys (λ at. apart (at ∙ ap (λ (r : Reel). r.serial) all.0.0))) there) in
+          subst (λ (r : Option Reel). MayBe r (risk s (map h (x ∷ xs))) left) (sym (next_reel x xs apart))
+          (subst (λ (k : Option Risk). MayBe (reel s (map f xs)) k left) (sym (next_risk x xs (λ at. apart (at ∙ named x)))) (leaves_in xs ys all.1 left now))
+    ]
+
+    syncable_in : (xs ys : List A) → AllZip IsAlike xs ys → syncs (risk s (map h xs)) ≡ true → syncs (risk s (map h ys)) ≡ true
+    syncable_in [] [] all can = can
+    syncable_in [] (y ∷ ys) all can = absurd all
+    syncable_in (x ∷ xs) [] all can = absurd all
+    syncable_in (x ∷ xs) (y ∷ ys) all can = elim (cases_eq s (f x).serial) [
+      | inl at ↦
+          ap syncs (here_risk y ys (at ∙ sym (serial_now x y all.0))) ∙ all.0.2.syncable (sym (ap syncs (here_risk x xs (at ∙ sym (named x)))) ∙ can)
+      | inr apart ↦
+          ap syncs (next_risk y ys (λ at. apart (at ∙ serial_now x y all.0)))
+          ∙ syncable_in xs ys all.1 (sym (ap syncs (next_risk x xs (λ at. apart (at ∙ named x)))) ∙ can)
+    ]
+
+  all_long : (xs ys : List A) → AllZip IsAlike xs ys → length ys ≡ length xs
+  all_long [] [] all = refl
+  all_long [] (y ∷ ys) all = absurd all
+  all_long (x ∷ xs) [] all = absurd all
+  all_long (x ∷ xs) (y ∷ ys) all = ap suc (all_long xs ys all.1)
+
+  -- a vector of them whose elements were replaced
+  pub alike_refilled : (n : ℕ) (xs ys rest : List A) → length xs ≡ n → AllZip IsAlike xs ys → take n (ys ++ rest) ≡ ys
+  alike_refilled n xs ys rest long all = subst (λ (m : ℕ). take m (ys ++ rest) ≡ ys) (all_long xs ys all ∙ long) (take-append_seam ys rest)
+
+  pub alike_leave : (xs ys : List A) (old new : Rack) → old.reels ≡ map f xs → old.risks ≡ map h xs → new.reels ≡ map f ys → new.risks ≡ map h ys → AllZip IsAlike xs ys → LeavesNoMore old new
+  alike_leave xs ys old new reels risks reels' risks' all = record {
+    leaves = λ s left there.
+        subst (λ (k : List Risk). MayBe s (reel s old.reels) (risk s k) left) (sym risks)
+        (subst (λ (r : List Reel). MayBe s (reel s r) (risk s (map h xs)) left) (sym reels)
+        (leaves_in s xs ys all left
+        (subst (λ (k : List Risk). MayBe s (reel s (map f ys)) (risk s k) left) risks' (subst (λ (r : List Reel). MayBe s (reel s r) (risk s new.risks) left) reels' there))));
+    syncable = λ s can. ap (λ (k : List Risk). syncs (risk s k)) risks' ∙ syncable_in s xs ys all (sym (ap (λ (k : List Risk). syncs (risk s k)) risks) ∙ can);
   }
 
 -- A RACK OF REELS IN FILES, one of which changed
@@ -220,11 +319,11 @@ module _ {A : Type 0} (f : A → Reel) (h : A → Risk) (named : (x : A) → (h 
     pub rack_secures : (result : Result (Unit {0}) TapeFault) → SecuresReel (f was) (f now) (h was) (h now) result → SecuresDurably s old result new
     rack_secures (Ok u) w = record {
       others = others;
-      no_more = rack_leaves w.leaves w.syncable;
+      no_more = rack_leaves w.no_more.leaves w.no_more.syncable;
       durable = λ able blocks at left there.
           w.durable (sym (ap syncs before_risk) ∙ able) blocks (sym after_blocks ∙ at) left (subst (λ (o : Option Risk). Leaves o blocks left) after_risk there);
     }
-    rack_secures (Err fault) w = record { others = others; no_more = rack_leaves w.leaves w.syncable; durable = tt }
+    rack_secures (Err fault) w = record { others = others; no_more = rack_leaves w.no_more.leaves w.no_more.syncable; durable = tt }
 
 -- WHAT READS SEE MAY BE LEFT
 pub first_resized : (n : ℕ) (b : List ℕ) → 512 * n ≤ length b → AreBytes b → AreResized (512 * n) (sectors_of b) (file_blocks n b)
@@ -330,8 +429,8 @@ writes_as k block old new was is (Err e) (Ok v) same w = absurd (let no : false 
 
 pub secures_as : {E : Type 0} (old new : Reel) (was is : Risk) (result : Result (Unit {0}) E) (known : Result (Unit {0}) TapeFault) → is_ok result ≡ is_ok known
     → SecuresReel old new was is result → SecuresReel old new was is known
-secures_as old new was is (Ok u) (Ok v) same w = record { leaves = w.leaves; syncable = w.syncable; durable = w.durable }
-secures_as old new was is (Err e) (Err f) same w = record { leaves = w.leaves; syncable = w.syncable; durable = tt }
+secures_as old new was is (Ok u) (Ok v) same w = record { no_more = w.no_more; durable = w.durable }
+secures_as old new was is (Err e) (Err f) same w = record { no_more = w.no_more; durable = tt }
 secures_as old new was is (Ok u) (Err f) same w = absurd (let no : true ≡ false = same in cc)
 secures_as old new was is (Err e) (Ok v) same w = absurd (let no : false ≡ true = same in cc)
 

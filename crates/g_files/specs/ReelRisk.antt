@@ -73,8 +73,13 @@ pub record WritesReel {T E : Type 0} (k : ℕ) (block : List ℕ) (old new : Ree
   pub failed : OnErr result (ForSome new.blocks (λ seen. (left : List (List ℕ)) → Leaves (Some is) seen left
       → ForSome old.blocks (λ blocks. Leaves (Some was) blocks left) ⊎ ReelIsBegun k block old was left))
 
--- What `secure` does to what a power loss may leave of its reel. `SecuresDurably` of `g_tape` says the same of a rack.
-pub record SecuresReel {T E : Type 0} (old new : Reel) (was is : Risk) (result : Result T E) : Type 0 where
+-- A power loss may leave nothing of the reel that it couldn't have left before, and the reel is still syncable if it was. `LeavesNoMore` of
+-- `g_tape` says the same of a rack.
+pub record ReelLeavesNoMore (old new : Reel) (was is : Risk) : Type 0 where
   pub leaves : (left : List (List ℕ)) → ForSome new.blocks (λ blocks. Leaves (Some is) blocks left) → ForSome old.blocks (λ blocks. Leaves (Some was) blocks left)
   pub syncable : was.syncable ≡ true → is.syncable ≡ true
+
+-- What `secure` does to what a power loss may leave of its reel. `SecuresDurably` of `g_tape` says the same of a rack.
+pub record SecuresReel {T E : Type 0} (old new : Reel) (was is : Risk) (result : Result T E) : Type 0 where
+  pub no_more : ReelLeavesNoMore old new was is
   pub durable : OnOk result (was.syncable ≡ true → ReelIsDurable new is)

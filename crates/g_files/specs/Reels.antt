@@ -1,9 +1,11 @@
 -- Several reels in files.
-use Rattle.std.specs.Prelude.{◌<◌, List, All, length, map, slice_index_or}
+use Rattle.std.specs.Prelude.{◌≡◌, ◌<◌, List, All, length, map, slice_index_or}
+use Rattle.std.specs.List.{AllZip}
 use Rattle.std.specs.Option.{ForSome}
 use Rattle.g_tape.specs.Reel.{Reel}
 use Rattle.g_files.specs.Ahead.{IsFresh, owner_of}
 use Rattle.g_files.specs.FileReel.{IsSaved, reel_file, reel_of}
+use Rattle.g_files.specs.ReelRisk.{ReelLeavesNoMore, risk_of}
 use Rattle.g_files.specs.declared.ahead.ReadAhead.{ReadAhead}
 use Rattle.g_files.specs.declared.file_reel.FileReel.{FileReel}
 use Rattle.g_files.specs.declared.raw.RawFile.{Ghosts}
@@ -19,3 +21,11 @@ AreFresh {F = F} {g = g} ahead reels = (d : FileReel F g) → owner_of ahead < l
 -- each file has exactly the blocks of its reel
 abbrev pub AreSaved : {F : Type 0} {g : Ghosts F} → List (FileReel F g) → Type 0
 AreSaved reels = All (λ r. IsSaved (reel_of r) (reel_file r)) reels
+
+-- the same reel, of which a power loss may leave nothing that it couldn't have left before
+abbrev pub IsLeftAlike : {F : Type 0} {g : Ghosts F} → FileReel F g → FileReel F g → Type 0
+IsLeftAlike old new = (reel_of new ≡ reel_of old) × ((risk_of new).serial ≡ (risk_of old).serial) × ReelLeavesNoMore (reel_of old) (reel_of new) (risk_of old) (risk_of new)
+
+-- the same of each reel
+abbrev pub LeaveNoMore : {F : Type 0} {g : Ghosts F} → List (FileReel F g) → List (FileReel F g) → Type 0
+LeaveNoMore old new = AllZip IsLeftAlike old new

@@ -47,7 +47,7 @@ pub(crate) struct BlockFile<F: RawFile + Drop> {
 
 impl<F: RawFile + Drop> BlockFile<F> {
     ghost use Rattle.g_files.specs.BlockFile.{EndsThere, blocks_seen, content_of, ended, left_of, len_of};
-    ghost use Rattle.g_files.specs.Risks.{IsStored, Keeps, KeepsTo, LeavesBegun, Secures, StayKept, durability_of, durable_of, reach_of};
+    ghost use Rattle.g_files.specs.Risks.{IsStored, Keeps, KeepsTo, LeavesBegun, LeavesNoMoreBlocks, Secures, StayKept, durability_of, durable_of, reach_of};
 
     /// The whole blocks of a file. A piece of a block at its end doesn't count: a write that was torn by a kill or a power loss left
     /// it. `InvalidData` if there are more than `most`; otherwise the error is the system's.
@@ -151,15 +151,15 @@ impl<F: RawFile + Drop> BlockFile<F> {
     pub fn finish(&mut self) -> io::Result<()>
         ensures ends { OnOk result (EndsThere self.new) }
         ensures same { blocks_seen self.new ≡ blocks_seen self.old }
+        ensures front { Changes (KeepsFront (512 * len_of self.old)) (content_of self.old) (content_of self.new) }
+        ensures no_more { LeavesNoMoreBlocks self.old self.new }
+        ensures durable { durable_of self.new ≡ durable_of self.old }
     {
-        if self.reach == Reach::Failed && self.cut_tail().is_err() {
-            return Err(Error::from(ErrorKind::Other));
+        match self.reach {
+            Reach::There | Reach::Unknown => Ok(()),
+            Reach::Behind => self.sync_once(),
+            Reach::Failed => self.cut_and_sync(),
         }
-        if self.reach == Reach::Behind || self.reach == Reach::Failed {
-            self.reach = Reach::Failed;
-            return self.file.sync();
-        }
-        Ok(())
     }
 }
 
@@ -393,6 +393,32 @@ impl<F: RawFile + Drop> BlockFile<F> {
         ensures sized { OnOk result ((durability_of self.new).sized ≡ true) }
     {
         cut_at(&mut self.file, self.len)
+    }
+
+    /// Cuts off what follows the last block, and syncs the file.
+    fn cut_and_sync(&mut self) -> io::Result<()>
+        requires disorderly { IsOrderly (reach_of self.old) → ⊥ }
+        ensures same { blocks_seen self.new ≡ blocks_seen self.old }
+        ensures ends { OnOk result (EndsThere self.new) }
+        ensures front { Changes (KeepsFront (512 * len_of self.old)) (content_of self.old) (content_of self.new) }
+        ensures no_more { LeavesNoMoreBlocks self.old self.new }
+        ensures durable { durable_of self.new ≡ durable_of self.old }
+    {
+        if self.cut_tail().is_err() {
+            return Err(Error::from(ErrorKind::Other));
+        }
+        self.sync_once()
+    }
+
+    /// Syncs the file as it is. Whether the blocks are durable then isn't stated: an earlier call may have failed.
+    fn sync_once(&mut self) -> io::Result<()>
+        ensures content { content_of self.new ≡ content_of self.old }
+        ensures len { len_of self.new ≡ len_of self.old }
+        ensures no_more { LeavesNoMoreBlocks self.old self.new }
+        ensures durable { durable_of self.new ≡ durable_of self.old }
+    {
+        self.reach = Reach::Failed;
+        self.file.sync()
     }
 
     /// Waits until the blocks have reached the device.

@@ -26,7 +26,7 @@ pub struct FileReel<F: RawFile + Drop> {
 
 impl<F: RawFile + Drop> FileReel<F> {
     ghost use Rattle.g_files.specs.FileReel.{IsSaved, reel_file, reel_of};
-    ghost use Rattle.g_files.specs.ReelRisk.{ReelKeeps, SecuresReel, WritesReel, risk_of, with_cuts};
+    ghost use Rattle.g_files.specs.ReelRisk.{ReelKeeps, ReelLeavesNoMore, SecuresReel, WritesReel, risk_of, with_cuts};
 
     /// The reel on a file, not mounted: its whole blocks, at most as many as the capacity. `InvalidData` if there are more; otherwise
     /// the error is the system's. If all its blocks but the last one are durable, the reel is syncable: `secure` makes it durable.
@@ -122,6 +122,8 @@ impl<F: RawFile + Drop> FileReel<F> {
     pub fn finish(&mut self) -> io::Result<()>
         ensures saved { OnOk result (IsSaved (reel_of self.new) (reel_file self.new)) }
         ensures same { reel_of self.new ≡ reel_of self.old }
+        ensures serial { (risk_of self.new).serial ≡ (risk_of self.old).serial }
+        ensures no_more { ReelLeavesNoMore (reel_of self.old) (reel_of self.new) (risk_of self.old) (risk_of self.new) }
     {
         self.blocks.finish()
     }

@@ -3,11 +3,12 @@ ghost use Rattle.std.specs.Prelude.{◌≡◌, ◌≤◌, [], Err, None, OnOk, S
 ghost use Rattle.g_base.specs.Fuse.{BurnsByFailures, never};
 ghost use Rattle.g_files.specs.FileReel.{reel_of};
 ghost use Rattle.g_files.specs.ReelRisk.{risk_of};
-ghost use Rattle.g_files.specs.Reels.{AreFresh, AreSaved};
+ghost use Rattle.g_files.specs.Reels.{AreFresh, AreSaved, LeaveNoMore};
 ghost use Rattle.g_files.specs.Ahead.{window_of};
 ghost use Rattle.g_files.specs.Window.{window};
 ghost use Rattle.g_tape.specs.Place.{IsPlaceOf};
 ghost use Rattle.g_tape.specs.Rack.{AreReels, reel};
+ghost use Rattle.g_tape.specs.Reads.{LeavesNoMore};
 
 use crate::ahead::ReadAhead;
 use crate::file_reel::FileReel;
@@ -61,10 +62,11 @@ impl<F: RawFile + Drop, L: Drop> FileTapes<F, L> {
 
     /// Cuts off what failed calls may have left after the reels, and syncs what this run wrote, at its end. On Ok each file has
     /// exactly the blocks of its reel. If that fails for a reel, the others are finished all the same, and the error is that of the
-    /// first. No promise depends on it: each completed dump is durable already.
+    /// first. Whether or not it fails, a power loss leaves nothing that it couldn't have left before.
     pub fn finish(&mut self) -> io::Result<()>
         ensures saved { OnOk result (AreSaved (rack_reels self.new)) }
         ensures same { rack_of self.new ≡ record (rack_of self.old) { risks = (rack_of self.new).risks } }
+        ensures no_more { LeavesNoMore (rack_of self.old) (rack_of self.new) }
     {
         self.ahead.forget(0);
         finish_all(&mut self.reels)
@@ -202,6 +204,7 @@ fn place_of<F: RawFile + Drop>(reels: &[FileReel<F>], serial: u32) -> Option<usi
 fn finish_all<F: RawFile + Drop>(reels: &mut [FileReel<F>]) -> io::Result<()>
     ensures saved { OnOk result (AreSaved reels.new) }
     ensures same { map reel_of reels.new ≡ map reel_of reels.old }
+    ensures no_more { LeaveNoMore reels.old reels.new }
 {
     let mut finished = Ok(());
     for i in 0..reels.len() {

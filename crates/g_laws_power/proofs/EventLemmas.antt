@@ -14,9 +14,6 @@ use Rattle.g_plain.specs.declared.faults.StoreFault.{StoreFault}
 use Rattle.g_plain.specs.declared.faults.StoreFault.TheVariants.{Stopped}
 use Rattle.g_plain.specs.PlainTree.{input_name}
 use Rattle.g_plain.proofs.Found.{some_of}
-use Rattle.g_dirs.specs.Durable.{IsDiscSafe}
-use Rattle.g_disc_contents.specs.Durable.{IsDurable}
-use Rattle.g_incr.specs.Layout.{Dump}
 use Rattle.g_shelf.specs.Surviving.{DumpsSurvive, IsBegunDurably}
 use Rattle.g_shelf.proofs.SurvivingLemmas.{begun_reads, survive_reads}
 use Rattle.g_store_model.specs.State.{Holding, State}
@@ -27,7 +24,6 @@ use Rattle.g_store_meaning.specs.Meaning.{told_reels}
 use Rattle.g_store_meaning.specs.Reading.{StandsForState}
 use Rattle.g_store_meaning.specs.StoreInvariant.{DumpFacts, StoreFacts}
 use Rattle.g_store_meaning.specs.Surviving.{disc_left, with_disc_left}
-use Rattle.g_process.specs.PowerLosses.{LeavesMark, LeavesNew, LeavesOld, LeavesReleasing, LossLeaves}
 use Rattle.g_process.specs.Processing.{Processes}
 use Rattle.g_store.specs.Dumping.{OpensDump}
 use Rattle.g_store.specs.Events.{AnswersEvent, IsAnsweredBy, Migrates, Mounts, Opens, Unmounts}
@@ -35,6 +31,7 @@ use Rattle.g_store.specs.Refusing.{DoneOr, mount_refuses, unmount_refuses}
 use Rattle.g_laws_power.specs.Events.{EventsKeepSafe, ProcessKeepsSafe, StoppedCanBeSafe, StoppedEventsSurvive, StopsLikeBy}
 use Rattle.g_store_meaning.specs.Safety.{CanBeSafe, IsLeft, IsSafe}
 use Rattle.g_laws_power.proofs.LeftLemmas.{belong_left, stand_left}
+use Rattle.g_laws_power.proofs.ProcessLossLemmas.{process_stopped}
 use Rattle.g_laws_power.proofs.SurvivalLemmas.{can_again, spent_view, still_begun, survive_call}
 
 abbrev By : Type 0 → Type 1
@@ -174,12 +171,6 @@ stopped_can_be_safe = record {
 }
 
 -- PROCESS
-disc_of_stop : (text : ℕ → List ℕ) (shelf : ℕ → List Dump) (serial : ℕ) (old new : StoreFacts) → IsDurable old.online → LossLeaves text shelf serial old new → IsDiscSafe new.online.disc
-disc_of_stop text shelf serial old new durable (LeavesOld disc reels) = (disc.survives durable).0
-disc_of_stop text shelf serial old new durable (LeavesMark disc content has reels) = (disc.survives durable).0
-disc_of_stop text shelf serial old new durable (LeavesNew disc content has reels) = (disc.survives durable).0
-disc_of_stop text shelf serial old new durable (LeavesReleasing disc content has last reels) = (disc.survives durable).0
-
 pub process_keeps_safe : ProcessKeepsSafe
 process_keeps_safe = record {
   safe = λ serial old new answer safe it isnt.
@@ -191,13 +182,7 @@ process_keeps_safe = record {
         disc = it.durable up safe.disc;
         dumps = it.dumps safe.told safe.belongs safe.dumps;
       };
-  stop = λ serial old new safe it.
-      let (text, shelf, shelved, up) = safe.belongs.up safe.up in record {
-        told = it.told safe.told;
-        belong = (it.belongs safe.told safe.belongs).devices;
-        disc_safe = disc_of_stop text shelf serial old new safe.disc (it.left safe.told text shelf shelved up safe.up safe.dumps refl);
-        dumps = (it.dumps safe.told safe.belongs safe.dumps).can;
-      };
+  stop = λ serial old new safe it. (process_stopped serial old new safe it).now;
 }
   where
     unspent_after : {serial : ℕ} (old new : StoreFacts) (answer : Result ℕ StoreFault) → Processes serial old answer new → (answer ≡ Err Stopped → ⊥) → (b : Bool) → new.spent ≡ b → new.spent ≡ false

@@ -1,3 +1,4 @@
 pub mod EventLemmas
 mod LeftLemmas
+mod ProcessLossLemmas
 pub mod SurvivalLemmas

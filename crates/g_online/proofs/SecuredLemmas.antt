@@ -1,12 +1,12 @@
 -- A disc whose gate was made durable, and what was then loaded from it or created on it.
--- serves: fresh (causes, ok, safe, same, stopped, survives), load (ok, refused)
+-- serves: fresh (causes, durable, ok, safe, same, stopped, survives), load (ok, refused)
 use Rattle.std.proofs.Common.{◌≡◌, ◌≢◌, ℕ, Bool, true, List, Option, Result, Ok, Err, ap, inl, inr, is_some, refl, subst, sym, ◌∙◌}
 use Rattle.std.specs.Prelude.{◌⊎◌, IfErr, nat_eq, not}
 use Rattle.std.specs.List.{list_any}
 use Rattle.std.specs.Option.{ForSome}
 use Rattle.g_base.specs.Counts.{Rose, RoseBy}
 use Rattle.g_base.specs.ToldContent.{Changes}
-use Rattle.g_disc.specs.Disc.{Causes, DiscState, ReadsByCause, Secures, is_durable}
+use Rattle.g_disc.specs.Disc.{Causes, DiscState, ReadsByCause, Secures, StayDurable, is_durable}
 use Rattle.g_disc.specs.Durable.{MayLeave, PowerLossLeaves}
 use Rattle.g_disc.proofs.CallLemmas.{Causes-then, stands_later}
 use Rattle.g_entry.specs.declared.file_rec.FileRec.{FileRec}
@@ -122,6 +122,9 @@ module _ {T E : Type 0} {t : T} (x y : DiscState) (secured : Secures {T = T} {E 
 
   pub secured_same : {P : Type 0} (z : DiscState) → (P → (z.held ≡ y.held) × (z.writes ≡ y.writes)) → P → (z.held ≡ x.held) × (z.writes ≡ x.writes)
   secured_same z same is = let (held, writes) = same is in (held ∙ secured.held, writes ∙ secured.writes)
+
+  pub secured_durable : {P : Type 0} (z : DiscState) → (P → (z.volatile ≡ y.volatile) × (z.dropped ≡ y.dropped)) → P → StayDurable x z
+  secured_durable z still is = λ k was. let volatile = (still is).0 in ap (λ (ks : List ℕ). not (list_any (nat_eq k) ks)) volatile ∙ secured.durable k was
 
   -- whatever the fault was, the disc stays safe
   pub secured_safe : (z : DiscState) (fault : OnlineFault) → (fault ≡ ReadFault) ⊎ ((fault ≡ Stopped) ⊎ (fault ≡ NoMemory)) → (fault ≡ Stopped → IsDiscSafe y → IsDiscSafe z)

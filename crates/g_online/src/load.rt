@@ -3,7 +3,7 @@ ghost use Rattle.std.specs.Prelude.{◌≡◌, ◌≢◌, ◌⊎◌, ◌<◌, �
 ghost use Rattle.std.specs.Option.{ForSome};
 ghost use Rattle.g_base.specs.ToldContent.{Changes};
 ghost use Rattle.g_blocks.specs.Pool.{IsFresh};
-ghost use Rattle.g_disc.specs.Disc.{Causes, ReadsByCause, is_durable};
+ghost use Rattle.g_disc.specs.Disc.{Causes, ReadsByCause, StayDurable, is_durable};
 ghost use Rattle.g_disc.specs.Durable.{PowerLossLeaves};
 ghost use Rattle.g_entry.specs.Rules.{AreUsers};
 ghost use Rattle.g_slots.specs.Layout.{GateNames};
@@ -82,7 +82,9 @@ impl<D: Disc> Online<D> {
         ensures causes { IfErr result (λ e. Causes (e.0 ≡ OnlineFault.ReadFault) (e.0 ≡ OnlineFault.Stopped)
             (D.state disc) (D.state e.1)) }
 
-        // A safe disc stays safe, and a power loss after a failed write leaves what it held or the new filestore.
+        // Another refusal leaves each durable block durable. A safe disc stays safe, and a power loss after a failed write leaves
+        // what it held or the new filestore.
+        ensures durable { IfErr result (λ e. e.0 ≢ OnlineFault.Stopped → StayDurable (D.state disc) (D.state e.1)) }
         ensures safe { IfErr result (λ e. IsDiscSafe (D.state disc) → IsDiscSafe (D.state e.1)) }
         ensures survives { IfErr result (λ e. e.0 ≡ OnlineFault.Stopped
             → IsDiscSafe (D.state disc) → PowerLossLeaves (AsBeforeOr

@@ -50,8 +50,7 @@ use Rattle.g_process.specs.declared.job.Job.{Job}
 use Rattle.g_process.specs.ProcessPlan.{IsFree, copies_from, process_plan, versions}
 use Rattle.g_process.specs.Preparation.{AtBlock, AtCopies, AtIntent, AtRelease, CarriesOut, HasIntended, IsGranted, IsPrepared, Preparing, StopsAt, copies_of}
 use Rattle.g_process.specs.NamedCopies.{intended_by, moved_by, process_copies, process_intent}
-use Rattle.g_process.specs.Exits.{IsReadBy, Stops, StopsRelease}
-use Rattle.g_process.specs.PowerLosses.{LeavesOnDisc, LossLeaves}
+use Rattle.g_process.specs.Exits.{IsReadBy, Stops}
 use Rattle.g_process.specs.Processing.{CutCopies, CutDump, CutIntent, CutRelease, StopLeaves, IsDumped, IsLeftBy, IsOther, IsReleased, HasReadFile, Processes, behind_process, process_refuses}
 use Rattle.g_process.specs.Releases.{AreReleased, is_taken, released, taken, zeros}
 use Rattle.g_process.specs.Progress.{AreReadable, FailedAt, FailsReading, HasWritten, IsBlockOf, IsSource, filled}
@@ -64,7 +63,7 @@ use Rattle.g_process.proofs.ListLemmas.{free_by_list, noted_at}
 use Rattle.g_process.proofs.PlanLemmas.{all_versions}
 use Rattle.g_process.proofs.ProcessLemmas.{none_refused, refuses_early, refuses_late, store_up}
 use Rattle.g_process.proofs.DurableLemmas.{less_survive}
-use Rattle.g_process.proofs.LossLemmas.{live_leaves, loss_before, loss_copies, loss_intent, loss_mark, loss_release}
+use Rattle.g_process.proofs.LossLemmas.{loss_before, loss_copies, loss_intent, loss_mark, loss_release}
 use Rattle.g_process.proofs.SafeLemmas.{blocks_stay, can_failed, filled_blocks, first_ready, nothing_filled, partial_survives, safe_spent, safe_up, survive_beside, survive_mid, survive_released, whole_durable}
 use Rattle.g_process.proofs.ReelLemmas.{blocks_beside, filled_serial, read_later}
 use Rattle.g_process.proofs.ReleaseLemmas.{AreApart, times_released}
@@ -239,7 +238,6 @@ module _ (job : Job) (o : OnlineFacts) (old mid : Rack) (live : o.live ≡ true)
           failed_read serial o old mid live tied are only rules_are free the_reel.0 the_reel.1 mounted_on room_on readable_are told text shelf shelved up begun (files_at begun intended) k m (so_at begun k m so) o' new (let need = need_is in omega (arith, less, need)) tied'
           (ap (λ (x : OnlineFacts). x.live) is ∙ intended.live) (ap (λ (x : OnlineFacts). x.contents) is ∙ intended.contents ∙ begun_is) (ap (λ (x : OnlineFacts). x.changed) is ∙ intended.changed)
           (ap (λ (x : Rack). map unread x.reels) same);
-      left = λ told text shelf shelved up unspent safe is. let no : ⊥ = cc in absurd no;
       durable = λ unspent durable. subst IsDurable (sym is) (intended.durable durable);
       exit = λ told text shelf shelved up unspent.
           exit_read serial o old mid live tied are only rules_are free the_reel.0 the_reel.1 mounted_on room_on readable_are told text shelf shelved up begun (files_at begun intended) k m (so_at begun k m so) (up_with o' new None) (let need = need_is in omega (arith, less, need))
@@ -296,7 +294,6 @@ module _ (job : Job) (o : OnlineFacts) (old mid : Rack) (live : o.live ≡ true)
           failed_read serial o old mid live tied are only rules_are free the_reel.0 the_reel.1 mounted_on room_on readable_are told text shelf shelved up begun (files_at begun intended) k m (so_at begun k m so) o' new (let need = need_is in omega (arith, less, need)) tied'
           (ap (λ (x : OnlineFacts). x.live) is ∙ intended.live) (ap (λ (x : OnlineFacts). x.contents) is ∙ intended.contents ∙ begun_is) (ap (λ (x : OnlineFacts). x.changed) is ∙ intended.changed)
           (ap (λ (x : Rack). map unread x.reels) same);
-      left = λ told text shelf shelved up unspent safe is. let no : ⊥ = cc in absurd no;
       durable = λ unspent durable. subst IsDurable (sym is) (intended.durable durable);
       exit = λ told text shelf shelved up unspent.
           inr (exit_read serial o old mid live tied are only rules_are free the_reel.0 the_reel.1 mounted_on room_on readable_are told text shelf shelved up begun (files_at begun intended) k m (so_at begun k m so) (up_with o' new None) (let need = need_is in omega (arith, less, need))
@@ -456,16 +453,28 @@ module _ (job : Job) (o : OnlineFacts) (old mid : Rack) (live : o.live ≡ true)
         more (inr e) = inr (ap suc e)
 
     torn_exits : (told : AllTold o.disc.held (told_reels old)) (text : ℕ → List ℕ) (shelf : ℕ → List Dump) (shelved : AreShelved shelf (told_reels old)) (up : IsUp text shelf (up_with o old None))
-        (k : ℕ) (m : Rack) (so : HasWritten serial plan rs o' k mid m) → HasIntended (intent_of plan) o o' → (how : Remains) → k < needs plan
-        → Becomes (at_serial serial (λ r. left_by how k (filled so.written r))) old new → labels new.reels ≡ labels old.reels → Stops text shelf serial (up_with o old None) (spent_with o' new)
-    torn_exits told text shelf shelved up k m so intended how less beside same = by_place (k_cases (k + 1) (needs (process_plan serial o)) (let need = need_is in omega (arith, less, need)))
+        (k : ℕ) (m : Rack) (so : HasWritten serial plan rs o' k mid m) → HasIntended (intent_of plan) o o' → k < needs plan → (failed : FailedAt serial plan rs o' k m new)
+        → Becomes (at_serial serial (λ r. left_by failed.how k (filled so.written r))) old new → labels new.reels ≡ labels old.reels → Stops text shelf serial (up_with o old None) (spent_with o' new)
+    torn_exits told text shelf shelved up k m so intended less failed beside same = by_place (k_cases (k + 1) (needs (process_plan serial o)) (let need = need_is in omega (arith, less, need)))
       where
+        is_block : IsBlockOf (process_plan serial o) (versions o.contents) o' m failed.mid k failed.block
+        is_block = subst (λ (qs : List FileRec). IsBlockOf (process_plan serial o) qs o' m failed.mid k failed.block) ready.versions_are
+            (subst (λ (p : Plan). IsBlockOf p rs o' m failed.mid k failed.block) ready.plan failed.block_is)
+
+        survive : AreDumpsSafe was → (n : ℕ) → DumpsSurvive n failed.mid
+        survive safe n = survive_reads n m failed.mid failed.reads.durable (blocks_after_reads n m failed.mid failed.reads) (partial_dumps o' k m less so safe n)
+
         by_place : (k + 1 < needs (process_plan serial o)) ⊎ (k + 1 ≡ needs (process_plan serial o)) → Stops text shelf serial (up_with o old None) (spent_with o' new)
         by_place (inl before) =
-            exit_before serial o old mid live tied are only rules_are free the_reel.0 the_reel.1 mounted_on room_on readable_are told text shelf shelved up o' (files_at o' intended) k m (so_at o' k m so) (spent_with o' new) how before beside intended.live (intended.contents ∙ begun_is) intended.changed
+            exit_before serial o old mid live tied are only rules_are free the_reel.0 the_reel.1 mounted_on room_on readable_are told text shelf shelved up o' (files_at o' intended) k m (so_at o' k m so) (spent_with o' new) failed.how before beside intended.live (intended.contents ∙ begun_is) intended.changed intended.durable
+            (λ safe. loss_before serial o old mid live tied are only rules_are free the_reel.0 the_reel.1 mounted_on room_on readable_are told text shelf shelved up o' (files_at o' intended) k m (so_at o' k m so)
+            (let need = need_is in omega (arith, less, need)) failed.mid new failed.reads failed.how failed.block is_block (ap (λ (x : Rack). x.reels) failed.rack) failed.durably (survive safe) before)
         by_place (inr last) =
-            exit_mark serial o old mid live tied are only rules_are free the_reel.0 the_reel.1 mounted_on room_on readable_are told text shelf shelved up o' (files_at o' intended) k m (so_at o' k m so) (omega (arith, last)) (whole_left k m so how told beside same) (spent_with o' new) how last beside
-            intended.live (intended.contents ∙ begun_is) intended.changed
+            exit_mark serial o old mid live tied are only rules_are free the_reel.0 the_reel.1 mounted_on room_on readable_are told text shelf shelved up o' (files_at o' intended) k m (so_at o' k m so) (omega (arith, last)) (whole_left k m so failed.how told beside same) (spent_with o' new) failed.how last beside
+            intended.live (intended.contents ∙ begun_is) intended.changed intended.durable
+            (λ safe. loss_mark serial o old mid live tied are only rules_are free the_reel.0 the_reel.1 mounted_on room_on readable_are told text shelf shelved up o' (files_at o' intended) k m (so_at o' k m so)
+            (let need = need_is in omega (arith, less, need)) failed.mid new failed.reads failed.how failed.block is_block (ap (λ (x : Rack). x.reels) failed.rack) failed.durably (survive safe)
+            (whole_left k m so failed.how told beside same) last)
 
     torn_belongs : (told : AllTold o.disc.held (told_reels old)) (text : ℕ → List ℕ) (shelf : ℕ → List Dump) (shelved : AreShelved shelf (told_reels old)) (up : IsUp text shelf (up_with o old None))
         (k : ℕ) (m : Rack) (so : HasWritten serial plan rs o' k mid m) → HasIntended (intent_of plan) o o' → (how : Remains) → k < needs plan
@@ -478,30 +487,6 @@ module _ (job : Job) (o : OnlineFacts) (old mid : Rack) (live : o.live ≡ true)
         by_place (inr last) =
             torn_mark serial o old mid live tied are only rules_are free the_reel.0 the_reel.1 mounted_on room_on readable_are told text shelf shelved up o' (files_at o' intended) k m (so_at o' k m so) (omega (arith, last)) (whole_left k m so how told beside same) o' new how last beside same tied' intended.live
             (intended.contents ∙ begun_is)
-
-    torn_losses : (told : AllTold o.disc.held (told_reels old)) (text : ℕ → List ℕ) (shelf : ℕ → List Dump) (shelved : AreShelved shelf (told_reels old)) (up : IsUp text shelf (up_with o old None)) → AreDumpsSafe was
-        → (k : ℕ) (m : Rack) (so : HasWritten serial plan rs o' k mid m) → HasIntended (intent_of plan) o o' → k < needs plan → (failed : FailedAt serial plan rs o' k m new)
-        → Becomes (at_serial serial (λ r. left_by failed.how k (filled so.written r))) old new → labels new.reels ≡ labels old.reels → LossLeaves text shelf serial was (spent_with o' new)
-    torn_losses told text shelf shelved up safe k m so intended less failed beside same = by_place (k_cases (k + 1) (needs (process_plan serial o)) (let need = need_is in omega (arith, less, need)))
-      where
-        is_block : IsBlockOf (process_plan serial o) (versions o.contents) o' m failed.mid k failed.block
-        is_block = subst (λ (qs : List FileRec). IsBlockOf (process_plan serial o) qs o' m failed.mid k failed.block) ready.versions_are
-            (subst (λ (p : Plan). IsBlockOf p rs o' m failed.mid k failed.block) ready.plan failed.block_is)
-
-        survive : (n : ℕ) → DumpsSurvive n failed.mid
-        survive n = survive_reads n m failed.mid failed.reads.durable (blocks_after_reads n m failed.mid failed.reads) (partial_dumps o' k m less so safe n)
-
-        holds : LeavesOnDisc (λ blocks. Holds blocks (intended_by serial o)) was (spent_with o' new)
-        holds = live_leaves o o' old new (intended_by serial o) tied' intended.live (intended.contents ∙ begun_is) intended.told intended.durable
-
-        by_place : (k + 1 < needs (process_plan serial o)) ⊎ (k + 1 ≡ needs (process_plan serial o)) → LossLeaves text shelf serial was (spent_with o' new)
-        by_place (inl early) =
-            loss_before serial o old mid live tied are only rules_are free the_reel.0 the_reel.1 mounted_on room_on readable_are told text shelf shelved up o' (files_at o' intended) k m (so_at o' k m so)
-            (let need = need_is in omega (arith, less, need)) failed.mid new failed.reads failed.how failed.block is_block (ap (λ (x : Rack). x.reels) failed.rack) failed.durably survive (spent_with o' new) refl early holds
-        by_place (inr last) =
-            loss_mark serial o old mid live tied are only rules_are free the_reel.0 the_reel.1 mounted_on room_on readable_are told text shelf shelved up o' (files_at o' intended) k m (so_at o' k m so)
-            (let need = need_is in omega (arith, less, need)) failed.mid new failed.reads failed.how failed.block is_block (ap (λ (x : Rack). x.reels) failed.rack) failed.durably survive
-            (whole_left k m so failed.how told beside same) (spent_with o' new) refl last holds
 
     -- A STOP
     abbrev TheStop : Type 0
@@ -527,11 +512,10 @@ module _ (job : Job) (o : OnlineFacts) (old mid : Rack) (live : o.live ≡ true)
     still_begun m x reads (inr is) = inr (reads.durable.syncable serial is)
 
     a_stop : (Told was → Belongs was → Belongs (spent_with o' new)) → (AreDumpsSafe was → (n : ℕ) → CanSurvive n new) → (Told was → (text : ℕ → List ℕ) (shelf : ℕ → List Dump) → AreShelved shelf (told_reels old) → IsUp text shelf was → Stops text shelf serial was (spent_with o' new))
-        → (Told was → (text : ℕ → List ℕ) (shelf : ℕ → List Dump) → AreShelved shelf (told_reels old) → IsUp text shelf was → AreDumpsSafe was → LossLeaves text shelf serial was (spent_with o' new))
         → StopLeaves serial was (spent_with o' new) → labels new.reels ≡ labels old.reels → is_some o'.disc.held ≡ is_some o.disc.held → o'.disc.size ≡ o.disc.size → o.disc.writes ≤ o'.disc.writes → o'.disc.arms ≡ o.disc.arms
         → new.arms ≡ old.arms → o'.disc.read_faults ≡ o.disc.read_faults → new.read_faults ≡ old.read_faults
         → (Rose o.disc.write_faults o'.disc.write_faults × (new.write_faults ≡ old.write_faults)) ⊎ (Rose old.write_faults new.write_faults × (o'.disc.write_faults ≡ o.disc.write_faults)) → TheStop
-    a_stop together can exits losses reels same told size later disc_arms tape_arms disc_reads tape_reads cut = record {
+    a_stop together can exits reels same told size later disc_arms tape_arms disc_reads tape_reads cut = record {
       refused = never_refused (Err Stopped) (spent_with o' new);
       granted = λ _. tt;
       same = λ early. absurd (early tt);
@@ -559,7 +543,6 @@ module _ (job : Job) (o : OnlineFacts) (old mid : Rack) (live : o.live ≡ true)
       belongs = together;
       dumps = λ told is_together safe. safe_spent o' new (can safe);
       exit = λ told text shelf shelved up unspent. exits told text shelf shelved up;
-      left = λ told text shelf shelved up unspent safe is. losses told text shelf shelved up safe;
       durable = λ unspent. absurd (let no : ⊥ = cc in no);
       dump = λ isnt. absurd (isnt refl);
     }
@@ -571,14 +554,13 @@ module _ (job : Job) (o : OnlineFacts) (old mid : Rack) (live : o.live ≡ true)
         (ap (λ (x : Rack). map unread x.reels) same ∙ only.reels) (subst (λ (i : Intent). ForSome o'.disc.held (λ blocks. Holds blocks o.contents ⊎ Holds blocks (with_intent (Some i) o.contents))) intent_is stopped.holds))
         (λ safe n. subst (CanSurvive n) (sym same) (inl (safe_mid safe n)))
         (λ told text shelf shelved up. exit_intent serial o old mid live tied are only rules_are free the_reel.0 the_reel.1 mounted_on room_on readable_are told text shelf shelved up (spent_with o' new)
-        (ap (λ (x : Rack). map unread x.reels) same ∙ only.reels) (subst (λ (i : Intent). ForSome o'.disc.held (λ blocks. Holds blocks o.contents ⊎ Holds blocks (with_intent (Some i) o.contents))) intent_is stopped.holds))
-        (λ told text shelf shelved up safe. loss_intent serial o old mid live tied are only rules_are free the_reel.0 the_reel.1 mounted_on room_on readable_are told text shelf shelved up (spent_with o' new)
         (ap (λ (x : Rack). map unread x.reels) same ∙ only.reels)
         (record {
-          now = (subst (λ (i : Intent). ForSome o'.disc.held (λ blocks. Holds blocks o.contents ⊎ Holds blocks (with_intent (Some i) o.contents))) intent_is stopped.holds);
+          now = subst (λ (i : Intent). ForSome o'.disc.held (λ blocks. Holds blocks o.contents ⊎ Holds blocks (with_intent (Some i) o.contents))) intent_is stopped.holds;
           survives = subst (λ (i : Intent). StopsSafely (λ left. Holds left o.contents ⊎ Holds left (with_intent (Some i) o.contents)) o o') intent_is stopped.survives;
         })
-        (λ n. subst (DumpsSurvive n) (sym same) (safe_mid safe n)))
+        (λ safe. loss_intent serial o old mid live tied are only rules_are free the_reel.0 the_reel.1 mounted_on room_on readable_are told text shelf shelved up new (ap (λ (x : Rack). map unread x.reels) same ∙ only.reels)
+        (λ n. subst (DumpsSurvive n) (sym same) (safe_mid safe n))))
         (CutIntent (subst (λ (i : Intent). ForSome o'.disc.held (λ blocks. Holds blocks o.contents ⊎ Holds blocks (with_intent (Some i) o.contents))) intent_is stopped.holds)
         (ap (λ (x : Rack). map unread x.reels) same ∙ only.reels)) (ap (λ (x : Rack). labels x.reels) same ∙ labels_mid)
         stopped.told stopped.causes.size stopped.causes.later stopped.causes.arms (ap (λ (x : Rack). x.arms) same ∙ only.arms) (stopped.causes.reads_kept (λ no. no)) (ap (λ (x : Rack). x.read_faults) same ∙ ready.kept)
@@ -595,8 +577,7 @@ module _ (job : Job) (o : OnlineFacts) (old mid : Rack) (live : o.live ≡ true)
         torn_belongs told text shelf shelved up k m so intended failed.how less beside (labels_failed o' k serial m new failed same_m))
         (λ safe. can_failed serial k failed.block failed.mid new failed.how (still_begun m failed.mid failed.reads (begun_dumps o' k m so)) failed.free (left_name failed.how k) (ap (λ (x : Rack). x.reels) failed.rack) failed.durably
         (λ n apart. inl (survive_reads n m failed.mid failed.reads.durable (blocks_after_reads n m failed.mid failed.reads) (written_dumps o' k m so safe n apart))))
-        (λ told text shelf shelved up. torn_exits told text shelf shelved up k m so intended failed.how less beside (labels_failed o' k serial m new failed same_m))
-        (λ told text shelf shelved up safe. torn_losses told text shelf shelved up safe k m so intended less failed beside (labels_failed o' k serial m new failed same_m))
+        (λ told text shelf shelved up. torn_exits told text shelf shelved up k m so intended less failed beside (labels_failed o' k serial m new failed same_m))
         (CutDump intended.live (intended.contents ∙ begun_is)
         (reels_read serial (λ r. left_by failed.how k (filled so.written r)) old new (both_at serial (filled so.written) (left_by failed.how k) old new (filled_serial so.written) all)))
         (labels_failed o' k serial m new failed same_m) intended.told intended.causes.size intended.causes.later intended.causes.arms
@@ -612,9 +593,7 @@ module _ (job : Job) (o : OnlineFacts) (old mid : Rack) (live : o.live ≡ true)
         (let need = need_is in omega (arith, need)) (whole_by so.written held (labels_written begun (needs plan) new so) told) need_is o' (holds_either begun intended adopting.stopped.holds))
         (λ safe n. inl (moved_dumps begun new so safe n))
         (λ told text shelf shelved up. exit_copies serial o old mid live tied are only rules_are free the_reel.0 the_reel.1 mounted_on room_on readable_are told text shelf shelved up begun (files_at begun intended) (needs plan) new (so_at begun (needs plan) new so)
-        (let need = need_is in omega (arith, need)) (whole_by so.written held (labels_written begun (needs plan) new so) told) need_is o' (holds_either begun intended adopting.stopped.holds))
-        (λ told text shelf shelved up safe. loss_copies serial o old mid live tied are only rules_are free the_reel.0 the_reel.1 mounted_on room_on readable_are told text shelf shelved up begun (files_at begun intended) (needs plan) new (so_at begun (needs plan) new so)
-        need_is (whole_by so.written held (labels_written begun (needs plan) new so) told) (moved_dumps begun new so safe) (spent_with o' new) refl
+        (let need = need_is in omega (arith, need)) (whole_by so.written held (labels_written begun (needs plan) new so) told) need_is o'
         (record {
           now = holds_either begun intended adopting.stopped.holds;
           survives = λ is.
@@ -624,7 +603,9 @@ module _ (job : Job) (o : OnlineFacts) (old mid : Rack) (live : o.live ≡ true)
                     let (b, there) = some_of begun.disc.held (intended.told ∙ ap (λ (h : Option (List (List ℕ))). is_some h) at) in
                     holds_either begun intended {held = Some blocks} (λ x is_x. subst (λ (y : List (List ℕ)). Holds y begun.contents ⊎ Holds y (adopted job.number (copies_of job o) begun.contents)) (same_Some blocks x is_x) (left b there blocks may)) blocks refl,
               );
-        }))
+        })
+        (λ safe. loss_copies serial o old mid live tied are only rules_are free the_reel.0 the_reel.1 mounted_on room_on readable_are told text shelf shelved up begun (files_at begun intended) (needs plan) new (so_at begun (needs plan) new so)
+        need_is (whole_by so.written held (labels_written begun (needs plan) new so) told) (moved_dumps begun new so safe)))
         (CutCopies (holds_either begun intended adopting.stopped.holds)
         (the_dump new begun intended so (λ s k. omega arith) (reels_held serial (at_serial serial (filled so.written)) so.written old new (let long = so.long in omega (arith, long))
         (at_name serial (filled so.written) (filled_serial so.written)) (at_this serial (filled so.written)) all))
@@ -654,15 +635,13 @@ module _ (job : Job) (o : OnlineFacts) (old mid : Rack) (live : o.live ≡ true)
         (λ safe. can_failed cut.list.serial 0 zeros cut.mid new cut.how (inl refl) cut.free (left_name cut.how 0) (ap (λ (x : Rack). x.reels) cut.rack) cut.failed
         (λ n apart. inl (survive_released (taken serial (take cut.place job.lists.items)) m cut.mid cut.durably (λ x stays. blocks_stay (taken serial (take cut.place job.lists.items)) x m cut.mid cut.before stays)
         (moved_dumps moved.begun m so safe) n)))
-        (λ told text shelf shelved up. StopsRelease (exit_cut serial o old mid live tied are only rules_are free the_reel.0 the_reel.1 mounted_on room_on readable_are told text shelf shelved up moved.begun (files_at moved.begun moved.intended) (needs plan) m (so_at moved.begun (needs plan) m so)
+        (λ told text shelf shelved up. exit_cut serial o old mid live tied are only rules_are free the_reel.0 the_reel.1 mounted_on room_on readable_are told text shelf shelved up moved.begun (files_at moved.begun moved.intended) (needs plan) m (so_at moved.begun (needs plan) m so)
         (let need = need_is in omega (arith, need)) (whole_by so.written held same_new told) need_is job.lists.items ready.listed (spent_with o' new) same_new put.live (put.contents ∙ moved_is moved.begun moved.intended) put.changed
-        cut.place cut.list cut.at cut.taken_is cut.how cut.mid cut.before third))
-        (λ told text shelf shelved up safe. loss_release serial o old mid live tied are only rules_are free the_reel.0 the_reel.1 mounted_on room_on readable_are told text shelf shelved up moved.begun (files_at moved.begun moved.intended) (needs plan) m (so_at moved.begun (needs plan) m so)
+        cut.place cut.list cut.at cut.taken_is cut.how cut.mid cut.before third (λ is. put.durable (moved.intended.durable is))
+        (λ safe. loss_release serial o old mid live tied are only rules_are free the_reel.0 the_reel.1 mounted_on room_on readable_are told text shelf shelved up moved.begun (files_at moved.begun moved.intended) (needs plan) m (so_at moved.begun (needs plan) m so)
         need_is (whole_by so.written held same_new told) (moved_dumps moved.begun m so safe) job.lists.items ready.listed cut.place cut.list cut.at cut.taken_is cut.mid cut.before
         (survive_released (taken serial (take cut.place job.lists.items)) m cut.mid cut.durably (λ x stays. blocks_stay (taken serial (take cut.place job.lists.items)) x m cut.mid cut.before stays)
-        (moved_dumps moved.begun m so safe)) cut.how new (ap (λ (x : Rack). x.reels) cut.rack) cut.failed (spent_with o' new) refl
-        (live_leaves o o' old new (moved_by serial o) tied' put.live (put.contents ∙ moved_is moved.begun moved.intended) (moved.adopted.told ∙ moved.intended.told)
-        (λ is. put.durable (moved.intended.durable is))))
+        (moved_dumps moved.begun m so safe)) cut.how new (ap (λ (x : Rack). x.reels) cut.rack) cut.failed))
         (CutRelease put.live (put.contents ∙ moved_is moved.begun moved.intended)
         (the_dump m moved.begun moved.intended so
         (λ s k. let one = times_released (taken serial (take cut.place job.lists.items)) m cut.mid cut.before s k in
@@ -745,7 +724,6 @@ module _ (job : Job) (o : OnlineFacts) (old mid : Rack) (live : o.live ≡ true)
               (λ r. released_name (taken serial job.lists.items) (at_serial serial (filled so.written) r) ∙ at_name serial (filled so.written) (filled_serial so.written) r)
               (held_left serial old mid job.lists.items ready.listed so.written) all) same_new told) need_is (taken serial job.lists.items) new gone same_new never_all o' tied' put.live
               (put.contents ∙ moved_is moved.begun moved.intended) put.changed;
-          left = λ told text shelf shelved up unspent safe is. let no : ⊥ = cc in absurd no;
           durable = λ unspent is. put.durable (moved.intended.durable is);
           exit = λ told text shelf shelved up unspent. (
             named ∙ ready.may.number_is,

@@ -38,7 +38,8 @@ use Rattle.g_dumper.specs.Invariant.{spent_with, up_with}
 use Rattle.g_dumper.proofs.ShelfLemmas.{reel_there, told_is}
 use Rattle.g_dumper.proofs.KeepLemmas.{belongs_spent, belongs_up, without_dump}
 use Rattle.g_disc_contents.proofs.HoldLemmas.{holds_one}
-use Rattle.g_process.specs.Exits.{AreParts, HasReleased, IsClearedBy, IsContentOf, IsLastCut, LacksMark, MayFill, Stops, StopsBefore, StopsCopies, StopsIntent, StopsMark, cleared}
+use Rattle.g_process.specs.Exits.{AreParts, HasReleased, IsBesideDump, IsClearedBy, IsContentOf, IsLastCut, LacksMark, MayFill, Stops, StopsBefore, StopsCopies, StopsIntent, StopsMark, StopsRelease, StopsUnmarked, cleared}
+use Rattle.g_process.specs.PowerLosses.{LeavesEitherShelf, LeavesOnDisc, LeavesShelf, StaysDurable}
 use Rattle.g_process.specs.ProcessPlan.{IsFree, IsTaken, living, process_plan, versions}
 use Rattle.g_process.specs.NamedCopies.{intended_by, moved_by}
 use Rattle.g_process.specs.Releases.{AreReleased, is_taken, released, taken, zeros}
@@ -338,11 +339,11 @@ module _ (serial : ℕ) (o : OnlineFacts) (old mid : Rack) (live : o.live ≡ tr
       free_r.none blocks (ap blocks_in at ∙ tells) (shelf r.serial) (shelved.each (unread r) in_told blocks tells)
 
   may_fill : MayFill serial (up_with o old None)
-  may_fill = record { on = on; reel_is = on_is; mounted = mounted; room = room; free = free; rules = rules }
+  may_fill = record { rising = are.rising; on = on; reel_is = on_is; mounted = mounted; room = room; free = free; rules = rules }
 
-  pub exit_intent : (end : StoreFacts) → map unread end.rack.reels ≡ map unread old.reels → ForSome end.online.disc.held (λ blocks. Holds blocks o.contents ⊎ Holds blocks (intended_by serial o))
-      → Stops text shelf serial (up_with o old None) end
-  exit_intent end same either = StopsIntent may_fill either same
+  pub exit_intent : (end : StoreFacts) → map unread end.rack.reels ≡ map unread old.reels → LeavesOnDisc (λ blocks. Holds blocks o.contents ⊎ Holds blocks (intended_by serial o)) (up_with o old None) end
+      → LeavesShelf shelf (up_with o old None) end → Stops text shelf serial (up_with o old None) end
+  exit_intent end same either loss = StopsIntent may_fill either same loss
 
   -- STOPPED AT THE INTENT
   pub stopped_intent : (o' : OnlineFacts) (new : Rack) → map unread new.reels ≡ map unread old.reels → ForSome o'.disc.held (λ blocks. Holds blocks o.contents ⊎ Holds blocks (intended_by serial o))
@@ -540,16 +541,16 @@ module _ (serial : ℕ) (o : OnlineFacts) (old mid : Rack) (live : o.live ≡ tr
             one_of was now blocks c holds (inl first) = subst (DiscBelongs text with_it (told_reels m)) (holds_one blocks (intended_by serial o) c first holds) was
             one_of was now blocks c holds (inr second) = subst (DiscBelongs text with_it (told_reels m)) (holds_one blocks (moved_by serial o) c second holds) now
 
-        pub exit_copies : (o' : OnlineFacts) → ForSome o'.disc.held (λ blocks. Holds blocks (intended_by serial o) ⊎ Holds blocks (moved_by serial o))
-            → Stops text shelf serial (up_with o old None) (spent_with o' m)
-        exit_copies o' either = StopsCopies (record {
+        pub exit_copies : (o' : OnlineFacts) → LeavesOnDisc (λ blocks. Holds blocks (intended_by serial o) ⊎ Holds blocks (moved_by serial o)) (up_with o old None) (spent_with o' m)
+            → LeavesShelf with_it (up_with o old None) (spent_with o' m) → Stops text shelf serial (up_with o old None) (spent_with o' m)
+        exit_copies o' either loss = StopsCopies (record {
           may = may_fill;
           content = content;
           has = its_content;
           reels = beside_zip serial (filled so.written) old m becomes_w (λ r. let long = so.long in
               let size = filled_long so.written r (omega (arith, long, all)) in omega (arith, size, long, all));
           shelved = shelved_with;
-        }) either
+        }) either loss
 
         -- after releases
         module _ (lists : List Listed) (listed : AreListed old lists) (end : StoreFacts) (same : labels end.rack.reels ≡ labels old.reels) (live' : end.online.live ≡ true)
@@ -584,9 +585,18 @@ module _ (serial : ℕ) (o : OnlineFacts) (old mid : Rack) (live : o.live ≡ tr
                 λ j d inside. all_above serial old mid lists listed are (get_or old.reels j d) (Contains-get_or old.reels j d inside),
               )
 
+          stops_released : (ns : List ℕ) (until : ℕ) (cut : Option ℕ) → AreShelved (without_all ns with_it) (told_reels end.rack) → ((n : ℕ) → has ns n ≡ true → (n < until) × (n ≢ serial))
+              → ((r : Reel) → Contains old.reels r → r.serial < until → r.serial ≢ serial → has ns r.serial ≡ false → IsFree r.serial old) → IsLastCut serial until old cut
+              → AllZip (IsClearedBy serial until cut old) old.reels end.rack.reels → StaysDurable (up_with o old None) end → (last : ℕ) → IsLastCut serial (last + 1) old (Some last)
+              → LeavesEitherShelf (cleared serial last with_it) (cleared serial (last + 1) with_it) (up_with o old None) end → Stops text shelf serial (up_with o old None) end
+          unfolding exit_released
+          stops_released ns until cut shelved_ns below free_r is_last zip durable last interrupted loss =
+              StopsRelease (exit_released ns until cut shelved_ns below free_r is_last zip) durable last interrupted loss
+
           pub exit_cut : (i : ℕ) (l : Listed) → slice_get lists i ≡ Some l → is_taken serial l ≡ true → (how : Remains) (x : Rack) → AreReleased (taken serial (take i lists)) m x
-              → Becomes (at_serial l.serial (left_by how 0)) x end.rack → HasReleased text shelf serial (up_with o old None) end
-          exit_cut i l at taken_l how x gone cut =
+              → Becomes (at_serial l.serial (left_by how 0)) x end.rack → StaysDurable (up_with o old None) end
+              → LeavesEitherShelf (cleared serial l.serial with_it) (cleared serial (l.serial + 1) with_it) (up_with o old None) end → Stops text shelf serial (up_with o old None) end
+          exit_cut i l at taken_l how x gone cut durable loss =
               by_how how (shelved_by_cut l.serial how x end.rack (without_all (taken serial (take i lists)) with_it) cut (shelved_released (taken serial (take i lists)) m x with_it gone shelved_with)) becomes
             where
               some : 0 < length so.written
@@ -597,16 +607,20 @@ module _ (serial : ℕ) (o : OnlineFacts) (old mid : Rack) (live : o.live ≡ tr
                   becomes_then (λ r. released (taken serial (take i lists)) (at_serial serial (filled so.written) r)) (at_serial l.serial (left_by how 0)) old x end.rack
                   (becomes_then (at_serial serial (filled so.written)) (released (taken serial (take i lists))) old m x becomes_w (becomes_released (taken serial (take i lists)) m x gone)) cut
 
+              is_last : IsLastCut serial (l.serial + 1) old (Some l.serial)
+              is_last = (refl, (l_taken serial old mid lists listed are i l at taken_l).1, (l_taken serial old mid lists listed are i l at taken_l).0, l_there serial old mid lists listed are i l at taken_l)
+
               -- the reel whose release was cut
               with_cut : (other : Remains) → AreShelved (without_reel l.serial (without_all (taken serial (take i lists)) with_it)) (told_reels end.rack)
-                  → Becomes (λ r. at_serial l.serial (left_by other 0) (released (taken serial (take i lists)) (at_serial serial (filled so.written) r))) old end.rack → HasReleased text shelf serial (up_with o old None) end
+                  → Becomes (λ r. at_serial l.serial (left_by other 0) (released (taken serial (take i lists)) (at_serial serial (filled so.written) r))) old end.rack → Stops text shelf serial (up_with o old None) end
               with_cut other shelved_l becomes_l =
-                  exit_released (l.serial ∷ taken serial (take i lists)) (l.serial + 1) (Some l.serial) shelved_l
+                  stops_released (l.serial ∷ taken serial (take i lists)) (l.serial + 1) (Some l.serial) shelved_l
                   (λ n is. by_or n (or_cases (l.serial == n) (has (taken serial (take i lists)) n) is))
                   (λ r there less apart isnt. by_place r there less apart isnt (eqb_tells l.serial r.serial))
-                  (refl, (l_taken serial old mid lists listed are i l at taken_l).1, (l_taken serial old mid lists listed are i l at taken_l).0, l_there serial old mid lists listed are i l at taken_l)
+                  is_last
                   (part_zip serial old mid lists listed are i l at taken_l (l.serial + 1) (Some l.serial) so.written other end.rack (omega arith) (omega arith) some
                   (λ r named. inr (omega (arith, named), inr (subst (λ (n : ℕ). IsTaken n old) (sym named) (l_taken serial old mid lists listed are i l at taken_l).0, inr (ap Some (sym named))))) becomes_l)
+                  durable l.serial is_last loss
                 where
                   by_or : (n : ℕ) → ((l.serial == n) ≡ true) ⊎ (has (taken serial (take i lists)) n ≡ true) → (n < l.serial + 1) × (n ≢ serial)
                   by_or n (inl here) = let e = eqb-true l.serial n here in (omega (arith, e), subst (λ (x : ℕ). x ≢ serial) e (l_taken serial old mid lists listed are i l at taken_l).1)
@@ -627,10 +641,11 @@ module _ (serial : ℕ) (o : OnlineFacts) (old mid : Rack) (live : o.live ≡ tr
               by_how : (other : Remains) → ByCut other (AreShelved (without_all (taken serial (take i lists)) with_it) (told_reels end.rack))
                   (AreShelved (without_reel l.serial (without_all (taken serial (take i lists)) with_it)) (told_reels end.rack))
                   → Becomes (λ r. at_serial l.serial (left_by other 0) (released (taken serial (take i lists)) (at_serial serial (filled so.written) r))) old end.rack
-                  → HasReleased text shelf serial (up_with o old None) end
+                  → Stops text shelf serial (up_with o old None) end
               by_how Unchanged kept is =
-                  exit_released (taken serial (take i lists)) l.serial None kept (part_below serial old mid lists listed are i l at taken_l) (part_free serial old mid lists listed are i l at taken_l) tt
+                  stops_released (taken serial (take i lists)) l.serial None kept (part_below serial old mid lists listed are i l at taken_l) (part_free serial old mid lists listed are i l at taken_l) tt
                   (part_zip serial old mid lists listed are i l at taken_l l.serial None so.written Unchanged end.rack (omega arith) (omega arith) some (λ r named. inl (omega (arith, named), refl)) is)
+                  durable l.serial is_last loss
               by_how Shortened away is = with_cut Shortened away is
               by_how (Torn block) away is = with_cut (Torn block) away is
 
@@ -697,28 +712,26 @@ module _ (serial : ℕ) (o : OnlineFacts) (old mid : Rack) (live : o.live ≡ tr
           (λ q was. left_some how last (with_it serial) (subst (AreCompleted serial (left_in how k so.written)) (sym its_reel) one) q)
 
       pub exit_mark : (end : StoreFacts) (how : Remains) → k + 1 ≡ needs plan → Becomes (at_serial serial (λ r. left_by how k (filled so.written r))) old end.rack
-          → end.online.live ≡ true → end.online.contents ≡ intended_by serial o → end.online.changed ≡ o.changed → Stops text shelf serial (up_with o old None) end
-      exit_mark end how last is live' contents changed = by_mark (at_mark how last)
+          → end.online.live ≡ true → end.online.contents ≡ intended_by serial o → end.online.changed ≡ o.changed → StaysDurable (up_with o old None) end
+          → LeavesEitherShelf shelf with_it (up_with o old None) end → Stops text shelf serial (up_with o old None) end
+      exit_mark end how last is live' contents changed durable loss = by_mark (at_mark how last)
         where
+          beside : AllZip (IsBesideDump serial) old.reels end.rack.reels
+          beside = beside_zip serial (λ r. left_by how k (filled so.written r)) old end.rack is (λ r.
+              let long = so.long in
+              let some : 0 < k = omega (arith, last) in
+              left_long how k (filled so.written r) some (let size = filled_long so.written r (omega (arith, long, some)) in omega (arith, size, long, some)))
+
           by_mark : AreCompleted serial (left_in how k so.written) [] ⊎ AreCompleted serial (left_in how k so.written) (the_dump ∷ []) → Stops text shelf serial (up_with o old None) end
-          by_mark (inl none) = StopsBefore (record {
+          by_mark (inl none) = StopsUnmarked (record {
             may = may_fill;
             live = live';
             contents = contents;
             changed = changed;
             reels = reels_read serial (λ r. left_by how k (filled so.written r)) old end.rack is;
             shelved = shelved_none end.rack how last is none;
-          })
-          by_mark (inr one) = StopsMark (record {
-            may = may_fill;
-            content = content;
-            has = its_content;
-            reels = beside_zip serial (λ r. left_by how k (filled so.written r)) old end.rack is (λ r.
-                let long = so.long in
-                let some : 0 < k = omega (arith, last) in
-                left_long how k (filled so.written r) some (let size = filled_long so.written r (omega (arith, long, some)) in omega (arith, size, long, some)));
-            shelved = shelved_one end.rack how last is one;
-          }) live' contents
+          }) beside durable content its_content loss
+          by_mark (inr one) = StopsMark (record { may = may_fill; content = content; has = its_content; reels = beside; shelved = shelved_one end.rack how last is one }) live' contents durable loss
 
       pub torn_mark : (o' : OnlineFacts) (new : Rack) (how : Remains) → k + 1 ≡ needs plan → Becomes (at_serial serial (λ r. left_by how k (filled so.written r))) old new → labels new.reels ≡ labels old.reels
           → IsTied o' → o'.live ≡ true → o'.contents ≡ intended_by serial o → Belongs (spent_with o' new)
@@ -738,15 +751,16 @@ module _ (serial : ℕ) (o : OnlineFacts) (old mid : Rack) (live : o.live ≡ tr
         (λ q was. subst (λ (ds : List Dump). ForSome (left_by how k (filled so.written q)).blocks (λ bs. AreCompleted serial bs ds)) (sym none_here) (left_none how less q was))
 
     pub exit_before : (end : StoreFacts) (how : Remains) → k + 1 < needs plan → Becomes (at_serial serial (λ r. left_by how k (filled so.written r))) old end.rack
-        → end.online.live ≡ true → end.online.contents ≡ intended_by serial o → end.online.changed ≡ o.changed → Stops text shelf serial (up_with o old None) end
-    exit_before end how less is live' contents changed = StopsBefore (record {
+        → end.online.live ≡ true → end.online.contents ≡ intended_by serial o → end.online.changed ≡ o.changed → StaysDurable (up_with o old None) end → LeavesShelf shelf (up_with o old None) end
+        → Stops text shelf serial (up_with o old None) end
+    exit_before end how less is live' contents changed durable loss = StopsBefore (record {
       may = may_fill;
       live = live';
       contents = contents;
       changed = changed;
       reels = reels_read serial (λ r. left_by how k (filled so.written r)) old end.rack is;
       shelved = quiet_left end.rack how less is;
-    })
+    }) durable loss
 
     pub torn_before : (o' : OnlineFacts) (new : Rack) (how : Remains) → k + 1 < needs plan → Becomes (at_serial serial (λ r. left_by how k (filled so.written r))) old new → labels new.reels ≡ labels old.reels
         → IsTied o' → o'.live ≡ true → o'.contents ≡ intended_by serial o → Belongs (spent_with o' new)

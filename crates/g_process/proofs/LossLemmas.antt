@@ -1,5 +1,5 @@
 -- What a power loss leaves of the reels when PROCESS stops at a write of tape.
--- serves: AnswerLemmas
+-- serves: AnswerLemmas, crates above
 use Rattle.std.proofs.Common.{◌≡◌, ◌≢◌, ℕ, zero, suc, ◌+◌, ◌<◌, ◌≤◌, ◌==◌, Bool, true, false, List, [], ◌∷◌, ◌++◌, length, take, Option, Some, None, Ok, Err, refl, sym, ◌∙◌, ap, arith, subst, inl, inr, option_map, slice_get, if◌then◌else◌}
 use Rattle.std.specs.Prelude.{◌⊎◌, ◌&&◌, All, Contains, is_some, map, nat_lt, not}
 use Rattle.std.specs.Option.{ForSome}
@@ -16,7 +16,6 @@ use Rattle.g_tape.specs.Risk.{IsSynced, Leaves, risk}
 use Rattle.g_tape.proofs.ReadLemmas.{blocks_after_reads, reel-with_reel}
 use Rattle.g_plain.proofs.Found.{some_of}
 use Rattle.g_disc_contents.specs.Contents.{Contents, Holds}
-use Rattle.g_disc_contents.specs.Durable.{IsDurable}
 use Rattle.g_disc_contents.specs.Facts.{IsTied, OnlineFacts}
 use Rattle.g_incr.specs.Layout.{Dump, count_of, dump_blocks, mark_block}
 use Rattle.g_incr.specs.Plan.{IsAway, IsPlan, IsReadyAt, Plan, blocks_of as size_in, content_blocks, dump_of, first_content, needs, waiting}
@@ -36,10 +35,9 @@ use Rattle.g_store_meaning.specs.Reading.{AllTold}
 use Rattle.g_store_meaning.specs.StoreInvariant.{IsUp, StoreFacts, with_dump}
 use Rattle.g_store_meaning.specs.Surviving.{PowerLossLeavesDumps, PowerLossLeavesEither}
 use Rattle.g_dumper.proofs.SafeLemmas.{left_shelved, shelved_at}
-use Rattle.g_dumper.specs.Invariant.{spent_with, up_with}
-use Rattle.g_process.specs.Exits.{IsContentOf, cleared}
-use Rattle.g_process.specs.NamedCopies.{intended_by, moved_by}
-use Rattle.g_process.specs.PowerLosses.{LeavesMark, LeavesNew, LeavesOld, LeavesOnDisc, LeavesReleasing, LossLeaves}
+use Rattle.g_dumper.specs.Invariant.{up_with}
+use Rattle.g_process.specs.Exits.{cleared}
+use Rattle.g_process.specs.PowerLosses.{LeavesOnDisc, StaysDurable}
 use Rattle.g_process.specs.ProcessPlan.{IsFree, process_plan, versions}
 use Rattle.g_process.specs.Progress.{AreReadable, HasWritten, IsBlockOf}
 use Rattle.g_process.specs.Releases.{AreReleased, is_taken, taken, zeros}
@@ -49,7 +47,7 @@ use Rattle.g_process.proofs.ContentLemmas.{within_content}
 use Rattle.g_process.proofs.DumpLemmas.{begun, content_is_long, content_of}
 use Rattle.g_process.proofs.DurableLemmas.{other_blocks}
 use Rattle.g_process.proofs.EndLemmas.{l_taken, part_below, part_free}
-use Rattle.g_process.proofs.ExitLemmas.{cleared_same, header, its_content, its_reel, labels_w, none_at, none_here, others_keep, process_away, quiet_m, shelved_released, shelved_same, shelved_with}
+use Rattle.g_process.proofs.ExitLemmas.{cleared_same, header, its_reel, labels_w, none_at, none_here, others_keep, process_away, quiet_m, shelved_released, shelved_same, shelved_with}
 use Rattle.g_process.proofs.SafeLemmas.{each_reel, filled_blocks, get_first}
 use Rattle.g_process.proofs.WholeLemmas.{none_short}
 
@@ -178,15 +176,15 @@ cleared_beside serial last n shelf apart = by (cases_order n last)
     by (inr (inr more)) = ap (λ (b : Bool). if b && not (n == serial) then [] else shelf n) (not_below n (last + 1) (omega (arith, more)) ∙ sym (not_below n last (omega (arith, more))))
 
 -- A STORE WHOSE LIVE BLOCKS ARE DURABLE leaves what it holds
-pub live_leaves : (o new : OnlineFacts) (old rack : Rack) (c : Contents) → IsTied new → new.live ≡ true → new.contents ≡ c → is_some new.disc.held ≡ is_some o.disc.held → (IsDurable o → IsDurable new)
-    → LeavesOnDisc (λ blocks. Holds blocks c) (up_with o old None) (spent_with new rack)
-live_leaves o new old rack c tied live are told durable = record {
-  now = λ blocks at. subst (Holds blocks) are (holds_now new tied live blocks at);
+pub live_leaves : (c : Contents) (old new : StoreFacts) → IsTied new.online → new.online.live ≡ true → new.online.contents ≡ c → is_some new.online.disc.held ≡ is_some old.online.disc.held → StaysDurable old new
+    → LeavesOnDisc (λ blocks. Holds blocks c) old new
+live_leaves c old new tied live are told durable = record {
+  now = λ blocks at. subst (Holds blocks) are (holds_now new.online tied live blocks at);
   survives = λ is. (
-    durable_is_safe new tied live (durable is),
+    durable_is_safe new.online tied live (durable is),
     λ had at left may.
-        let (blocks, there) = some_of new.disc.held (told ∙ ap (λ (h : Option (List (List ℕ))). is_some h) at) in
-        subst (Holds left) are (holds_after_loss new tied live (durable is) blocks there left may),
+        let (blocks, there) = some_of new.online.disc.held (told ∙ ap (λ (h : Option (List (List ℕ))). is_some h) at) in
+        subst (Holds left) are (holds_after_loss new.online tied live (durable is) blocks there left may),
   );
 }
 
@@ -200,16 +198,12 @@ module _ (serial : ℕ) (o : OnlineFacts) (old mid : Rack) (live : o.live ≡ tr
   abbrev rs : List FileRec
   rs = versions o.contents
 
-  abbrev Losses : StoreFacts → Type 0
-  Losses end = LossLeaves text shelf serial (up_with o old None) end
-
   no_dumps : shelf serial ≡ []
   no_dumps = none_here serial o old mid live tied are only rules free on on_is mounted room readable told text shelf shelved up
 
   -- at the intent
-  pub loss_intent : (end : StoreFacts) → map unread end.rack.reels ≡ map unread old.reels → LeavesOnDisc (λ blocks. Holds blocks o.contents ⊎ Holds blocks (intended_by serial o)) (up_with o old None) end
-      → ((n : ℕ) → DumpsSurvive n end.rack) → Losses end
-  loss_intent end same either survive = LeavesOld either (leaves_shelf shelf end.rack (subst (AreShelved shelf) (sym same) shelved) survive)
+  pub loss_intent : (new : Rack) → map unread new.reels ≡ map unread old.reels → ((n : ℕ) → DumpsSurvive n new) → (n : ℕ) → PowerLossLeavesDumps n new (shelf n)
+  loss_intent new same survive = leaves_shelf shelf new (subst (AreShelved shelf) (sym same) shelved) survive
 
   module _ (begun_o : OnlineFacts) (files : begun_o.contents.files ≡ o.contents.files) (k : ℕ) (m : Rack) (so : HasWritten serial plan rs begun_o k mid m) where
     -- at a block
@@ -238,13 +232,11 @@ module _ (serial : ℕ) (o : OnlineFacts) (old mid : Rack) (live : o.live ≡ tr
       first : (b : List ℕ) → slice_get so.written 0 ≡ Some b → IsReadyAt plan 0 b
       first = header serial o old mid live tied are only rules free on on_is mounted room readable told text shelf shelved up begun_o files k m so
 
-      pub loss_before : (end : StoreFacts) → end.rack ≡ new → k + 1 < needs plan → LeavesOnDisc (λ blocks. Holds blocks (intended_by serial o)) (up_with o old None) end → Losses end
-      loss_before end rack_is early holds =
-          LeavesOld (record { now = λ blocks at. inr (holds.now blocks at); survives = λ is. (let (safe, left) = holds.survives is in (safe, λ had at blocks may. inr (left had at blocks may))) })
-          (subst (λ (r : Rack). (n : ℕ) → PowerLossLeavesDumps n r (shelf n)) (sym rack_is)
-          (each_reel serial (λ n. PowerLossLeavesDumps n new (shelf n))
+      pub loss_before : k + 1 < needs plan → (n : ℕ) → PowerLossLeavesDumps n new (shelf n)
+      loss_before early =
+          each_reel serial (λ n. PowerLossLeavesDumps n new (shelf n))
           (subst (PowerLossLeavesDumps serial new) (sym no_dumps)
-          (before_left serial k block how x new reels_are failed survive plan so.written rules (process_away serial o) refl refl so.long first there none_x begun_x early)) theirs))
+          (before_left serial k block how x new reels_are failed survive plan so.written rules (process_away serial o) refl refl so.long first there none_x begun_x early)) theirs
 
       abbrev made : Dump
       made = dump_of plan (content_of plan so.written)
@@ -252,10 +244,8 @@ module _ (serial : ℕ) (o : OnlineFacts) (old mid : Rack) (live : o.live ≡ tr
       abbrev with_it : ℕ → List Dump
       with_it = with_dump (dump_of plan (content_of plan so.written)) shelf
 
-      pub loss_mark : All IsBlock so.written → (end : StoreFacts) → end.rack ≡ new → k + 1 ≡ needs plan → LeavesOnDisc (λ blocks. Holds blocks (intended_by serial o)) (up_with o old None) end → Losses end
-      loss_mark whole end rack_is last holds =
-          LeavesMark holds (content_of plan so.written) (its_content serial o old mid live tied are only rules free on on_is mounted room readable told text shelf shelved up begun_o files k m so enough whole)
-          (subst (λ (r : Rack). (n : ℕ) → PowerLossLeavesEither n r (shelf n) (with_it n)) (sym rack_is) (each_reel serial (λ n. PowerLossLeavesEither n new (shelf n) (with_it n)) here beside))
+      pub loss_mark : All IsBlock so.written → k + 1 ≡ needs plan → (n : ℕ) → PowerLossLeavesEither n new (shelf n) (with_it n)
+      loss_mark whole last = each_reel serial (λ n. PowerLossLeavesEither n new (shelf n) (with_it n)) here beside
         where
           enough : needs plan ≤ k + 1
           enough = omega (arith, last)
@@ -289,16 +279,11 @@ module _ (serial : ℕ) (o : OnlineFacts) (old mid : Rack) (live : o.live ≡ tr
       abbrev with_new : ℕ → List Dump
       with_new = with_dump (dump_of plan (content_of plan so.written)) shelf
 
-      its : IsContentOf text serial o (content_of plan so.written)
-      its = its_content serial o old mid live tied are only rules free on on_is mounted room readable told text shelf shelved up begun_o files k m so enough whole
-
       shelved_m : AreShelved with_new (told_reels m)
       shelved_m = shelved_with serial o old mid live tied are only rules free on on_is mounted room readable told text shelf shelved up begun_o files k m so enough whole all
 
-      pub loss_copies : (end : StoreFacts) → end.rack ≡ m → LeavesOnDisc (λ blocks. Holds blocks (intended_by serial o) ⊎ Holds blocks (moved_by serial o)) (up_with o old None) end → Losses end
-      loss_copies end rack_is either =
-          LeavesNew either (content_of plan so.written) its
-          (subst (λ (r : Rack). (n : ℕ) → PowerLossLeavesDumps n r (with_new n)) (sym rack_is) (leaves_shelf with_new m shelved_m survive))
+      pub loss_copies : (n : ℕ) → PowerLossLeavesDumps n m (with_new n)
+      loss_copies = leaves_shelf with_new m shelved_m survive
 
       -- the releases before it are durable
       module _ (lists : List Listed) (listed : AreListed old lists) (i : ℕ) (l : Listed) (at : slice_get lists i ≡ Some l) (taken_l : is_taken serial l ≡ true) (x : Rack) (gone : AreReleased (taken serial (take i lists)) m x)
@@ -331,8 +316,5 @@ module _ (serial : ℕ) (o : OnlineFacts) (old mid : Rack) (live : o.live ≡ tr
         those n apart = either_left n new (cleared serial l.serial with_new n) (cleared serial (l.serial + 1) with_new n)
             (theirs_left l.serial 0 zeros how x new reels_are failed survive_x n (cleared serial l.serial with_new n) apart (had_x n))
 
-        pub loss_release : (end : StoreFacts) → end.rack ≡ new → LeavesOnDisc (λ blocks. Holds blocks (moved_by serial o)) (up_with o old None) end → Losses end
-        loss_release end rack_is holds =
-            LeavesReleasing holds (content_of plan so.written) its l.serial
-            (subst (λ (r : Rack). (n : ℕ) → PowerLossLeavesEither n r (cleared serial l.serial with_new n) (cleared serial (l.serial + 1) with_new n)) (sym rack_is)
-            (each_reel l.serial (λ n. PowerLossLeavesEither n new (cleared serial l.serial with_new n) (cleared serial (l.serial + 1) with_new n)) this those))
+        pub loss_release : (n : ℕ) → PowerLossLeavesEither n new (cleared serial l.serial with_new n) (cleared serial (l.serial + 1) with_new n)
+        loss_release = each_reel l.serial (λ n. PowerLossLeavesEither n new (cleared serial l.serial with_new n) (cleared serial (l.serial + 1) with_new n)) this those

@@ -157,7 +157,6 @@ module _ (serial : ℕ) (o : OnlineFacts) (old new : Rack) (live : o.live ≡ tr
     belongs = λ told is. refused_belongs serial o o old new live tied tied only refl refl live is;
     dumps = λ told is safe. safe_up o new (survive_mid o old new only safe);
     exit = λ told text shelf shelved up unspent. leaves_all text shelf serial fault before (up_with o new None) never (refl, only.reels);
-    left = λ told text shelf shelved up unspent safe is. absurd (isnt Stopped tt is);
     durable = λ unspent is. is;
     spent = (λ is. absurd (let no : ⊥ = cc in no), λ is. absurd (isnt Stopped tt is));
     dump = λ _. refl;
@@ -243,7 +242,6 @@ module _ (serial : ℕ) (o : OnlineFacts) (old new : Rack) (live : o.live ≡ tr
       belongs = λ told is. refused_belongs serial o o old new live tied tied only refl refl live is;
       dumps = λ told is safe. safe_up o new (survive_mid o old new only safe);
       exit = λ told text shelf shelved up unspent. inl (refl, only.reels);
-      left = λ told text shelf shelved up unspent safe is. let no : ⊥ = cc in absurd no;
       durable = λ unspent is. is;
       spent = (λ is. absurd (let no : ⊥ = cc in no), λ is. absurd (let no : ⊥ = cc in no));
       dump = λ _. refl;

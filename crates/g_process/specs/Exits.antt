@@ -1,9 +1,9 @@
 -- Where PROCESS ended, on devices that expose their contents and belong together: which completed dumps exist then, what
--- the disc names, and what happened to each reel. `text` and `shelf` are the bytes of the versions and the completed dumps
--- before it.
+-- the disc names, what happened to each reel, and what a power loss leaves after a stop. `text` and `shelf` are the bytes
+-- of the versions and the completed dumps before it.
 use Rattle.std.specs.Prelude.{◌≡◌, ◌≢◌, ◌⊎◌, ℕ, ◌+◌, ◌<◌, ◌≤◌, ◌==◌, true, not, ◌&&◌, nat_lt, List, [], All, Contains, IfSome, Option, Some, None, Result, Ok, Err, length, map, take, slice_get, if◌then◌else◌}
 use Rattle.std.specs.List.{AllZip}
-use Rattle.std.specs.Option.{ForSome}
+use Rattle.std.specs.List.Sorted.{IsStrictlyIncreasing}
 use Rattle.g_base.specs.Block.{IsBlock, blocks_for}
 use Rattle.g_entry.specs.declared.file_rec.FileRec.{FileRec}
 use Rattle.g_tape.specs.Rack.{Rack, reel}
@@ -20,6 +20,7 @@ use Rattle.g_shelf.specs.CompletedDumps.{AreShelved}
 use Rattle.g_store_meaning.specs.Meaning.{told_reels}
 use Rattle.g_store_meaning.specs.StoreInvariant.{StoreFacts, with_dump}
 use Rattle.g_process.specs.NamedCopies.{intended_by, moved_by}
+use Rattle.g_process.specs.PowerLosses.{LeavesEitherShelf, LeavesOnDisc, LeavesShelf, StaysDurable}
 use Rattle.g_process.specs.ProcessPlan.{IsFree, IsTaken, process_plan, versions}
 
 -- The blocks of the content have the texts of the versions, one after another.
@@ -34,8 +35,10 @@ pub record IsContentOf (text : ℕ → List ℕ) (serial : ℕ) (o : OnlineFacts
   pub lens : All (λ r. length (text r.stamp) ≡ r.len) (versions o.contents)
   pub parts : AreParts text (versions o.contents) content
 
--- No refusal occurred before the first write: the reel exists, has no completed dump, and has room.
+-- No refusal occurred before the first write: the reel exists, has no completed dump, and has room. No two reels have the
+-- same serial.
 pub record MayFill (serial : ℕ) (old : StoreFacts) : Type 0 where
+  pub rising : IsStrictlyIncreasing (map (λ r. r.serial) old.rack.reels)
   pub on : Reel
   pub reel_is : reel serial old.rack.reels ≡ Some on
   pub mounted : on.mounted ≡ true
@@ -104,16 +107,26 @@ pub record HasReleased (text : ℕ → List ℕ) (shelf : ℕ → List Dump) (se
   pub reels : AllZip (IsClearedBy serial until cut old.rack) old.rack.reels new.rack.reels
   pub shelved : AreShelved (cleared serial until (with_dump (new_dump serial old.online content) shelf)) (told_reels new.rack)
 
--- PROCESS stopped: at the intent, before the mark was written, at the mark, at the commit of the new copies, or at a
--- release.
+-- PROCESS stopped, and what a power loss leaves then of the disc and of each reel.
 pub data Stops (text : ℕ → List ℕ) (shelf : ℕ → List Dump) (serial : ℕ) (old new : StoreFacts) : Type 0 where
-  StopsIntent : MayFill serial old → ForSome new.online.disc.held (λ blocks. Holds blocks old.online.contents ⊎ Holds blocks (intended_by serial old.online))
-      → map unread new.rack.reels ≡ map unread old.rack.reels → Stops text shelf serial old new
-  StopsBefore : LacksMark shelf serial old new → Stops text shelf serial old new
-  StopsMark : HasCompleted text shelf serial old new → new.online.live ≡ true → new.online.contents ≡ intended_by serial old.online → Stops text shelf serial old new
-  StopsCopies : HasCompleted text shelf serial old new → ForSome new.online.disc.held (λ blocks. Holds blocks (intended_by serial old.online) ⊎ Holds blocks (moved_by serial old.online))
+  -- at the intent
+  StopsIntent : MayFill serial old → LeavesOnDisc (λ blocks. Holds blocks old.online.contents ⊎ Holds blocks (intended_by serial old.online)) old new
+      → map unread new.rack.reels ≡ map unread old.rack.reels → LeavesShelf shelf old new → Stops text shelf serial old new
+  -- before the mark was written
+  StopsBefore : LacksMark shelf serial old new → StaysDurable old new → LeavesShelf shelf old new → Stops text shelf serial old new
+  -- at the mark: the dump isn't completed, but a power loss may leave its mark
+  StopsUnmarked : LacksMark shelf serial old new → AllZip (IsBesideDump serial) old.rack.reels new.rack.reels → StaysDurable old new → (content : List (List ℕ)) → IsContentOf text serial old.online content
+      → LeavesEitherShelf shelf (with_dump (new_dump serial old.online content) shelf) old new → Stops text shelf serial old new
+  -- at the mark: the dump is completed, but a power loss may leave it without its mark
+  StopsMark : (is : HasCompleted text shelf serial old new) → new.online.live ≡ true → new.online.contents ≡ intended_by serial old.online → StaysDurable old new
+      → LeavesEitherShelf shelf (with_dump (new_dump serial old.online is.content) shelf) old new → Stops text shelf serial old new
+  -- at the commit of the new copies
+  StopsCopies : (is : HasCompleted text shelf serial old new) → LeavesOnDisc (λ blocks. Holds blocks (intended_by serial old.online) ⊎ Holds blocks (moved_by serial old.online)) old new
+      → LeavesShelf (with_dump (new_dump serial old.online is.content) shelf) old new → Stops text shelf serial old new
+  -- at the release of reel `last`, which a power loss leaves with its dumps or without them
+  StopsRelease : (is : HasReleased text shelf serial old new) → StaysDurable old new → (last : ℕ) → IsLastCut serial (last + 1) old.rack (Some last)
+      → LeavesEitherShelf (cleared serial last (with_dump (new_dump serial old.online is.content) shelf)) (cleared serial (last + 1) (with_dump (new_dump serial old.online is.content) shelf)) old new
       → Stops text shelf serial old new
-  StopsRelease : HasReleased text shelf serial old new → Stops text shelf serial old new
 
 -- Nothing was written.
 abbrev pub Untouched : StoreFacts → StoreFacts → Type 0

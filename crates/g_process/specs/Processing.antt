@@ -30,7 +30,6 @@ use Rattle.g_store_meaning.specs.Surviving.{AreDumpsSafe}
 use Rattle.g_dumper.specs.Invariant.{spent_with, up_with}
 use Rattle.g_process.specs.Exits.{Exits, IsReadBy}
 use Rattle.g_process.specs.NamedCopies.{intended_by, moved_by}
-use Rattle.g_process.specs.PowerLosses.{LossLeaves}
 use Rattle.g_process.specs.ProcessPlan.{IsFirstLost, IsFree, IsTaken, process_plan, versions}
 use Rattle.g_process.specs.Releases.{zeros}
 use Rattle.g_process.specs.Progress.{IsSource}
@@ -190,11 +189,9 @@ pub record Processes (serial : ℕ) (old : StoreFacts) (answer : Result ℕ Stor
   pub told : Told old → Told new
   pub belongs : Told old → Belongs old → Belongs new
   pub dumps : Told old → Belongs old → AreDumpsSafe old → AreDumpsSafe new
-  -- where it ended, in terms of the bytes and the dumps that the store had
+  -- where it ended, in terms of the bytes and the dumps that the store had; and what a power loss leaves after a stop
   pub exit : Told old → (text : ℕ → List ℕ) (shelf : ℕ → List Dump) → AreShelved shelf (told_reels old.rack) → IsUp text shelf old → old.spent ≡ false → Exits text shelf serial old answer new
   -- a store that stays up keeps the live blocks of its disc durable
   pub durable : new.spent ≡ false → IsDurable old.online → IsDurable new.online
-  -- what a power loss leaves after a stop
-  pub left : Told old → (text : ℕ → List ℕ) (shelf : ℕ → List Dump) → AreShelved shelf (told_reels old.rack) → IsUp text shelf old → old.spent ≡ false → AreDumpsSafe old → answer ≡ Err Stopped → LossLeaves text shelf serial old new
   pub spent : (new.spent ≡ true) ↔ (answer ≡ Err Stopped)
   pub dump : (answer ≡ Err Stopped → ⊥) → new.dump ≡ old.dump

@@ -2,7 +2,7 @@
 ghost use Rattle.std.specs.Prelude.{◌≡◌, ◌≢◌, ◌⊎◌, ◌↔◌, ◌<◌, ◌≤◌, ℕ, All, IfErr, IfOk, List, OnErr, [], is_some};
 ghost use Rattle.g_base.specs.Counts.{Rose};
 ghost use Rattle.g_base.specs.ToldContent.{Changes};
-ghost use Rattle.g_disc.specs.Disc.{Causes};
+ghost use Rattle.g_disc.specs.Disc.{Causes, StayDurable};
 ghost use Rattle.g_disc.specs.Durable.{PowerLossLeaves};
 ghost use Rattle.g_dirs.specs.Durable.{IsDiscSafe};
 ghost use Rattle.g_tape.specs.Reads.{OnlyReads};
@@ -59,6 +59,7 @@ pub fn rebuild<D: Disc, T: Tapes>(
         × Changes (AsBeforeOr contents) (D.state disc).held (D.state e.1).held
         × (IsDiscSafe (D.state disc) → PowerLossLeaves (AsBeforeOr contents) (D.state disc) (D.state e.1))) }
     ensures safe { IfErr result (λ e. IsDiscSafe (D.state disc) → IsDiscSafe (D.state e.1)) }
+    ensures disc_durable { IfErr result (λ e. e.0 ≢ StoreFault.Stopped → StayDurable (D.state disc) (D.state e.1)) }
     ensures unread { IfErr result (λ e. e.0 ≡ StoreFault.DiscReadFault → (number : ℕ) × (contents : Contents)
         × IsRestored (told_reels (T.rack tapes.old)) (D.state disc).held number contents) }
     ensures unmounted { (serial : ℕ) → (answer_of result ≡ Err (StoreFault.RackNotMounted serial))
@@ -136,6 +137,7 @@ fn make<D: Disc>(
     ensures causes { IfErr result (λ e. Causes (e.0 ≡ StoreFault.DiscReadFault) (e.0 ≡ StoreFault.Stopped)
         (D.state disc) (D.state e.1)) }
     ensures safe { IfErr result (λ e. IsDiscSafe (D.state disc) → IsDiscSafe (D.state e.1)) }
+    ensures disc_durable { IfErr result (λ e. e.0 ≢ StoreFault.Stopped → StayDurable (D.state disc) (D.state e.1)) }
     ensures survives { IfErr result (λ e. e.0 ≡ StoreFault.Stopped → IsDiscSafe (D.state disc) → PowerLossLeaves (AsBeforeOr
         (first_contents (is_some (D.state disc).held) (head_of dumped) dumped.users.items dumped.files.items))
         (D.state disc) (D.state e.1)) }

@@ -22,7 +22,7 @@ use Rattle.g_store_meaning.specs.StoreInvariant.{IsUp, StoreFacts, with_dump}
 use Rattle.g_laws_store.proofs.UpOneLemmas.{on_all}
 use Rattle.g_laws_store.specs.Moving.{AreKept, DumpsMove, IsReplaced}
 use Rattle.g_dumper.proofs.ShelfLemmas.{told_is}
-use Rattle.g_process.specs.Exits.{Exits, MayFill, StopsBefore, StopsCopies, StopsIntent, StopsMark, StopsRelease, cleared, new_dump}
+use Rattle.g_process.specs.Exits.{Exits, MayFill, StopsBefore, StopsCopies, StopsIntent, StopsMark, StopsRelease, StopsUnmarked, cleared, new_dump}
 use Rattle.g_laws_store.proofs.WaitingLemmas.{mapped_there, from_mapped}
 use Rattle.g_store.proofs.ProcessedRowsLemmas.{IsLabelled, below_this}
 use Rattle.g_store.proofs.ProcessedStepLemmas.{all_same, unread_names, zip_names}
@@ -159,11 +159,12 @@ module _ (text : ℕ → List ℕ) (shelf : ℕ → List Dump) (old new : StoreF
 
   pub exit_moves : (serial : ℕ) (answer : Result ℕ StoreFault) → Exits text shelf serial old answer new → DumpsMove old.rack new.rack
   exit_moves serial (Ok number) (number_is, (is, uncut, all)) = released_moves serial is.may is.content is.until is.shelved
-  exit_moves serial (Err Stopped) (StopsIntent may either same) = as_was same
-  exit_moves serial (Err Stopped) (StopsBefore is) = kept_moves is.shelved
-  exit_moves serial (Err Stopped) (StopsMark is live contents) = made_moves serial is.may is.content is.shelved
-  exit_moves serial (Err Stopped) (StopsCopies is either) = made_moves serial is.may is.content is.shelved
-  exit_moves serial (Err Stopped) (StopsRelease is) = released_moves serial is.may is.content is.until is.shelved
+  exit_moves serial (Err Stopped) (StopsIntent may either same loss) = as_was same
+  exit_moves serial (Err Stopped) (StopsBefore is durable loss) = kept_moves is.shelved
+  exit_moves serial (Err Stopped) (StopsUnmarked is beside durable content its loss) = kept_moves is.shelved
+  exit_moves serial (Err Stopped) (StopsMark is live contents durable loss) = made_moves serial is.may is.content is.shelved
+  exit_moves serial (Err Stopped) (StopsCopies is either loss) = made_moves serial is.may is.content is.shelved
+  exit_moves serial (Err Stopped) (StopsRelease is durable last interrupted loss) = released_moves serial is.may is.content is.until is.shelved
   exit_moves serial (Err DiscReadFault) is = kept_moves is.shelved
   exit_moves serial (Err TapeReadFault) (inl same) = as_was same.1
   exit_moves serial (Err TapeReadFault) (inr is) = kept_moves is.shelved

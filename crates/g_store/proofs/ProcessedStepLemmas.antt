@@ -54,7 +54,7 @@ use Rattle.g_dumper.proofs.ShelfLemmas.{reel_there, told_is}
 use Rattle.g_incr.proofs.PlanLemmas.{length-made}
 use Rattle.std.specs.List.Sorted.{IsStrictlyIncreasing}
 use Rattle.g_process.proofs.TextLemmas.{among}
-use Rattle.g_process.specs.Exits.{HasCompleted, HasReleased, IsContentOf, IsReadBy, LacksMark, MayFill, Stops, StopsBefore, StopsCopies, StopsIntent, StopsMark, StopsRelease, Untouched, cleared, new_dump, IsBesideDump, IsClearedBy, IsLastCut}
+use Rattle.g_process.specs.Exits.{HasCompleted, HasReleased, IsContentOf, IsReadBy, LacksMark, MayFill, Stops, StopsBefore, StopsCopies, StopsIntent, StopsMark, StopsRelease, StopsUnmarked, Untouched, cleared, new_dump, IsBesideDump, IsClearedBy, IsLastCut}
 use Rattle.g_process.specs.NamedCopies.{intended_by, moved_by, process_copies}
 use Rattle.g_process.specs.ProcessPlan.{IsFirstLost, IsFree, IsTaken, process_plan}
 use Rattle.g_process.specs.Processing.{Processes, behind_process, open_number, process_refuses}
@@ -798,13 +798,17 @@ module _ (serial : ℕ) (o : OnlineFacts) (old : Rack) (reels : AreReels old.ree
             (moved_are o' new it.cause.reels it.cause.size is.may is.content is.has) (copies_same o' new it.cause.reels it.cause.size is.may is.content is.has) is.until
             (Some (n, used_in (reel n new.reels))) (until_is, apart_n, end_taken n r found some.0) refl)
 
-        by_stop : Stops text shelf serial before (spent_with o' new) → Led
-        by_stop (StopsIntent may either same) = by_intent may same (either the_held.0 the_held.1)
-        by_stop (StopsBefore is) =
+        by_before : LacksMark shelf serial before (spent_with o' new) → Led
+        by_before is =
             cut_at is.may (down (begun o' new it.cause.reels it.cause.size))
             (intent_stands o' new it.cause.reels it.cause.size the_held.0 the_held.1 (holds_now it.keeps.tied is.live the_held.0 the_held.1 (intended_by serial o) is.contents) is.reels is.shelved)
             (NotYet (used_in (reel serial new.reels)) (inr refl))
-        by_stop (StopsMark is live' contents) = at_mark is (holds_now it.keeps.tied live' the_held.0 the_held.1 (intended_by serial o) contents)
-        by_stop (StopsCopies is either) = by_copies is (either the_held.0 the_held.1)
-        by_stop (StopsRelease is) = by_release is (holds_now it.keeps.tied is.live the_held.0 the_held.1 (moved_by serial o) is.contents) is.cut refl
+
+        by_stop : Stops text shelf serial before (spent_with o' new) → Led
+        by_stop (StopsIntent may either same loss) = by_intent may same (either.now the_held.0 the_held.1)
+        by_stop (StopsBefore is durable loss) = by_before is
+        by_stop (StopsUnmarked is beside durable content its loss) = by_before is
+        by_stop (StopsMark is live' contents durable loss) = at_mark is (holds_now it.keeps.tied live' the_held.0 the_held.1 (intended_by serial o) contents)
+        by_stop (StopsCopies is either loss) = by_copies is (either.now the_held.0 the_held.1)
+        by_stop (StopsRelease is durable last interrupted loss) = by_release is (holds_now it.keeps.tied is.live the_held.0 the_held.1 (moved_by serial o) is.contents) is.cut refl
     answers (Err fault) it = absurd (it.granted granted)

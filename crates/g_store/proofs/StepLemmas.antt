@@ -1,9 +1,11 @@
 -- How a store answers a step of its open dump, for any answer of the dumper.
--- serves: dump_step (dumps, event)
+-- serves: dump_step (dumps, event, safe)
 use Rattle.std.proofs.Common.{◌≡◌, ℕ, ◌+◌, Bool, true, false, List, Option, Some, None, Result, Ok, Err, refl, sym, ◌∙◌, ap, arith, subst, inl, inr}
+use Rattle.std.specs.List.{AllZip}
 use Rattle.std.specs.Prelude.{◌⊎◌, ◌↔◌, All, IfSome, is_some}
 use Rattle.std.proofs.lemmas.Bool.{false≢true}
-use Rattle.g_tape.specs.Rack.{AreReels, Rack}
+use Rattle.g_tape.specs.Rack.{AreReels, Rack, with_reel}
+use Rattle.g_tape.specs.Reel.{Reel, Remains, Torn, left_by}
 use Rattle.g_plain.specs.declared.faults.StoreFault.{StoreFault}
 use Rattle.g_plain.specs.declared.faults.StoreFault.TheVariants.{DiscReadFault, Stopped}
 use Rattle.g_disc_contents.specs.Contents.{Holds}
@@ -21,10 +23,11 @@ use Rattle.g_store_meaning.specs.Reading.{StandsForState}
 use Rattle.g_store_meaning.specs.StoreInvariant.{DumpFacts, IsOpen, StoreFacts, content_in}
 use Rattle.g_store_meaning.specs.Surviving.{SurvivesOnDisc}
 use Rattle.g_store_calls.proofs.SurvivalLemmas.{stays_durable}
-use Rattle.g_dumper.specs.Invariant.{KeepsStore, behind_step, spent_with, up_with}
+use Rattle.g_dumper.specs.Invariant.{KeepsStore, LeavesDumps, behind_step, spent_with, up_with}
 use Rattle.g_dumper.specs.Steps.{Stepping, WroteBlock}
 use Rattle.g_dumper.proofs.KeepLemmas.{content_told, keeps_step}
-use Rattle.g_store.specs.Dumping.{KeepsDumps, LeavesOpen, is_stop_at}
+use Rattle.g_process.proofs.BecomeLemmas.{label_left, labels, labels_changed, zip_labels}
+use Rattle.g_store.specs.Dumping.{KeepsDumps, KeepsDumpsSafe, LeavesOpen, is_stop_at}
 use Rattle.g_store.specs.Events.{IsAnsweredBy, IsStepOfDump, LeadsBy, StepsBy, StepsDump, WroteBy, commits_of_step}
 use Rattle.g_store.proofs.LossLemmas.{IsStoppedWith, belongs_left, commit_survives, leads_left, rack_survives}
 use Rattle.g_store.proofs.ShelvesLemmas.{adds}
@@ -178,6 +181,25 @@ module _ (d : DumpFacts) (o : OnlineFacts) (old : Rack) (reels : AreReels old.re
     survives = by_survives d' o' new answer step kept;
   }
 
+-- the reels are the same ones
+abbrev pub AreSameReels : Rack → Rack → Type 0
+AreSameReels old new = AllZip (λ (o n : Reel). (n.serial ≡ o.serial) × (n.capacity ≡ o.capacity) × (n.mounted ≡ o.mounted)) old.reels new.reels
+
+same_left : (serial k : ℕ) (how : Remains) (old new : Rack) → new.reels ≡ with_reel serial (left_by how k) old.reels → AreSameReels old new
+same_left serial k how old new is = zip_labels old.reels new.reels (labels_changed serial (left_by how k) (label_left how k) old new is)
+
+same_after : (d d' : DumpFacts) (o o' : OnlineFacts) (old new : Rack) (answer : Result Stepped StoreFault) → Stepping d o old answer d' o' new → AreSameReels old new
+same_after d d' o o' old new (Ok Going) (less, dump_is, same, wrote) =
+    same_left d.plan.serial (d.plan.place + d.done) (Torn wrote.block) old new (ap (λ (r : Rack). r.reels) wrote.rack)
+same_after d d' o o' old new (Ok (Completed n)) (last, number, plan_is, wrote, closing) =
+    same_left d.plan.serial (d.plan.place + d.done) (Torn wrote.block) old new (ap (λ (r : Rack). r.reels) wrote.rack)
+same_after d d' o o' old new (Err Stopped) (plan_is, inl (failed, same)) =
+    same_left d.plan.serial (d.plan.place + d.done) failed.how old new (ap (λ (r : Rack). r.reels) failed.rack)
+same_after d d' o o' old new (Err Stopped) (plan_is, inr (last, wrote, closing)) =
+    same_left d.plan.serial (d.plan.place + d.done) (Torn wrote.block) old new (ap (λ (r : Rack). r.reels) wrote.rack)
+same_after d d' o o' old new (Err DiscReadFault) (dump_is, same, left) = zip_labels old.reels new.reels (ap (λ (r : Rack). labels r.reels) same)
+same_after d d' o o' old new (Err fault) never = absurd never
+
 -- the store after a step
 abbrev pub spends : Result Stepped StoreFault → Bool
 spends (Ok step) = false
@@ -189,6 +211,12 @@ behind_same (Ok Going) d' o' new dump spent left over = λ i. let s : StoreFacts
 behind_same (Ok (Completed n)) d' o' new dump spent left over = λ i. let s : StoreFacts = record { online = o'; rack = new; dump = sym left i; spent = sym over i } in s
 behind_same (Err Stopped) d' o' new dump spent left over = λ i. let s : StoreFacts = record { online = o'; rack = new; dump = sym left i; spent = sym over i } in s
 behind_same (Err fault) d' o' new dump spent left over = λ i. let s : StoreFacts = record { online = o'; rack = new; dump = sym left i; spent = sym over i } in s
+
+rack_behind : (answer : Result Stepped StoreFault) (d' : DumpFacts) (o' : OnlineFacts) (new : Rack) → (let s = behind_step answer d' o' new in s.rack) ≡ new
+rack_behind (Ok Going) d' o' new = refl
+rack_behind (Ok (Completed n)) d' o' new = refl
+rack_behind (Err Stopped) d' o' new = refl
+rack_behind (Err fault) d' o' new = refl
 
 -- A STORE THAT TOOK A STEP, by what the dumper said
 module _ (old t : StoreFacts) (same : t ≡ old) (unspent : old.spent ≡ false) (d : DumpFacts) (dump_is : t.dump ≡ Some d) (d' : DumpFacts) (o' : OnlineFacts) (new : Rack)
@@ -221,3 +249,30 @@ module _ (old t : StoreFacts) (same : t ≡ old) (unspent : old.spent ≡ false)
 
   pub shelves_by : IsStore t → AreReels t.rack.reels → KeepsDumps old answer after
   shelves_by keeps reels = subst (λ (x : StoreFacts). KeepsDumps x answer after) whole (dumps_by (subst IsStore (same ∙ sym whole) keeps) reels)
+
+  -- THE DUMPS STAY SAFE
+  leaves_by : (keeps : IsStore (up_with t.online t.rack (Some d))) → KeepsStore (up_with t.online t.rack (Some d)) (behind_step answer d' o' new)
+      → LeavesDumps d (up_with t.online t.rack (Some d)) answer (behind_step answer d' o' new) → AreReels t.rack.reels → KeepsDumpsSafe (up_with t.online t.rack (Some d)) answer (behind_step answer d' o' new)
+  leaves_by keeps kept leaves reels = record {
+    dumps = λ told was safe. kept.dumps told keeps was safe;
+    are = reels;
+    reels = subst (AreSameReels t.rack) (sym (rack_behind answer d' o' new)) (same_after d d' t.online o' t.rack new answer step);
+    left = λ told text shelf shelved up safe.
+        let is = keeps.open_dump refl in
+        let (content, has) = the_content d t.online t.rack keeps told is in record {
+          dump = d;
+          dump_is = refl;
+          pins = is.pins;
+          pinned = is.pinned;
+          content = content;
+          content_is = has;
+          leaves = leaves.left told is text shelf shelved up content has safe;
+        };
+  }
+
+  pub safe_by : IsStore t → KeepsStore (up_with t.online t.rack (Some d)) (behind_step answer d' o' new)
+      → LeavesDumps d (up_with t.online t.rack (Some d)) answer (behind_step answer d' o' new) → AreReels t.rack.reels → spent ≡ spends answer → KeepsDumpsSafe old answer after
+  safe_by keeps kept leaves reels over =
+      subst (λ (x : StoreFacts). KeepsDumpsSafe x answer after) whole
+      (subst (λ (x : StoreFacts). KeepsDumpsSafe (up_with t.online t.rack (Some d)) answer x) (behind_same answer d' o' new dump spent left over)
+      (leaves_by (subst IsStore (same ∙ sym whole) keeps) kept leaves reels))

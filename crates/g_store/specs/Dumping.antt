@@ -1,7 +1,9 @@
 -- What happens to filestore and tape when a dump is opened and when it takes a step: `Begins` and `Stepping` of `g_dumper`.
+use Rattle.std.specs.List.{AllZip}
 use Rattle.std.specs.Prelude.{◌≡◌, ◌⊎◌, ℕ, ◌+◌, ◌<◌, Bool, true, false, List, Option, Some, None, Result, Ok, Err, OnOk}
 use Rattle.g_base.specs.Counts.{Rose}
-use Rattle.g_tape.specs.Rack.{Rack}
+use Rattle.g_tape.specs.Rack.{AreReels, Rack}
+use Rattle.g_tape.specs.Reel.{Reel}
 use Rattle.g_plain.specs.declared.faults.StoreFault.{StoreFault}
 use Rattle.g_plain.specs.declared.faults.StoreFault.TheVariants.{Stopped, TapeFull}
 use Rattle.g_store_model.specs.DumpSteps.{Completed, Going, Stepped}
@@ -11,9 +13,10 @@ use Rattle.g_incr.specs.Plan.{dump_of, needs}
 use Rattle.g_shelf.specs.CompletedDumps.{AreShelved}
 use Rattle.g_store_meaning.specs.Answers.{Belongs, Told}
 use Rattle.g_store_meaning.specs.Meaning.{told_reels}
-use Rattle.g_store_meaning.specs.StoreInvariant.{DumpFacts, StoreFacts, content_in, with_dump}
+use Rattle.g_store_meaning.specs.StoreInvariant.{DumpFacts, IsUp, StoreFacts, content_in, with_dump}
 use Rattle.g_store_meaning.specs.Surviving.{AreDumpsSafe}
 use Rattle.g_dumper.specs.Beginning.{Begins, IsTooLong, StoppedOpening}
+use Rattle.g_dumper.specs.Invariant.{StepLeaves}
 use Rattle.g_dumper.specs.Steps.{Stepping}
 
 -- The new store has an open dump, which `Begins` describes.
@@ -84,6 +87,21 @@ pub record DumpsStay (shelf : ℕ → List Dump) (old : StoreFacts) (answer : Re
 abbrev pub KeepsDumps : StoreFacts → Result Stepped StoreFault → StoreFacts → Type 0
 KeepsDumps old answer new = Told old → Belongs old → (shelf : ℕ → List Dump) → AreShelved shelf (told_reels old.rack) → DumpsStay shelf old answer new.rack
 
--- The completed dumps stay safe over a step. (To be extended by what a power loss leaves of disc and reels after a stop.)
+-- What a power loss leaves after a step of the open dump (`StepLeaves` of `g_dumper`). `shelf` has the completed dumps before it; the open one
+-- is as it was opened.
+pub record LeavesAfterStep (shelf : ℕ → List Dump) (old : StoreFacts) (answer : Result Stepped StoreFault) (new : StoreFacts) : Type 0 where
+  pub dump : DumpFacts
+  pub dump_is : old.dump ≡ Some dump
+  pub pins : List Pin
+  pub pinned : old.online.pins ≡ Some pins
+  pub content : List (List ℕ)
+  pub content_is : content_in pins ≡ Some content
+  pub leaves : StepLeaves answer dump shelf (with_dump (dump_of dump.plan content) shelf) old new
+
+-- THE COMPLETED DUMPS STAY SAFE over a step, and a power loss after it leaves disc and reels together, by where a stopped step ended. The
+-- reels are the same ones, each with a serial of its own, mounted as before.
 pub record KeepsDumpsSafe (old : StoreFacts) (answer : Result Stepped StoreFault) (new : StoreFacts) : Type 0 where
   pub dumps : Told old → Belongs old → AreDumpsSafe old → AreDumpsSafe new
+  pub are : AreReels old.rack.reels
+  pub reels : AllZip (λ (o n : Reel). (n.serial ≡ o.serial) × (n.capacity ≡ o.capacity) × (n.mounted ≡ o.mounted)) old.rack.reels new.rack.reels
+  pub left : Told old → (text : ℕ → List ℕ) (shelf : ℕ → List Dump) → AreShelved shelf (told_reels old.rack) → IsUp text shelf old → AreDumpsSafe old → LeavesAfterStep shelf old answer new

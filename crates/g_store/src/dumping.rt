@@ -2,7 +2,7 @@
 ghost use Rattle.std.specs.Prelude.{◌≡◌, false, is_some, true};
 ghost use Rattle.g_tape.specs.Rack.{reel};
 ghost use Rattle.g_dumper.specs.Steps.{stepped_of};
-ghost use Rattle.g_store.specs.Dumping.{KeepsDumps, OpensDump, Progresses, RefusesDump, StepsAs, is_stop_at};
+ghost use Rattle.g_store.specs.Dumping.{KeepsDumps, KeepsDumpsSafe, OpensDump, Progresses, RefusesDump, StepsAs, is_stop_at};
 ghost use Rattle.g_store.specs.Events.{Opens, StepsDump};
 ghost use Rattle.g_store.specs.Refusing.{open_refuses};
 
@@ -51,6 +51,7 @@ impl<D: Disc, T: Tapes> Store<D, T> {
         ensures steps { StepsAs self.old (stepped_of result) self.new }
         ensures progress { Progresses self.old (stepped_of result) self.new }
         ensures dumps { KeepsDumps self.old (stepped_of result) self.new }
+        ensures safe { KeepsDumpsSafe self.old (stepped_of result) self.new }
     {
         match &mut self.dump {
             Some(dump) => match dump.step(&mut self.online, &mut self.tapes) {

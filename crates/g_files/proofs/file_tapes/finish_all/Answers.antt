@@ -1,7 +1,10 @@
-use Rattle.std.proofs.Common.{◌∙◌, ◌<◌, ap, arith, length, sym, length-set}
+use Rattle.std.proofs.Common.{◌∙◌, ◌<◌, ap, arith, length, refl, subst, sym, length-set}
 use Rattle.g_files.specs.FileReel.{IsSaved, reel_file, reel_of}
 use Rattle.g_files.specs.declared.file_reel.FileReel.{FileReel}
+use Rattle.g_files.specs.ReelRisk.{risk_of}
+use Rattle.g_files.specs.Reels.{IsLeftAlike}
 use Rattle.g_files.proofs.FileRackLemmas.{finished_same, saved_more}
+use Rattle.g_files.proofs.RackRiskLemmas.{alike_set, all_alike}
 use Rattle.g_files.proofs.file_tapes.finish_all.Goals as goal
 
 pub loop-i-preserved : goal.loop-i-preserved
@@ -16,4 +19,9 @@ loop-i-preserved g c =
       length-set reels i now ∙ same,
       rw c.and-finished.ensures (saved_more (λ (r : FileReel g.row.F.Denot g.F.RawFile). IsSaved (reel_of r) (reel_file r)) reels i now
           c.loop-i.finished c.finish.result within c.loop-i.invariant.2 c.finish.ensures.saved),
+      alike_set reel_of risk_of (λ x. refl) c.args.reels.now reels i c.index-reels-i.result now within c.index-reels-i.is c.loop-i.invariant.3
+          (subst (λ (r : FileReel g.row.F.Denot g.F.RawFile). IsLeftAlike r now) (sym c.index-reels-i.is) (c.finish.ensures.same, c.finish.ensures.serial, c.finish.ensures.no_more)),
     )
+
+pub loop-i-init : goal.loop-i-init
+loop-i-init g c = (refl, refl, λ k d below. absurd (omega (arith, below)), all_alike reel_of risk_of (λ x. refl) c.args.reels.now)

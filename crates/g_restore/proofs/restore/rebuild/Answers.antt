@@ -91,6 +91,12 @@ returns-in-Err-clause-causes g c = idle _ _ c.in-Err.ensures.only
 pub returns-in-Ok-clause-safe : goal.returns-in-Ok-clause-safe
 returns-in-Ok-clause-safe g c = c.make.ensures.safe
 
+pub returns-in-Ok-clause-disc_durable : goal.returns-in-Ok-clause-disc_durable
+returns-in-Ok-clause-disc_durable g c = c.make.ensures.disc_durable
+
+pub returns-in-Err-clause-disc_durable : goal.returns-in-Err-clause-disc_durable
+returns-in-Err-clause-disc_durable g c = λ isnt k is. is
+
 pub returns-in-Err-clause-safe : goal.returns-in-Err-clause-safe
 returns-in-Err-clause-safe g c = λ is_safe. is_safe
 

@@ -11,8 +11,10 @@ returns-clause-durable g c =
     let s = c.secure.ensures.durable in
     let whole = g.met.F.RawFile.remnants f.file in
     let whole' = g.met.F.RawFile.remnants f'.file in record {
-      leaves = leaves_reel f f' whole' (ap (λ (b : Blocks). b.held) c.secure.ensures.same) s.no_more;
-      syncable = λ can. syncs_if_kept f' whole'
-          (secured_by f f' c.secure.result (ap (λ (b : Blocks). b.len) c.secure.ensures.same) c.secure.ensures.front s (kept_if_syncs f whole can));
+      no_more = record {
+        leaves = leaves_reel f f' whole' (ap (λ (b : Blocks). b.held) c.secure.ensures.same) s.no_more;
+        syncable = λ can. syncs_if_kept f' whole'
+            (secured_by f f' c.secure.result (ap (λ (b : Blocks). b.len) c.secure.ensures.same) c.secure.ensures.front s (kept_if_syncs f whole can));
+      };
       durable = secured_reel f f' whole whole' c.secure.result s.stored;
     }

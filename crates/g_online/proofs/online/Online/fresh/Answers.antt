@@ -4,7 +4,7 @@ use Rattle.g_disc.specs.Durable.{PowerLossLeaves}
 use Rattle.g_dirs.proofs.Surviving.{safe_stays}
 use Rattle.g_online.specs.Beginning.{AsBeforeOr, first_contents}
 use Rattle.g_online.specs.declared.fault.OnlineFault.TheVariants.{ReadFault, Stopped}
-use Rattle.g_online.proofs.SecuredLemmas.{Causes-SecuresAndReads, answer_safe, secured_causes, secured_failed, secured_made, secured_rules, secured_same, secured_stopped, secured_survives}
+use Rattle.g_online.proofs.SecuredLemmas.{Causes-SecuresAndReads, answer_safe, secured_causes, secured_durable, secured_failed, secured_made, secured_rules, secured_same, secured_stopped, secured_survives}
 use Rattle.g_online.proofs.online.Online.fresh.Goals as goal
 
 pub write_filestore-requires-clause-rules : goal.write_filestore-requires-clause-rules
@@ -31,6 +31,11 @@ pub returns-in-Ok-clause-causes : goal.returns-in-Ok-clause-causes
 returns-in-Ok-clause-causes g c =
     IfErr-weaker c.write_filestore.result _ _ (λ e causes. secured_causes (g.D.Disc.state c.args.disc) (g.D.Disc.state c.secure.new.self) c.in-Ok.ensures causes) c.write_filestore.ensures.causes
 
+pub returns-in-Ok-clause-durable : goal.returns-in-Ok-clause-durable
+returns-in-Ok-clause-durable g c =
+    IfErr-weaker c.write_filestore.result _ _ (λ e still. secured_durable (g.D.Disc.state c.args.disc) (g.D.Disc.state c.secure.new.self) c.in-Ok.ensures (g.D.Disc.state e.1) still)
+    c.write_filestore.ensures.still
+
 pub returns-in-Ok-clause-safe : goal.returns-in-Ok-clause-safe
 returns-in-Ok-clause-safe g c =
     let secured = g.D.Disc.state c.secure.new.self in
@@ -51,6 +56,9 @@ returns-in-Err-clause-same g c = λ isnt. (c.in-Err.ensures.held, c.in-Err.ensur
 
 pub returns-in-Err-clause-causes : goal.returns-in-Err-clause-causes
 returns-in-Err-clause-causes g c = Causes-SecuresAndReads (λ is. let no : ReadFault ≡ Stopped = is in cc) (secured_failed refl c.in-Err.ensures)
+
+pub returns-in-Err-clause-durable : goal.returns-in-Err-clause-durable
+returns-in-Err-clause-durable g c = λ isnt. c.in-Err.ensures.durable
 
 pub returns-in-Err-clause-safe : goal.returns-in-Err-clause-safe
 returns-in-Err-clause-safe g c = λ is_safe. safe_stays (g.D.Disc.state c.args.disc) (g.D.Disc.state c.secure.new.self) c.in-Err.ensures.held c.in-Err.ensures.durable is_safe
