@@ -31,7 +31,7 @@ use Rattle.g_day.specs.System.{BelongTogether, Down, DumpsGrow, StandsAs, Up, la
 use Rattle.g_day.proofs.GrowLemmas.{grow_itself, grow_turned}
 use Rattle.g_day.proofs.UpLemmas.{leads_by}
 use Rattle.g_day.proofs.LabelLemmas.{labels_with, parts_with}
-use Rattle.g_operator.proofs.SafeLemmas.{safe_rack}
+use Rattle.g_operator.proofs.SafeLemmas.{all_by, safe_rack}
 
 -- what holds of a system and an answer holds of equal ones
 pub as_known : (On : SystemFacts → Result (Unit {0}) StoreFault → SystemFacts → Type 0) (f d e : SystemFacts) (told answer : Result (Unit {0}) StoreFault) → f ≡ d → told ≡ answer → On d answer e → On f told e
