@@ -1,19 +1,20 @@
 -- Reels after a power loss have the dumps that survive it, and belong to the same states.
--- serves: EventLemmas, SurvivalLemmas
-use Rattle.std.proofs.Common.{◌≡◌, ℕ, zero, suc, ◌<◌, Bool, true, false, List, [], ◌∷◌, map, Option, Some, None, is_some, refl, sym, ◌∙◌, ap, arith, subst, inl, inr, if◌then◌else◌}
+-- serves: EventLemmas, StepLemmas, StepStateLemmas, SurvivalLemmas
+use Rattle.std.proofs.Common.{◌≡◌, ℕ, zero, suc, Bool, true, false, List, [], ◌∷◌, map, Option, Some, None, is_some, refl, sym, ◌∙◌, ap, arith, subst, inl, inr, if◌then◌else◌}
 use Rattle.std.specs.Prelude.{◌⊎◌, ◌==◌, All, Contains, IfSome}
 use Rattle.std.specs.List.{AllZip}
 use Rattle.std.specs.Option.{ForSome}
 use Rattle.std.proofs.lemmas.Bool.{cases_Bool, eq-eqb, eqb-true}
 use Rattle.std.proofs.lemmas.List.Elements.{All-head, All-tail, All-weaker}
+use Rattle.g_tape.specs.Durable.{AfterPowerLoss}
 use Rattle.g_tape.specs.Rack.{Rack, reel}
-use Rattle.g_tape.specs.Reads.{MayLeave, blocks_in, blocks_of, unread}
+use Rattle.g_tape.specs.Reads.{blocks_in, unread}
 use Rattle.g_tape.specs.Reel.{Reel}
 use Rattle.g_disc_contents.specs.Contents.{Contents, File, Holds}
 use Rattle.g_incr.specs.Layout.{Dump}
 use Rattle.g_shelf.specs.CompletedDumps.{AreCompleted, AreShelved}
 use Rattle.g_shelf.specs.Surviving.{DumpsSurvive}
-use Rattle.g_store_model.specs.State.{ReelRow, State}
+use Rattle.g_store_model.specs.State.{State}
 use Rattle.g_store_meaning.specs.Belonging.{BelongWith}
 use Rattle.g_store_meaning.specs.Meaning.{told_reels}
 use Rattle.g_store_meaning.specs.Reading.{AllTold, DevicesStandFor, HasText, IsRackView, IsView, ReelsTold, View, row_of, state_down}
@@ -58,52 +59,74 @@ there_told (x ∷ xs) n blocks is = by_first (cases_Bool (n == x.serial)) (there
         let (r, (i, inside, at), named, has) = rest (sym (ap (λ (b : Bool). blocks_in (if b then Some x else reel n xs)) other) ∙ is) in
         (r, (suc i, omega (arith, inside), at), named, has)
 
-module _ (old new : Rack) (left : IsRackLeft old new) (told : ReelsTold (told_reels old)) (survive : (n : ℕ) → DumpsSurvive n old) where
-  -- what is left of a reel has its dumps
-  completed_left : (shelf : ℕ → List Dump) → AreShelved shelf (told_reels old) → (was now : Reel) → Contains old.reels was → IsReelLeft old was now → ForSome now.blocks (λ blocks. AreCompleted now.serial blocks (shelf now.serial))
-  completed_left shelf shelved was now there is blocks at =
-      let (had, found) = found_told old.reels was there told.each in
-      let (r, on, named, has) = there_told old.reels was.serial had found in
-      let completed : AreCompleted was.serial had (shelf was.serial) = subst (λ (n : ℕ). AreCompleted n had (shelf n)) named (shelved.each r on had has) in
-      subst (λ (n : ℕ). AreCompleted n blocks (shelf n)) (sym is.serial) (survive was.serial had found (shelf was.serial) completed had found blocks (is.blocks blocks at had found))
+-- THE REELS ARE THE SAME ONES, and exposed
+pub serials_in : (old : Rack) (xs ys : List Reel) → AllZip (IsReelLeft old) xs ys → map (λ (r : Reel). r.serial) (map unread ys) ≡ map (λ (r : Reel). r.serial) (map unread xs)
+serials_in old [] [] zip = refl
+serials_in old [] (y ∷ ys) zip = absurd zip
+serials_in old (x ∷ xs) [] zip = absurd zip
+serials_in old (x ∷ xs) (y ∷ ys) (one, zip) =
+    ap (λ (n : ℕ). n ∷ map (λ (r : Reel). r.serial) (map unread ys)) one.serial ∙ ap (λ (ns : List ℕ). x.serial ∷ ns) (serials_in old xs ys zip)
 
-  shelved_in : (shelf : ℕ → List Dump) → AreShelved shelf (told_reels old) → (xs ys : List Reel) → AllZip (IsReelLeft old) xs ys → ((x : Reel) → Contains xs x → Contains old.reels x)
-      → (r : Reel) → Contains (map unread ys) r → ForSome r.blocks (λ blocks. AreCompleted r.serial blocks (shelf r.serial))
-  shelved_in shelf shelved xs [] zip among r (i, inside, at) = absurd (let no : ⊥ = omega (arith, inside) in no)
-  shelved_in shelf shelved [] (y ∷ ys) zip among r there = absurd zip
-  shelved_in shelf shelved (x ∷ xs) (y ∷ ys) (one, zip) among r (zero, inside, at) =
-      subst (λ (q : Reel). ForSome q.blocks (λ blocks. AreCompleted q.serial blocks (shelf q.serial))) at (completed_left shelf shelved x y (among x (0, omega arith, refl)) one)
-  shelved_in shelf shelved (x ∷ xs) (y ∷ ys) (one, zip) among r (suc i, inside, at) =
-      shelved_in shelf shelved xs ys zip (λ z there. among z (later z there)) r (i, omega (arith, inside), at)
+pub told_in : (old : Rack) (xs ys : List Reel) → AllZip (IsReelLeft old) xs ys → All (λ r. is_some r.blocks ≡ true) (map unread ys)
+told_in old xs [] zip = λ k d inside. absurd (let no : ⊥ = omega (arith, inside) in no)
+told_in old [] (y ∷ ys) zip = absurd zip
+told_in old (x ∷ xs) (y ∷ ys) (one, zip) = by (told_in old xs ys zip)
+  where
+    by : All (λ r. is_some r.blocks ≡ true) (map unread ys) → All (λ r. is_some r.blocks ≡ true) (map unread (y ∷ ys))
+    by rest zero d inside = one.told
+    by rest (suc k) d inside = rest k d (omega (arith, inside))
+
+-- their rows in a state
+abbrev pub IsSeen : Reel → Reel → Type 0
+IsSeen x y = (y.serial ≡ x.serial) × (y.capacity ≡ x.capacity) × (y.mounted ≡ false)
+
+pub seen_left : (old : Rack) (xs ys : List Reel) → AllZip (IsReelLeft old) xs ys → AllZip IsSeen xs ys
+seen_left old [] [] zip = tt
+seen_left old [] (y ∷ ys) zip = absurd zip
+seen_left old (x ∷ xs) [] zip = absurd zip
+seen_left old (x ∷ xs) (y ∷ ys) (one, zip) = ((one.serial, one.capacity, one.mounted), seen_left old xs ys zip)
+
+pub rows_like : (shelf : ℕ → List Dump) (xs ys : List Reel) → AllZip IsSeen xs ys → AllZip IsRowLike (map (row_of shelf) (map unread xs)) (map (row_of shelf) (map unread ys))
+rows_like shelf [] [] zip = tt
+rows_like shelf [] (y ∷ ys) zip = absurd zip
+rows_like shelf (x ∷ xs) [] zip = absurd zip
+rows_like shelf (x ∷ xs) (y ∷ ys) (one, zip) = (
+  record { serial = one.0; capacity = one.1; mounted = one.2; dumps = ap (λ (n : ℕ). (row_of shelf (record (unread x) { serial = n })).dumps) one.0 },
+  rows_like shelf xs ys zip,
+)
+
+-- WHAT IS LEFT OF EACH REEL has what every loss leaves
+module _ (old : Rack) (P : ℕ → List (List ℕ) → Type 0) (told : ReelsTold (told_reels old)) (every : (n : ℕ) → AfterPowerLoss n old (P n)) where
+  pub left_each : (xs ys : List Reel) → AllZip (IsReelLeft old) xs ys → ((x : Reel) → Contains xs x → Contains old.reels x) → (r : Reel) → Contains (map unread ys) r → ForSome r.blocks (P r.serial)
+  left_each xs [] zip among r (i, inside, at) = absurd (let no : ⊥ = omega (arith, inside) in no)
+  left_each [] (y ∷ ys) zip among r there = absurd zip
+  left_each (x ∷ xs) (y ∷ ys) (one, zip) among r (zero, inside, at) = subst (λ (q : Reel). ForSome q.blocks (P q.serial)) at here
+    where
+      here : ForSome y.blocks (P y.serial)
+      here blocks is =
+          let (had, found) = found_told old.reels x (among x (0, omega arith, refl)) told.each in
+          subst (λ (n : ℕ). P n blocks) (sym one.serial) (every x.serial had found blocks (one.blocks blocks is had found))
+  left_each (x ∷ xs) (y ∷ ys) (one, zip) among r (suc i, inside, at) =
+      left_each xs ys zip (λ z there. among z (later z there)) r (i, omega (arith, inside), at)
     where
       later : (z : Reel) → Contains xs z → Contains (x ∷ xs) z
       later z (j, within, is) = (suc j, omega (arith, within), is)
 
+module _ (old new : Rack) (left : IsRackLeft old new) (told : ReelsTold (told_reels old)) (survive : (n : ℕ) → DumpsSurvive n old) where
   pub shelved_left : (shelf : ℕ → List Dump) → AreShelved shelf (told_reels old) → AreShelved shelf (told_reels new)
-  shelved_left shelf shelved = record { each = shelved_in shelf shelved old.reels new.reels left.reels (λ r there. there) }
+  shelved_left shelf shelved = record { each = left_each old (λ n blocks. AreCompleted n blocks (shelf n)) told has old.reels new.reels left.reels (λ r there. there) }
+    where
+      has : (n : ℕ) → AfterPowerLoss n old (λ blocks. AreCompleted n blocks (shelf n))
+      has n had found =
+          let (r, on, named, at) = there_told old.reels n had found in
+          survive n had found (shelf n) (subst (λ (m : ℕ). AreCompleted m had (shelf m)) named (shelved.each r on had at)) had found
 
   -- the same serials
-  serials_in : (xs ys : List Reel) → AllZip (IsReelLeft old) xs ys → map (λ (r : Reel). r.serial) (map unread ys) ≡ map (λ (r : Reel). r.serial) (map unread xs)
-  serials_in [] [] zip = refl
-  serials_in [] (y ∷ ys) zip = absurd zip
-  serials_in (x ∷ xs) [] zip = absurd zip
-  serials_in (x ∷ xs) (y ∷ ys) (one, zip) =
-      ap (λ (n : ℕ). n ∷ map (λ (r : Reel). r.serial) (map unread ys)) one.serial ∙ ap (λ (ns : List ℕ). x.serial ∷ ns) (serials_in xs ys zip)
-
   serials_left : map (λ (r : Reel). r.serial) (told_reels new) ≡ map (λ (r : Reel). r.serial) (told_reels old)
-  serials_left = serials_in old.reels new.reels left.reels
-
-  told_in : (xs ys : List Reel) → AllZip (IsReelLeft old) xs ys → All (λ r. is_some r.blocks ≡ true) (map unread ys)
-  told_in xs [] zip = λ k d inside. absurd (let no : ⊥ = omega (arith, inside) in no)
-  told_in [] (y ∷ ys) zip = absurd zip
-  told_in (x ∷ xs) (y ∷ ys) (one, zip) = by (told_in xs ys zip)
-    where
-      by : All (λ r. is_some r.blocks ≡ true) (map unread ys) → All (λ r. is_some r.blocks ≡ true) (map unread (y ∷ ys))
-      by rest zero d inside = one.told
-      by rest (suc k) d inside = rest k d (omega (arith, inside))
+  serials_left = serials_in old old.reels new.reels left.reels
 
   pub told_left : ReelsTold (told_reels new)
-  told_left = record { each = told_in old.reels new.reels left.reels }
+  told_left = record { each = told_in old old.reels new.reels left.reels }
 
   -- DISC AND RACK BELONG TOGETHER as before
   pub belong_left : (held : Option (List (List ℕ))) → BelongWith held (told_reels old) → BelongWith held (told_reels new)
@@ -137,15 +160,6 @@ module _ (old new : Rack) (left : IsRackLeft old new) (told : ReelsTold (told_re
   contents_left held v exposed None is = tt
   contents_left held v exposed (Some c) (blocks, at, holds, view) = (blocks, at, holds, view_left held c v exposed view)
 
-  rows_in : (shelf : ℕ → List Dump) (xs ys : List Reel) → AllZip (IsReelLeft old) xs ys → AllZip IsRowLike (map (row_of shelf) (map unread xs)) (map (row_of shelf) (map unread ys))
-  rows_in shelf [] [] zip = tt
-  rows_in shelf [] (y ∷ ys) zip = absurd zip
-  rows_in shelf (x ∷ xs) [] zip = absurd zip
-  rows_in shelf (x ∷ xs) (y ∷ ys) (one, zip) = (
-    record { serial = one.serial; capacity = one.capacity; mounted = one.mounted; dumps = ap (λ (n : ℕ). (row_of shelf (record (unread x) { serial = n })).dumps) one.serial },
-    rows_in shelf xs ys zip,
-  )
-
   pub stand_left : (size : ℕ) (blocks : List (List ℕ)) (u : State) → DevicesStandFor size (Some blocks) (told_reels old) u → StandLike size blocks new u
   stand_left size blocks u is = record {
     state = state_down is.view (told_reels new) size is.contents;
@@ -157,5 +171,5 @@ module _ (old new : Rack) (left : IsRackLeft old new) (told : ReelsTold (told_re
       rack = rack_left (Some blocks) is.view refl is.rack;
       state_is = refl;
     };
-    like = subst (λ (s : State). IsLike s (state_down is.view (told_reels new) size is.contents)) (sym is.state_is) (record { same = refl; reels = rows_in is.view.shelf old.reels new.reels left.reels });
+    like = subst (λ (s : State). IsLike s (state_down is.view (told_reels new) size is.contents)) (sym is.state_is) (record { same = refl; reels = rows_like is.view.shelf old.reels new.reels (seen_left old old.reels new.reels left.reels) });
   }

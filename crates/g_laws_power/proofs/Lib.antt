@@ -1,4 +1,6 @@
 pub mod EventLemmas
 mod LeftLemmas
-mod ProcessLossLemmas
+pub mod ProcessLossLemmas
+pub mod StepLemmas
+mod StepStateLemmas
 pub mod SurvivalLemmas

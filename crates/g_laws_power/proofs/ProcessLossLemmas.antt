@@ -154,9 +154,9 @@ module _ (rack after : Rack) (left : IsRackLeft rack after) (told : ReelsTold (t
       by : (xs ys : List Reel) → AllZip (IsReelLeft rack) xs ys → ((x : Reel) → Contains xs x → Contains rack.reels x) → Each P (map unread ys)
       by xs [] zip among r (i, inside, at) = absurd (let no : ⊥ = omega (arith, inside) in no)
       by [] (y ∷ ys) zip among r there = absurd zip
-      by (x ∷ xs) (y ∷ ys) (one, zip) among =
+      by (x ∷ xs) (y ∷ ys) (one, zip) among r there =
           each_both P (unread y) (map unread ys) (make x y (among x (0, omega arith, refl)) one)
-          (by xs ys zip (λ z there. let (i, inside, at) = there in among z (suc i, omega (arith, inside), at)))
+          (by xs ys zip (λ z later. let (i, inside, at) = later in among z (suc i, omega (arith, inside), at))) r there
 
   told_each : Each (λ r. is_some r.blocks ≡ true) (told_reels after)
   told_each = from_left (λ r. is_some r.blocks ≡ true) (λ x y there is. is.told)
@@ -201,7 +201,7 @@ module _ (rack after : Rack) (left : IsRackLeft rack after) (told : ReelsTold (t
       by (inr all) = inr (record { each = all })
 
 -- ALL SERIALS BELOW a limit but one
-below_but : ℕ → ℕ → List ℕ
+abbrev below_but : ℕ → ℕ → List ℕ
 below_but serial zero = []
 below_but serial (suc m) = if m == serial then below_but serial m else (m ∷ below_but serial m)
 

@@ -1,5 +1,5 @@
 -- What a power loss leaves of a store between two calls, and after a call that was stopped.
--- serves: power_losses (between, can, left, making, safe, stopped), EventLemmas
+-- serves: power_losses (between, can, left, making, safe, stopped), EventLemmas, ProcessLossLemmas, StepLemmas, StepStateLemmas
 use Rattle.std.proofs.Common.{◌≡◌, ℕ, ◌<◌, Bool, true, false, List, Option, Some, None, Err, is_some, refl, sym, ◌∙◌, ap, subst, inl, true≢false}
 use Rattle.std.specs.Prelude.{All, IfSome, Result}
 use Rattle.std.proofs.lemmas.List.Elements.{All-weaker}

@@ -16,8 +16,8 @@ use Rattle.g_store_meaning.specs.Reading.{StandsForState}
 use Rattle.g_store_meaning.specs.StoreInvariant.{StoreFacts}
 use Rattle.g_store_meaning.specs.Surviving.{disc_left}
 use Rattle.g_process.specs.Processing.{Processes}
-use Rattle.g_store.specs.Dumping.{OpensDump}
-use Rattle.g_store.specs.Events.{Migrates, Mounts, Opens, Unmounts}
+use Rattle.g_store.specs.Dumping.{KeepsDumpsSafe, OpensDump}
+use Rattle.g_store.specs.Events.{IsStepOfDump, Migrates, Mounts, Opens, StepsDump, Unmounts}
 use Rattle.g_store_meaning.specs.Safety.{CanBeSafe, IsLeft, IsSafe, StandLike}
 
 -- EACH OF THEM LEAVES A SAFE STORE, unless a write failed
@@ -43,6 +43,11 @@ pub record StoppedEventsSurvive : Type 0 where
   pub migrating : (path : Path) (old new : StoreFacts) (blocks : List (List ℕ)) (rack : Rack) → IsSafe old → Migrates path old (Err Stopped) new → IsLeft new.online.disc new.rack blocks rack
       → BelongWith (Some blocks) (told_reels rack)
       × ((s : State) → StandsForState old s → StopsLikeBy (λ s k o a n. MigrateStep s k path.user (input_name k.tree [] path) o a n) s new.online.disc.size blocks rack)
+
+-- THE SAME AFTER A STEP OF A DUMP that was stopped: without that dump, with it completed on its reel, or on the disc too.
+abbrev pub StoppedStepsSurvive : Type 0
+StoppedStepsSurvive = (old new : StoreFacts) (blocks : List (List ℕ)) (rack : Rack) → IsSafe old → StepsDump old (Err Stopped) new → KeepsDumpsSafe old (Err Stopped) new → IsLeft new.online.disc new.rack blocks rack
+    → BelongWith (Some blocks) (told_reels rack) × ((s : State) → StandsForState old s → StopsLikeBy IsStepOfDump s new.online.disc.size blocks rack)
 
 -- WHAT IS LEFT after one that was stopped can be safe again, with a power loss or without one.
 pub record StoppedCanBeSafe : Type 0 where

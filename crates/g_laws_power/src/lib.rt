@@ -1,7 +1,8 @@
 //! Theorems about what a power loss leaves of the devices of a store. No code is involved.
 #![tactic(auto)]
 
-ghost use Rattle.g_laws_power.specs.Events.{EventsKeepSafe, ProcessKeepsSafe, StoppedCanBeSafe, StoppedEventsSurvive};
+ghost use Rattle.g_laws_power.specs.Devices.{StepsKeepSafe};
+ghost use Rattle.g_laws_power.specs.Events.{EventsKeepSafe, ProcessKeepsSafe, StoppedCanBeSafe, StoppedEventsSurvive, StoppedStepsSurvive};
 ghost use Rattle.g_laws_power.specs.Losses.{CallsKeepSafe, LeftCanBeSafe, LeftIsDurable, MakingIsSafe, StoppedCallsSurvive, StoreSurvives};
 
 /// A power loss between two calls of a safe store leaves disc and rack with what the store would leave by going down. After a call
@@ -23,4 +24,11 @@ pub fn event_losses()
     ensures safe { EventsKeepSafe }
     ensures can { StoppedCanBeSafe }
     ensures process { ProcessKeepsSafe }
+{}
+
+/// A step of an open dump leaves a safe store. If a write failed it leaves safe devices: as they are and after any power loss, a safe
+/// store can be made on them. After a power loss they represent a state that the stopped step may leave.
+pub fn step_losses()
+    ensures safe { StepsKeepSafe }
+    ensures stopped { StoppedStepsSurvive }
 {}

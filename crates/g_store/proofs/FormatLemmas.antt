@@ -5,7 +5,7 @@ use Rattle.std.specs.Prelude.{◌⊎◌, All, Contains, map}
 use Rattle.std.proofs.lemmas.List.Elements.{All-nil}
 use Rattle.std.proofs.lemmas.Option.{none-some, same_Some}
 use Rattle.g_base.specs.ToldContent.{Changes}
-use Rattle.g_disc.specs.Disc.{Causes, DiscState}
+use Rattle.g_disc.specs.Disc.{Causes, DiscState, StayDurable}
 use Rattle.g_disc.specs.Durable.{PowerLossLeaves}
 use Rattle.g_disc.proofs.CallLemmas.{Causes-for, Causes-none}
 use Rattle.g_entry.specs.declared.file_rec.FileRec.{FileRec}
@@ -35,12 +35,13 @@ use Rattle.g_store_model.specs.Rising.{FormatStep, coming_up, fault_from}
 use Rattle.g_store_meaning.specs.Belonging.{Belong, BelongWith, DiscBelongs}
 use Rattle.g_store_meaning.specs.Meaning.{told_reels}
 use Rattle.g_store_meaning.specs.Reading.{AllTold, DevicesStandFor, HasText, IsView, StandsForState, View, holding_of, names_of, places_of, state_down, state_up, tree_by}
+use Rattle.g_store_meaning.specs.Surviving.{disc_left}
 use Rattle.g_store_meaning.proofs.ChangeLemmas.{format_belongs}
 use Rattle.g_store_calls.proofs.BehindLemmas.{rack_seen, told_then as told_back}
-use Rattle.g_store.specs.Making.{Formats, IsNew, LeadsDown, Refuses, RefusesFormat, StepsDown, new_holding}
+use Rattle.g_store.specs.Making.{Formats, IsNew, LeadsDown, LeavesDevices, Refuses, RefusesFormat, StepsDown, new_holding}
 use Rattle.g_store.specs.Refusing.{first_used}
 use Rattle.g_store.proofs.EmptyLemmas.{all_blank, blank_shelf, first_row, no_dump_at_all}
-use Rattle.g_store.proofs.MakeLemmas.{Stood, before_belongs, before_stands, belongs_made, down_again, moved, new_belongs, new_down, new_stands, stands_up, stood, store_made, store_of, told_then, unkept, up_is}
+use Rattle.g_store.proofs.MakeLemmas.{Stood, before_belongs, before_stands, belongs_made, causes_left, changes_left, down_again, moved, new_belongs, new_down, new_stands, stands_up, stood, store_made, store_of, told_then, unkept, up_is}
 
 abbrev pub first_head : Head
 first_head = record { next_stamp = 1; last_dump = 0; intent = None }
@@ -113,7 +114,6 @@ module _ (disc : DiscState) (users : List UserRec) (files : List FileRec) (none 
           unkept = unkept o made.begun;
           keeps = store_made o made.begun rack tied;
           causes = made.causes;
-          durable = λ blocks was is_safe. made.durable;
           tapes = nothing_read rack;
           tape_read = refl;
           wrote = made.wrote;
@@ -127,13 +127,13 @@ module _ (disc : DiscState) (users : List UserRec) (files : List FileRec) (none 
               belongs_made o made.begun rack tied (λ stamp. []) shelf shelved on_rack (subst (DiscBelongs (λ stamp. []) shelf reels) (sym (made.contents ∙ c_is)) on_disc)
               (λ d there. let (i, inside, is) = subst (λ (ds : List Dump). Contains ds d) nothing there in let no : ⊥ = omega (arith, inside) in absurd no);
         };
+        durable = made.durable;
         empty = empty;
         holds = λ text. ap (holding_of text []) made.contents ∙ held_is text;
       }
 
     -- STOPPED
-    module _ (now : DiscState) (causes : Causes ⊥ (Unit {0}) disc now) (changes : Changes (AsBeforeOr c) disc.held now.held) (safe : IsDiscSafe disc → IsDiscSafe now)
-        (survives : IsDiscSafe disc → PowerLossLeaves (AsBeforeOr c) disc now) where
+    module _ (now : DiscState) (causes : Causes ⊥ (Unit {0}) disc now) (changes : Changes (AsBeforeOr c) disc.held now.held) where
       leads : AllTold disc.held reels → (s : state.State) → DevicesStandFor disc.size disc.held reels s → LeadsDown FormatStep s disc rack Stopped now rack
       leads told s devices = by_case (stood disc now reels c changes causes.size told)
         where
@@ -176,6 +176,15 @@ module _ (disc : DiscState) (users : List UserRec) (files : List FileRec) (none 
                   let (on_rack, on_disc) = format_belongs was.text was.shelf reels users 1 (no_dumps was.shelf told was.shelved) in
                   new_belongs disc now reels c changes causes.size there holds was.text was.shelf was.shelved on_rack (subst (DiscBelongs was.text was.shelf reels) (sym c_is) on_disc)
 
+    module _ (now : DiscState) (causes : Causes ⊥ (Unit {0}) disc now) (changes : Changes (AsBeforeOr c) disc.held now.held) (safe : IsDiscSafe disc → IsDiscSafe now)
+        (survives : IsDiscSafe disc → PowerLossLeaves (AsBeforeOr c) disc now) where
+      -- whatever a power loss leaves then
+      left_by : (blocks left : List (List ℕ)) → disc.held ≡ Some blocks → AsBeforeOr c blocks left → LeavesDevices (Unit {0}) FormatStep disc rack Stopped (disc_left left now) rack
+      left_by blocks left was one =
+          let changes_to = changes_left (AsBeforeOr c) disc blocks left was one in
+          let causes_to = causes_left left causes in
+          record { step = λ told given s devices. leads (disc_left left now) causes_to changes_to told s devices; belongs = goes_on (disc_left left now) causes_to changes_to }
+
       pub cut_is : RefusesFormat disc rack Stopped now rack
       cut_is = record {
         refuses = record {
@@ -185,9 +194,11 @@ module _ (disc : DiscState) (users : List UserRec) (files : List FileRec) (none 
           tape_read_only = λ _. refl;
           held = λ no. absurd (no refl);
           writes = λ no. absurd (no refl);
+          durable = λ no. absurd (no refl);
           told = told_then disc now reels c changes causes.size;
-          step = λ told given s devices. leads told s devices;
-          belongs = goes_on;
+          step = λ told given s devices. leads now causes changes told s devices;
+          belongs = goes_on now causes changes;
+          survives = λ is disc_safe blocks was left may. left_by blocks left was (survives disc_safe blocks was left may);
         };
         safe = safe;
         full = λ serial. (λ is. absurd (let no : ⊥ = cc in no), λ is. absurd (none-some serial (sym empty ∙ is)));
@@ -196,27 +207,29 @@ module _ (disc : DiscState) (users : List UserRec) (files : List FileRec) (none 
       }
 
 -- REFUSED, and nothing has changed
-module _ (disc now : DiscState) (rack : Rack) (held : now.held ≡ disc.held) (writes : now.writes ≡ disc.writes) (safe : IsDiscSafe disc → IsDiscSafe now) where
+module _ (disc now : DiscState) (rack : Rack) (held : now.held ≡ disc.held) (writes : now.writes ≡ disc.writes) (durable : StayDurable disc now) (safe : IsDiscSafe disc → IsDiscSafe now) where
   abbrev on_tape : List Reel
   on_tape = told_reels rack
 
-  quietly : (fault : StoreFault) → fault ≢ TapeReadFault → Causes (fault ≡ DiscReadFault) (fault ≡ Stopped) disc now
+  quietly : (fault : StoreFault) → fault ≢ TapeReadFault → fault ≢ Stopped → Causes (fault ≡ DiscReadFault) (fault ≡ Stopped) disc now
       → ((s : state.State) → DevicesStandFor disc.size disc.held on_tape s → StepsDown FormatStep s disc rack fault now rack) → Refuses (Unit {0}) FormatStep disc rack fault now rack
-  quietly fault other causes steps = record {
+  quietly fault other going causes steps = record {
     causes = causes;
     tapes = nothing_read rack;
     tape_read = λ is. absurd (other is);
     tape_read_only = λ _. refl;
     held = λ _. held;
     writes = λ _. writes;
+    durable = λ _. durable;
     told = λ told. record { disc = ap is_some held ∙ told.disc; each = told.each };
     step = λ told given s devices. steps s devices;
     belongs = λ told was. subst (λ (h : Option (List (List ℕ))). Belong h rack) (sym held) was;
+    survives = λ is. absurd (going is);
   }
 
   pub memory_is : Causes (NoMemory ≡ DiscReadFault) (NoMemory ≡ Stopped) disc now → first_used rack.reels ≡ None → RefusesFormat disc rack NoMemory now rack
   memory_is causes empty = record {
-    refuses = quietly NoMemory (λ e. let no : ⊥ = cc in no) causes (λ s devices. moved disc.size now.size disc.held now.held on_tape s causes.size held devices);
+    refuses = quietly NoMemory (λ e. let no : ⊥ = cc in no) (λ e. let no : ⊥ = cc in no) causes (λ s devices. moved disc.size now.size disc.held now.held on_tape s causes.size held devices);
     safe = safe;
     full = λ serial. (λ is. absurd (let no : ⊥ = cc in no), λ is. absurd (none-some serial (sym empty ∙ is)));
     stopped = λ is. absurd (let no : ⊥ = cc in no);
@@ -228,7 +241,7 @@ module _ (disc now : DiscState) (rack : Rack) (held : now.held ≡ disc.held) (w
 
   pub unread_is : Causes (DiscReadFault ≡ DiscReadFault) (DiscReadFault ≡ Stopped) disc now → first_used rack.reels ≡ None → RefusesFormat disc rack DiscReadFault now rack
   unread_is causes empty = record {
-    refuses = quietly DiscReadFault (λ e. let no : ⊥ = cc in no) causes
+    refuses = quietly DiscReadFault (λ e. let no : ⊥ = cc in no) (λ e. let no : ⊥ = cc in no) causes
         (λ s devices. record {
           after = s;
           left = moved disc.size now.size disc.held now.held on_tape s causes.size held devices;
@@ -245,7 +258,7 @@ module _ (disc now : DiscState) (rack : Rack) (held : now.held ≡ disc.held) (w
 
   pub full_is : (n : ℕ) → Causes (RackNotEmpty n ≡ DiscReadFault) (RackNotEmpty n ≡ Stopped) disc now → first_used rack.reels ≡ Some n → RefusesFormat disc rack (RackNotEmpty n) now rack
   full_is n causes used = record {
-    refuses = quietly (RackNotEmpty n) (λ e. let no : ⊥ = cc in no) causes
+    refuses = quietly (RackNotEmpty n) (λ e. let no : ⊥ = cc in no) (λ e. let no : ⊥ = cc in no) causes
         (λ s devices. record {
           after = s;
           left = moved disc.size now.size disc.held now.held on_tape s causes.size held devices;
@@ -266,12 +279,13 @@ nothing_caused disc fault read stop = Causes-none disc read stop
 -- as the filestore answered
 pub not_empty : (disc : DiscState) (rack : Rack) (n : ℕ) → Some n ≡ first_used rack.reels → RefusesFormat disc rack (RackNotEmpty n) disc rack
 not_empty disc rack n used =
-    full_is disc disc rack refl refl (λ is_safe. is_safe) n (nothing_caused disc (RackNotEmpty n) (λ e. let no : ⊥ = cc in no) (λ e. let no : ⊥ = cc in no)) (sym used)
+    full_is disc disc rack refl refl (λ k is. is) (λ is_safe. is_safe) n (nothing_caused disc (RackNotEmpty n) (λ e. let no : ⊥ = cc in no) (λ e. let no : ⊥ = cc in no)) (sym used)
 
 pub record HasRefused (made : Contents) (disc now : DiscState) (fault : OnlineFault) : Type 0 where
   pub stopped : fault ≡ online.Stopped → Changes (AsBeforeOr made) disc.held now.held
   pub same : fault ≢ online.Stopped → (now.held ≡ disc.held) × (now.writes ≡ disc.writes)
   pub causes : Causes (fault ≡ online.ReadFault) (fault ≡ online.Stopped) disc now
+  pub durable : fault ≢ online.Stopped → StayDurable disc now
   pub safe : IsDiscSafe disc → IsDiscSafe now
   pub survives : fault ≡ online.Stopped → IsDiscSafe disc → PowerLossLeaves (AsBeforeOr made) disc now
   pub only : (fault ≡ online.ReadFault) ⊎ ((fault ≡ online.Stopped) ⊎ (fault ≡ online.NoMemory))
@@ -287,7 +301,7 @@ module _ (disc : DiscState) (users : List UserRec) (files : List FileRec) (none 
   unread_said : Says online.ReadFault
   unread_said said =
       let both = said.same (λ e. let no : ⊥ = cc in no) in
-      unread_is disc now rack both.0 both.1 said.safe
+      unread_is disc now rack both.0 both.1 (said.durable (λ e. let no : ⊥ = cc in no)) said.safe
       (Causes-for (λ _. refl) (λ _. refl) (λ e. absurd (let no : ⊥ = cc in no)) (λ is. absurd (let no : ⊥ = cc in no)) said.causes) (sym empty)
 
   stop_said : Says online.Stopped
@@ -298,7 +312,7 @@ module _ (disc : DiscState) (users : List UserRec) (files : List FileRec) (none 
   memory_said : Says online.NoMemory
   memory_said said =
       let both = said.same (λ e. let no : ⊥ = cc in no) in
-      memory_is disc now rack both.0 both.1 said.safe
+      memory_is disc now rack both.0 both.1 (said.durable (λ e. let no : ⊥ = cc in no)) said.safe
       (Causes-for (λ e. absurd (let no : ⊥ = cc in no)) (λ is. absurd (let no : ⊥ = cc in no)) (λ e. absurd (let no : ⊥ = cc in no)) (λ is. absurd (let no : ⊥ = cc in no)) said.causes) (sym empty)
 
   pub format_refused : (fault : OnlineFault) → Says fault

@@ -31,7 +31,7 @@ mod ShelvesLemmas
 mod StartLemmas
 mod StartedLemmas
 mod StepLemmas
-mod SteppedLemmas
+pub mod SteppedLemmas
 mod TakeLemmas
 pub mod TurnLemmas
 mod WrittenLemmas

@@ -6,7 +6,7 @@ use Rattle.std.proofs.lemmas.Bool.{eq-eqb, false≢true, or_left, or_right}
 use Rattle.std.proofs.lemmas.List.Elements.{All-contains_itself, All-head, All-tail, All-weaker}
 use Rattle.std.proofs.lemmas.Option.{same_Some}
 use Rattle.g_base.specs.ToldContent.{Changes}
-use Rattle.g_disc.specs.Disc.{DiscState}
+use Rattle.g_disc.specs.Disc.{Causes, DiscState}
 use Rattle.g_entry.specs.declared.user_rec.UserRec.{UserRec}
 use Rattle.g_tape.specs.Rack.{Rack}
 use Rattle.g_tape.specs.Reel.{Reel}
@@ -26,6 +26,7 @@ use Rattle.g_store_meaning.specs.Laws.{IsQuiet}
 use Rattle.g_store_meaning.specs.Meaning.{told_reels}
 use Rattle.g_store_meaning.specs.Reading.{AllTold, DevicesStandFor, HasText, IsRackView, IsView, StandsForState, View, holding_of, names_of, row_of, state_down, state_up, users_not_in}
 use Rattle.g_store_meaning.specs.StoreInvariant.{StoreFacts}
+use Rattle.g_store_meaning.specs.Surviving.{disc_left}
 use Rattle.g_plain.proofs.Found.{some_of}
 use Rattle.g_store_calls.proofs.SeenLemmas.{stands}
 use Rattle.g_store_calls.proofs.BehindLemmas.{files_seen, rack_seen}
@@ -118,6 +119,25 @@ down_again size held reels s is = is.state_is ∙ by_contents is.contents ∙ sy
     by_contents : (c : Option Contents) → state_down is.view reels size c ≡ down (state_down is.view reels size c)
     by_contents None = refl
     by_contents (Some c) = refl
+
+-- A POWER LOSS changes no count of the disc
+pub causes_left : {P Q : Type 0} {disc now : DiscState} (left : List (List ℕ)) → Causes P Q disc now → Causes P Q disc (disc_left left now)
+causes_left left causes = record {
+  size = causes.size;
+  arms = causes.arms;
+  later = causes.later;
+  reads_kept = causes.reads_kept;
+  reads_rose = causes.reads_rose;
+  writes_kept = causes.writes_kept;
+  writes_rose = causes.writes_rose;
+}
+
+-- and changes what it holds to what it left
+pub changes_left : (R : List (List ℕ) → List (List ℕ) → Type 0) (disc : DiscState) (blocks left : List (List ℕ)) → disc.held ≡ Some blocks → R blocks left → Changes R disc.held (Some left)
+changes_left R disc blocks left was one = record {
+  told = λ other is. (left, refl, subst (λ (b : List (List ℕ)). R b left) (same_Some blocks other (sym was ∙ is)) one);
+  untold = λ is. (let no : ⊥ = cc in absurd no);
+}
 
 -- IF IT WAS STOPPED, the disc holds what it held, or the new contents
 module _ (disc now : DiscState) (reels : List Reel) (c : Contents) (changes : Changes (AsBeforeOr c) disc.held now.held) (size : now.size ≡ disc.size) where

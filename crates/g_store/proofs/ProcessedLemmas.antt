@@ -121,7 +121,6 @@ process_early serial s fault is_store running is =
       belongs = λ told was. was;
       dumps = λ told was safe. safe;
       exit = λ told text shelf shelved up unspent. leaves_all text shelf serial fault s early;
-      left = λ told text shelf shelved up unspent safe same. absurd (unlike fault Stopped early (λ no. no) same);
       durable = λ unspent is. is;
       spent = (λ spent. absurd (let no : ⊥ = cc in no), λ same. absurd (unlike fault Stopped early (λ no. no) same));
       dump = λ _. refl;

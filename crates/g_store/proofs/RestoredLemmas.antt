@@ -6,8 +6,8 @@ use Rattle.std.specs.Option.{ForSome}
 use Rattle.std.specs.List.{list_all}
 use Rattle.g_base.specs.Counts.{Rose}
 use Rattle.g_base.specs.ToldContent.{Changes}
-use Rattle.g_disc.specs.Disc.{Causes, DiscState}
-use Rattle.g_disc.specs.Durable.{PowerLossLeaves}
+use Rattle.g_disc.specs.Disc.{Causes, DiscState, StayDurable}
+use Rattle.g_disc.specs.Durable.{MayLeave, PowerLossLeaves}
 use Rattle.g_tape.specs.Rack.{Rack}
 use Rattle.g_tape.specs.Reads.{OnlyReads}
 use Rattle.g_tape.specs.Reel.{Reel}
@@ -30,14 +30,16 @@ use Rattle.g_store_meaning.specs.Belonging.{Belong, BelongWith, DiscBelongs, Rac
 use Rattle.g_store_meaning.specs.Meaning.{told_reels}
 use Rattle.g_store_meaning.specs.Reading.{AllTold, DevicesStandFor, HasText, ReelsTold, dumped_of, holding_of, state_down}
 use Rattle.g_store_meaning.specs.StoreInvariant.{IsReady, KeepsDirectories, StoreFacts, content_in}
+use Rattle.g_store_meaning.specs.Surviving.{disc_left}
 use Rattle.g_store_meaning.proofs.ViewLemmas.{reads_keep_state}
 use Rattle.g_restore.specs.Losses.{LostIsNamed}
 use Rattle.g_restore.specs.Reels.{AreOnReels}
 use Rattle.g_restore.specs.Restoration.{IsOfDisc, IsOfReels, IsRestored, KeepsBelonging, NothingIsLost}
+use Rattle.g_restore.proofs.BelongLemmas.{belongs_stopped}
 use Rattle.g_restore.proofs.ReelLemmas.{all_of_reels}
 use Rattle.g_store_calls.proofs.BehindLemmas.{told_then as told_back}
-use Rattle.g_store.specs.Making.{LeadsDown, RefusesRestore, Restored, StepsDown}
-use Rattle.g_store.proofs.MakeLemmas.{Stood, before_stands, down_again, moved, new_down, new_stands, stood, store_made, store_of, told_then, unkept}
+use Rattle.g_store.specs.Making.{LeadsDown, LeavesDevices, RefusesRestore, Restored, StepsDown}
+use Rattle.g_store.proofs.MakeLemmas.{Stood, before_stands, changes_left, down_again, moved, new_down, new_stands, stood, store_made, store_of, told_then, unkept}
 use Rattle.g_store.proofs.RestoreLemmas.{RestoredAt, all_none, by_dumped, early, first_down, held_is, is_there, restored_at, right, stands_there, steps, belongs as belongs_before, texts_are, there, v}
 
 module _ (disc : DiscState) (rack after : Rack) (only : OnlyReads rack after) where
@@ -87,7 +89,6 @@ module _ (disc : DiscState) (rack after : Rack) (only : OnlyReads rack after) wh
         unkept = unkept o has.begun;
         keeps = store_made o has.begun after tied;
         causes = has.causes;
-        durable = λ blocks was is_safe. has.durable;
         tapes = only;
         tape_read = kept;
         wrote = has.wrote;
@@ -97,6 +98,7 @@ module _ (disc : DiscState) (rack after : Rack) (only : OnlyReads rack after) wh
             (u, reads_keep_state (store_of o rack) after u only up, step);
         belongs = λ told belong. read_up (store_of o rack) refl (belongs_before disc rack told belong number made (at_of told belong) mounted o has tied);
       };
+      durable = has.durable;
       mounted = mounted;
       lost = named;
       holds = subst (IsRestored reels disc.held number) (sym has.contents) is;
@@ -204,6 +206,7 @@ pub record HasRefused (disc : DiscState) (rack after : Rack) (fault : StoreFault
   pub stopped : fault ≡ Stopped → (number : ℕ) × (contents : Contents) × IsRestored (told_reels rack) disc.held number contents × Changes (AsBeforeOr contents) disc.held now.held
       × (IsDiscSafe disc → PowerLossLeaves (AsBeforeOr contents) disc now)
   pub safe : IsDiscSafe disc → IsDiscSafe now
+  pub durable : fault ≢ Stopped → StayDurable disc now
   pub unread : fault ≡ DiscReadFault → (number : ℕ) × (contents : Contents) × IsRestored (told_reels rack) disc.held number contents
   pub unmounted : (serial : ℕ) → (fault ≡ RackNotMounted serial) ↔ (first_unmounted rack.reels ≡ Some serial)
   pub none : fault ≡ NoDump → AreOnReels (told_reels rack) []
@@ -266,6 +269,26 @@ module _ (disc : DiscState) (rack after : Rack) where
   tells fault now said (inl never) told = absurd never
   tells fault now said (inr never) told = absurd never
 
+  -- whatever a power loss leaves after a failed write
+  left_by : (now : DiscState) → HasRefused disc rack after Stopped now → (blocks left : List (List ℕ)) → disc.held ≡ Some blocks → IsDiscSafe disc → MayLeave now left
+      → LeavesDevices (Belong disc.held rack) rising.RestoreStep disc rack Stopped (disc_left left now) after
+  left_by now said blocks left was is_safe may =
+      let (number, made, is, changes, survives) = said.stopped refl in
+      let changes_to = changes_left (AsBeforeOr made) disc blocks left was (survives is_safe blocks was left may) in record {
+        step = λ told belong s devices.
+            stopped_down disc rack after said.reads (disc_left left now) said.causes.size number made is
+            (all_mounted Stopped (first_unmounted rack.reels) (λ n e. let no : ⊥ = cc in no) said.unmounted) told belong changes_to (said.causes.writes_rose refl) s devices;
+        belongs = λ told was. belongs_stopped disc.held (Some left) rack after number made said.reads is changes_to told.each was;
+      }
+
+  survives_by : (fault : StoreFault) (now : DiscState) → HasRefused disc rack after fault now → fault ≡ Stopped → IsDiscSafe disc
+      → PowerLossLeaves (λ _ left. LeavesDevices (Belong disc.held rack) rising.RestoreStep disc rack fault (disc_left left now) after) disc now
+  survives_by fault now said is =
+      subst
+      (λ (f : StoreFault). HasRefused disc rack after f now → IsDiscSafe disc
+      → PowerLossLeaves (λ _ left. LeavesDevices (Belong disc.held rack) rising.RestoreStep disc rack f (disc_left left now) after) disc now) (sym is)
+      (λ stop is_safe blocks was left may. left_by now stop blocks left was is_safe may) said
+
   pub restore_refused : (fault : StoreFault) (now : DiscState) → HasRefused disc rack after fault now → RefusesRestore disc rack fault now after
   restore_refused fault now said = record {
     refuses = record {
@@ -275,9 +298,11 @@ module _ (disc : DiscState) (rack after : Rack) where
       tape_read_only = said.kept;
       held = λ other. (said.same other).0;
       writes = λ other. (said.same other).1;
+      durable = said.durable;
       told = tells fault now said said.only;
       step = λ told belong s devices. steps_down fault now said said.only told belong s devices;
       belongs = λ told was. said.belongs told.each was;
+      survives = survives_by fault now said;
     };
     safe = said.safe;
     unmounted = said.unmounted;

@@ -3,8 +3,10 @@
 use Rattle.std.proofs.Common.{◌≡◌, ◌≢◌, ℕ, ◌+◌, Bool, true, false, List, [], ◌∷◌, Option, Some, None, Ok, Err, is_some, refl, sym, ◌∙◌, ap, arith, subst, inl, inr}
 use Rattle.std.specs.Prelude.{◌⊎◌, ◌<◌, IfSome, map, if◌then◌else◌}
 use Rattle.std.specs.Option.{ForSome, option_map}
+use Rattle.std.proofs.lemmas.Option.{same_Some}
 use Rattle.g_base.specs.Counts.{Rose, RoseBy}
 use Rattle.g_disc.specs.Disc.{Causes, DiscState, StayDurable}
+use Rattle.g_disc.specs.Durable.{MayLeave}
 use Rattle.g_disc.proofs.CallLemmas.{Causes-for, stands_later, then_later}
 use Rattle.g_entry.specs.declared.head.Intent.{Intent}
 use Rattle.g_entry.specs.declared.file_rec.FileRec.{FileRec}
@@ -26,7 +28,7 @@ use Rattle.g_online.specs.declared.fault.OnlineFault.{OnlineFault}
 use Rattle.g_online.specs.declared.fault.OnlineFault.TheVariants as online
 use Rattle.g_online.specs.Beginning.{HasLoaded, IsBegun, SecuresAndReads}
 use Rattle.g_online.specs.Change.{changed, unjammed}
-use Rattle.g_online.specs.Outcomes.{HasChanged, HasStopped}
+use Rattle.g_online.specs.Outcomes.{AfterStop, HasChanged, HasStopped}
 use Rattle.g_shelf.specs.CompletedDumps.{AreShelved, all_dumps}
 use Rattle.g_store_model.specs.State as state
 use Rattle.g_store_model.specs.CallStep.{Cut, DiscRead, Outcome, Plain, TapeRead, down}
@@ -36,15 +38,16 @@ use Rattle.g_store_meaning.specs.Answers.{Belongs}
 use Rattle.g_store_meaning.specs.Belonging.{Belong, BelongWith, DiscBelongs, RackBelongs}
 use Rattle.g_store_meaning.specs.Laws.{IsQuiet, closed}
 use Rattle.g_store_meaning.specs.Meaning.{told_reels}
+use Rattle.g_store_meaning.specs.Surviving.{disc_left}
 use Rattle.g_store_meaning.specs.Reading.{AllTold, DevicesStandFor, IsView, StandsForState, holding_of, names_of, state_down, state_up}
 use Rattle.g_store_meaning.proofs.ViewLemmas.{reads_keep_state}
 use Rattle.g_laws_store.proofs.StateLemmas.{is_view}
 use Rattle.g_dumper.proofs.ShelfLemmas.{told_is}
 use Rattle.g_store_calls.proofs.BehindLemmas.{told_then}
-use Rattle.g_store.specs.Making.{Begun, LeadsDown, Refuses, RefusesStart, StepsDown}
+use Rattle.g_store.specs.Making.{Begun, LeadsDown, LeavesDevices, Refuses, RefusesStart, StepsDown}
 use Rattle.g_store.specs.Starting.{HasNamed, IsIntent, NamesNone, TakesOver, adoption, copies_named}
 use Rattle.g_store.proofs.AdoptLemmas.{adopt_then}
-use Rattle.g_store.proofs.MakeLemmas.{belongs_made, down_again, moved, stands_up, store_made, store_of, unkept, up_is}
+use Rattle.g_store.proofs.MakeLemmas.{belongs_made, causes_left, down_again, moved, stands_up, store_made, store_of, unkept, up_is}
 use Rattle.g_store.proofs.RestoredLemmas.{same_refusal}
 use Rattle.g_store.proofs.StartLemmas as start
 
@@ -61,26 +64,28 @@ counted read stop late a b c never to back one two = record {
 }
 
 -- IF NOTHING WAS WRITTEN
-module _ (disc now : DiscState) (rack after : Rack) (only : OnlyReads rack after) (size : now.size ≡ disc.size) (held : now.held ≡ disc.held) (writes : now.writes ≡ disc.writes) where
+module _ (disc now : DiscState) (rack after : Rack) (only : OnlyReads rack after) (size : now.size ≡ disc.size) (held : now.held ≡ disc.held) (writes : now.writes ≡ disc.writes) (durable : StayDurable disc now) where
   stays : (s : state.State) → DevicesStandFor disc.size disc.held (told_reels rack) s → DevicesStandFor now.size now.held (told_reels after) s
   stays s devices =
       subst (λ (rs : List Reel). DevicesStandFor now.size now.held rs s) (sym only.reels)
       (moved disc.size now.size disc.held now.held (told_reels rack) s size held devices)
 
-  unchanged : (fault : StoreFault) → Causes (fault ≡ DiscReadFault) (fault ≡ Stopped) disc now → (fault ≡ TapeReadFault → Rose rack.read_faults after.read_faults)
+  unchanged : (fault : StoreFault) → fault ≢ Stopped → Causes (fault ≡ DiscReadFault) (fault ≡ Stopped) disc now → (fault ≡ TapeReadFault → Rose rack.read_faults after.read_faults)
       → ((fault ≡ TapeReadFault → ⊥) → after.read_faults ≡ rack.read_faults)
       → (AllTold disc.held (told_reels rack) → Belong disc.held rack → (s : state.State) → DevicesStandFor disc.size disc.held (told_reels rack) s → StepsDown StartStep s disc rack fault now after)
       → Refuses (Belong disc.held rack) StartStep disc rack fault now after
-  unchanged fault causes rose kept steps = record {
+  unchanged fault going causes rose kept steps = record {
     causes = causes;
     tapes = only;
     tape_read = rose;
     tape_read_only = kept;
     held = λ other. held;
     writes = λ other. writes;
+    durable = λ other. durable;
     told = λ told. subst (AllTold now.held) (sym only.reels) (record { disc = ap is_some held ∙ told.disc; each = told.each });
     step = steps;
     belongs = λ told was. subst (BelongWith now.held) (sym only.reels) (subst (λ (h : Option (List (List ℕ))). BelongWith h (told_reels rack)) (sym held) was);
+    survives = λ is. absurd (going is);
   }
 
 -- LOADING REFUSED
@@ -116,11 +121,11 @@ module _ (disc : DiscState) (rack : Rack) where
 
     unread : Refused online.ReadFault
     unread reads none = record {
-      refuses = unchanged disc now rack rack (nothing_read rack) reads.size reads.held reads.writes DiscReadFault
+      refuses = unchanged disc now rack rack (nothing_read rack) reads.size reads.held reads.writes reads.durable DiscReadFault (λ e. let no : ⊥ = cc in no)
           (by_reads DiscReadFault (online.ReadFault ≡ online.ReadFault) (λ e. refl) (λ e. refl) (λ e. let no : ⊥ = cc in no) reads) (λ e. let no : ⊥ = cc in absurd no) (λ no. refl)
           (λ told belong s devices. record {
             after = s;
-            left = stays disc now rack rack (nothing_read rack) reads.size reads.held reads.writes s devices;
+            left = stays disc now rack rack (nothing_read rack) reads.size reads.held reads.writes reads.durable s devices;
             outcome = DiscRead;
             raised = reads.rose refl;
             step = read_step s s.holding;
@@ -135,12 +140,12 @@ module _ (disc : DiscState) (rack : Rack) where
 
     unfounded : Refused online.NoFilestore
     unfounded reads none = record {
-      refuses = unchanged disc now rack rack (nothing_read rack) reads.size reads.held reads.writes NoFilestore
+      refuses = unchanged disc now rack rack (nothing_read rack) reads.size reads.held reads.writes reads.durable NoFilestore (λ e. let no : ⊥ = cc in no)
           (by_reads NoFilestore (online.NoFilestore ≡ online.ReadFault) (λ e. let no : ⊥ = cc in absurd no) (λ e. let no : ⊥ = cc in absurd no) (λ e. let no : ⊥ = cc in no) reads)
           (λ e. let no : ⊥ = cc in absurd no) (λ no. refl)
           (λ told belong s devices. record {
             after = s;
-            left = stays disc now rack rack (nothing_read rack) reads.size reads.held reads.writes s devices;
+            left = stays disc now rack rack (nothing_read rack) reads.size reads.held reads.writes reads.durable s devices;
             outcome = Plain;
             raised = tt;
             step = no_files (none refl) s devices;
@@ -155,10 +160,10 @@ module _ (disc : DiscState) (rack : Rack) where
 
     starved : Refused online.NoMemory
     starved reads none = record {
-      refuses = unchanged disc now rack rack (nothing_read rack) reads.size reads.held reads.writes NoMemory
+      refuses = unchanged disc now rack rack (nothing_read rack) reads.size reads.held reads.writes reads.durable NoMemory (λ e. let no : ⊥ = cc in no)
           (by_reads NoMemory (online.NoMemory ≡ online.ReadFault) (λ e. let no : ⊥ = cc in absurd no) (λ e. let no : ⊥ = cc in absurd no) (λ e. let no : ⊥ = cc in no) reads)
           (λ e. let no : ⊥ = cc in absurd no) (λ no. refl)
-          (λ told belong s devices. stays disc now rack rack (nothing_read rack) reads.size reads.held reads.writes s devices);
+          (λ told belong s devices. stays disc now rack rack (nothing_read rack) reads.size reads.held reads.writes reads.durable s devices);
       safe = λ is_safe. safe_stays disc now reads.held reads.durable is_safe;
       first = λ serial e. let no : ⊥ = cc in absurd no;
       none = λ e. let no : ⊥ = cc in absurd no;
@@ -260,7 +265,6 @@ module _ (disc : DiscState) (rack : Rack) (o : OnlineFacts) (loaded : HasLoaded 
           writes_kept = λ no. loaded.reads.write_faults;
           writes_rose = λ is. absurd is;
         };
-        durable = loaded.durable;
         tapes = only;
         tape_read = kept;
         wrote = record {
@@ -280,6 +284,7 @@ module _ (disc : DiscState) (rack : Rack) (o : OnlineFacts) (loaded : HasLoaded 
         belongs = λ told belong.
             belongs_up o loaded.begun tied loaded.reads.size told belong (start.disc_belongs disc rack told belong o.contents holds) (adopts_nothing told belong).quiet;
       };
+      durable = loaded.durable;
       intent = mounted_by o.contents.head.intent nothing;
       loaded = (o, loaded, record { same = refl; none = nothing });
     }
@@ -323,7 +328,6 @@ module _ (disc : DiscState) (rack : Rack) (o : OnlineFacts) (loaded : HasLoaded 
           unkept = unkept new begun_then;
           keeps = store_made new begun_then after tied;
           causes = all_causes;
-          durable = λ blocks was is_safe. done.durable (loaded.durable blocks was is_safe);
           tapes = only;
           tape_read = kept;
           wrote = record {
@@ -345,19 +349,20 @@ module _ (disc : DiscState) (rack : Rack) (o : OnlineFacts) (loaded : HasLoaded 
               belongs_up new begun_then tied all_causes.size told belong (belongs_new told belong)
               (subst (IsQuiet belong.shelf (told_reels rack)) (sym contents_are) (start.quiet_after disc rack told belong o.contents holds i intent.is intent.mounted_is files named));
         };
+        durable = λ blocks was is_safe. done.durable (loaded.durable blocks was is_safe);
         intent = subst (λ (x : Contents). IfSome x.head.intent (λ j. is_mounted (reel j.serial rack.reels) ≡ true)) (sym contents_are) tt;
         loaded = (o, loaded, (record { intent = i; is = intent; files = files; found = named; leaves = done }, refl));
       }
 
     -- OR THAT IS STOPPED
     module _ (now : OnlineFacts) (told_same : is_some now.disc.held ≡ is_some o.disc.held) (counts : Causes ⊥ (Unit {0}) o.disc now.disc) (kept : after.read_faults ≡ rack.read_faults)
-        (stopped : HasStopped (adoption i.number files o) o now) where
+        (stops : ForSome now.disc.held (AfterStop (adoption i.number files o) o)) where
       cut_causes : Causes (Stopped ≡ DiscReadFault) (Stopped ≡ Stopped) disc now.disc
       cut_causes = counted (Stopped ≡ DiscReadFault) (Stopped ≡ Stopped) (Unit {0}) disc o.disc now.disc (λ e. let no : ⊥ = cc in no) (λ e. tt) (λ x. refl) loaded.reads counts
 
       -- the disc holds what it held, or what was to be
       left_either : (blocks : List (List ℕ)) → now.disc.held ≡ Some blocks → Holds blocks o.contents ⊎ Holds blocks adopts_it
-      left_either blocks was = by_case (stopped.holds blocks was).one
+      left_either blocks was = by_case (stops blocks was).one
         where
           by_case : Holds blocks o.contents ⊎ (((0 < 0) × Holds blocks (unjammed (is_some o.pins) (adoption i.number files o) o.contents)) ⊎ Holds blocks (changed true (is_some o.pins) (adoption i.number files o) o.contents))
               → Holds blocks o.contents ⊎ Holds blocks adopts_it
@@ -436,18 +441,36 @@ module _ (disc : DiscState) (rack : Rack) (o : OnlineFacts) (loaded : HasLoaded 
                 subst (DiscBelongs belong.text belong.shelf (told_reels rack)) (holds_one blocks o.contents x same has) (start.disc_belongs disc rack told belong o.contents holds)
             by_case blocks x has (inr made) = subst (DiscBelongs belong.text belong.shelf (told_reels rack)) (holds_one blocks adopts_it x made has) (on_disc told belong)
 
+    module _ (now : OnlineFacts) (told_same : is_some now.disc.held ≡ is_some o.disc.held) (counts : Causes ⊥ (Unit {0}) o.disc now.disc) (kept : after.read_faults ≡ rack.read_faults)
+        (stopped : HasStopped (adoption i.number files o) o now) where
+      -- whatever a power loss leaves then
+      left_by : (blocks left : List (List ℕ)) → disc.held ≡ Some blocks → IsDiscSafe disc → MayLeave now.disc left
+          → LeavesDevices (Belong disc.held rack) StartStep disc rack Stopped (disc_left left now.disc) after
+      left_by blocks left was is_safe may =
+          let at : o.disc.held ≡ Some blocks = loaded.reads.held ∙ was in
+          let then_left : OnlineFacts = record now { disc = disc_left left now.disc } in
+          let one : AfterStop (adoption i.number files o) o left = (stopped.survives (loaded.durable blocks was is_safe)).1 blocks at left may in
+          let stops : ForSome then_left.disc.held (AfterStop (adoption i.number files o) o) =
+          λ other is. subst (AfterStop (adoption i.number files o) o) (same_Some left other is) one in
+          let told_then : true ≡ is_some o.disc.held = sym (ap is_some at) in record {
+            step = λ told belong s devices. leads then_left told_then (causes_left left counts) kept stops told belong s devices;
+            belongs = λ told belong. goes_on then_left told_then (causes_left left counts) kept stops told belong;
+          }
+
       cut_is : RefusesStart disc rack Stopped now.disc after
       cut_is = record {
         refuses = record {
-          causes = cut_causes;
+          causes = cut_causes now told_same counts kept stopped.holds;
           tapes = only;
           tape_read = λ e. let no : ⊥ = cc in absurd no;
           tape_read_only = λ no. kept;
           held = λ no. absurd (no refl);
           writes = λ no. absurd (no refl);
+          durable = λ no. absurd (no refl);
           told = tells now told_same;
-          step = λ told belong s devices. leads told belong s devices;
-          belongs = goes_on;
+          step = λ told belong s devices. leads now told_same counts kept stopped.holds told belong s devices;
+          belongs = goes_on now told_same counts kept stopped.holds;
+          survives = λ is is_safe blocks was left may. left_by blocks left was is_safe may;
         };
         safe = λ is_safe blocks there.
             let (was, is) = told_is disc.held (sym (ap is_some loaded.reads.held) ∙ sym told_same ∙ ap is_some there) in
@@ -471,6 +494,9 @@ module _ (disc : DiscState) (rack : Rack) (o : OnlineFacts) (loaded : HasLoaded 
     none_written : new.disc.writes ≡ disc.writes
     none_written = ap (λ (x : OnlineFacts). x.disc.writes) same ∙ loaded.reads.writes
 
+    stay_durable : StayDurable disc new.disc
+    stay_durable = subst (λ (x : OnlineFacts). StayDurable disc x.disc) (sym same) loaded.reads.durable
+
     no_causes : Causes (fault ≡ DiscReadFault) (fault ≡ Stopped) disc new.disc
     no_causes =
         subst (λ (x : OnlineFacts). Causes (fault ≡ DiscReadFault) (fault ≡ Stopped) disc x.disc) (sym same)
@@ -485,14 +511,14 @@ module _ (disc : DiscState) (rack : Rack) (o : OnlineFacts) (loaded : HasLoaded 
         })
 
     left_same : (s : state.State) → DevicesStandFor disc.size disc.held (told_reels rack) s → DevicesStandFor new.disc.size new.disc.held (told_reels after) s
-    left_same = stays disc new.disc rack after only same_size same_disc none_written
+    left_same = stays disc new.disc rack after only same_size same_disc none_written stay_durable
 
     refuses_by : ((told : AllTold disc.held (told_reels rack)) (belong : Belong disc.held rack) (s : state.State) → DevicesStandFor disc.size disc.held (told_reels rack) s
         → StepsDown StartStep s disc rack fault new.disc after) → Refuses (Belong disc.held rack) StartStep disc rack fault new.disc after
-    refuses_by steps = unchanged disc new.disc rack after only same_size same_disc none_written fault no_causes rose kept steps
+    refuses_by steps = unchanged disc new.disc rack after only same_size same_disc none_written stay_durable fault stop no_causes rose kept steps
 
     stays_safe : IsDiscSafe disc → IsDiscSafe new.disc
-    stays_safe is_safe = safe_stays disc new.disc same_disc (subst (λ (x : OnlineFacts). StayDurable disc x.disc) (sym same) loaded.reads.durable) is_safe
+    stays_safe is_safe = safe_stays disc new.disc same_disc stay_durable is_safe
 
   module _ (told : AllTold disc.held (told_reels rack)) (belong : Belong disc.held rack) where
     abbrev at : state.State

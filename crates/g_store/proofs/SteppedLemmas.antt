@@ -1,5 +1,5 @@
 -- How a store answers a step of its open dump: the state after each answer.
--- serves: ProcessedStepLemmas, StepLemmas
+-- serves: ProcessedStepLemmas, StepLemmas, crates above
 use Rattle.std.proofs.Common.{◌≡◌, ℕ, zero, suc, ◌+◌, ◌<◌, ◌≤◌, ◌==◌, Bool, true, false, List, [], ◌∷◌, ◌++◌, map, Option, Some, None, Result, Ok, Err, refl, sym, ◌∙◌, ap, arith, subst, inl, inr}
 use Rattle.std.specs.Prelude.{◌⊎◌, AllPairs, Contains, is_some, nat_lt, option_map}
 use Rattle.std.specs.Ordering.{nat_cmp}
@@ -159,7 +159,7 @@ module _ (d : DumpFacts) (o : OnlineFacts) (old : Rack) (reels : AreReels old.re
     state_is = refl;
   }
 
-  state_of : (u : state.State) → StandsForState before u → u ≡ s
+  pub state_of : (u : state.State) → StandsForState before u → u ≡ s
   state_of u here = store_is_one before u s told was keeps here (stands before s refl own)
 
   -- A STEP from it
@@ -234,6 +234,36 @@ module _ (d : DumpFacts) (o : OnlineFacts) (old : Rack) (reels : AreReels old.re
       subst (λ (x : OnlineFacts). StandsForState (up_with x old None) end) (sym facts)
       (stands (up_with gone old None) end refl (record { view = v; is = view_is; opens = record { is = λ all qs some. tt }; state_is = refl }))
 
+  -- WHAT IS SEEN, on any reels that have the same dumps
+  pub view_on : (qs : List Reel) → all_dumps shelf rs ≡ all_dumps shelf qs → (held : Option (List (List ℕ))) → AreShelved shelf qs → IsView held qs c v
+  view_on qs same held on = record {
+    rack = record {
+      shelved = on;
+      all = same;
+      dumped = λ _. view_is.rack.dumped told;
+      none = λ _. view_is.rack.none told;
+    };
+    files = All-weaker (λ (f : File). HasText (AllTold o.disc.held rs) (text f.rec.stamp) (all_dumps shelf rs) f) (λ (f : File). HasText (AllTold held qs) (text f.rec.stamp) (all_dumps shelf rs) f)
+        (λ f it. record { len = it.len; bytes = it.bytes; tape = λ _. it.tape told }) c.files view_is.files;
+  }
+
+  -- or also this one, the newest
+  abbrev pub v_marked : View
+  v_marked = record { text = text; shelf = with_made; dumps = all_dumps with_made rs; dumped = Some t; opened = None }
+
+  pub view_with : (qs : List Reel) → all_dumps with_made rs ≡ all_dumps with_made qs → (held : Option (List (List ℕ))) (x : Contents) → AreShelved with_made qs → DiscBelongs text with_made rs x
+      → IsView held qs x v_marked
+  view_with qs same held x on disc = record {
+    rack = record {
+      shelved = on;
+      all = same;
+      dumped = λ _. is_ready.rack.records t;
+      none = λ _ no. absurd (none-some t (sym no));
+    };
+    files = All-weaker (λ (f : File). KeepsFile (text f.rec.stamp) (all_dumps with_made rs) f) (λ (f : File). HasText (AllTold held qs) (text f.rec.stamp) (all_dumps with_made rs) f)
+        (λ f it. record { len = it.rec.len; bytes = it.bytes; tape = λ _ _. it.rec.copy }) x.files disc.files;
+  }
+
   -- THE REEL WAS WRITTEN, or a write of it failed
   module _ (new : Rack) (how : Remains) (faults : ℕ) (written : new ≡ record (changed d.plan.serial (left_by how at) old) { write_faults = faults; fuse = burnt old.fuse; risks = new.risks }) where
     reels_are : new.reels ≡ with_reel d.plan.serial (left_by how at) old.reels
@@ -247,7 +277,7 @@ module _ (d : DumpFacts) (o : OnlineFacts) (old : Rack) (reels : AreReels old.re
     rows_now b used =
         ap (λ (qs : List Reel). map (row_of shelf) (map unread qs)) reels_are ∙ rows_used d.plan.serial old.reels reels is.on is.reel_is how at b used shelf
 
-    rows_with : (b : Bool) → nat_lt 0 (left_by how at is.on).len ≡ b
+    pub rows_with : (b : Bool) → nat_lt 0 (left_by how at is.on).len ≡ b
         → map (row_of with_made) (told_reels new) ≡ state.with_reel d.plan.serial (with_used b) (state.with_reel d.plan.serial (with_shelved (shelved od)) (map (row_of shelf) rs))
     rows_with b used =
         ap (λ (qs : List Reel). map (row_of with_made) (map unread qs)) reels_are
@@ -255,16 +285,7 @@ module _ (d : DumpFacts) (o : OnlineFacts) (old : Rack) (reels : AreReels old.re
 
     -- no dump was completed: the view stays right
     view_then : (held : Option (List (List ℕ))) → AreShelved shelf (told_reels new) → IsView held (told_reels new) c v
-    view_then held shelved_new = record {
-      rack = record {
-        shelved = shelved_new;
-        all = dumps_same shelf;
-        dumped = λ _. view_is.rack.dumped told;
-        none = λ _. view_is.rack.none told;
-      };
-      files = All-weaker (λ (f : File). HasText (AllTold o.disc.held rs) (text f.rec.stamp) (all_dumps shelf rs) f) (λ (f : File). HasText (AllTold held (told_reels new)) (text f.rec.stamp) (all_dumps shelf rs) f)
-          (λ f it. record { len = it.len; bytes = it.bytes; tape = λ _. it.tape told }) c.files view_is.files;
-    }
+    view_then held shelved_new = view_on (told_reels new) (dumps_same shelf) held shelved_new
 
     -- the dump continues
     going_state : nat_lt 0 (left_by how at is.on).len ≡ true
@@ -294,20 +315,8 @@ module _ (d : DumpFacts) (o : OnlineFacts) (old : Rack) (reels : AreReels old.re
         })
 
     -- the dump was completed: it is the newest one
-    abbrev v_marked : View
-    v_marked = record { text = text; shelf = with_made; dumps = all_dumps with_made rs; dumped = Some t; opened = None }
-
     view_marked : (held : Option (List (List ℕ))) (x : Contents) → AreShelved with_made (told_reels new) → DiscBelongs text with_made rs x → IsView held (told_reels new) x v_marked
-    view_marked held x shelved_new disc = record {
-      rack = record {
-        shelved = shelved_new;
-        all = dumps_same with_made;
-        dumped = λ _. is_ready.rack.records t;
-        none = λ _ no. absurd (none-some t (sym no));
-      };
-      files = All-weaker (λ (f : File). KeepsFile (text f.rec.stamp) (all_dumps with_made rs) f) (λ (f : File). HasText (AllTold held (told_reels new)) (text f.rec.stamp) (all_dumps with_made rs) f)
-          (λ f it. record { len = it.rec.len; bytes = it.bytes; tape = λ _ _. it.rec.copy }) x.files disc.files;
-    }
+    view_marked held x shelved_new disc = view_with (told_reels new) (dumps_same with_made) held x shelved_new disc
 
     -- COMPLETED
     module _ (used : nat_lt 0 (left_by how at is.on).len ≡ true) (shelved_new : AreShelved with_made (told_reels new)) where

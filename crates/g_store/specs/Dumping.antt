@@ -98,8 +98,8 @@ pub record LeavesAfterStep (shelf : ℕ → List Dump) (old : StoreFacts) (answe
   pub content_is : content_in pins ≡ Some content
   pub leaves : StepLeaves answer dump shelf (with_dump (dump_of dump.plan content) shelf) old new
 
--- THE COMPLETED DUMPS STAY SAFE over a step, and a power loss after it leaves disc and reels together, by where a stopped step ended. The
--- reels are the same ones, each with a serial of its own, mounted as before.
+-- THE COMPLETED DUMPS STAY SAFE over a step (`dumps`), and `left` says which ones a power loss leaves after it, and what a stopped step did to
+-- the disc. The reels are those of a rack, each with a serial of its own; they are the same ones after the step, mounted as before.
 pub record KeepsDumpsSafe (old : StoreFacts) (answer : Result Stepped StoreFault) (new : StoreFacts) : Type 0 where
   pub dumps : Told old → Belongs old → AreDumpsSafe old → AreDumpsSafe new
   pub are : AreReels old.rack.reels

@@ -4,7 +4,7 @@ use Rattle.std.specs.Option.{ForSome}
 use Rattle.std.specs.FinMap.{empty}
 use Rattle.g_base.specs.Counts.{Rose}
 use Rattle.g_base.specs.ToldContent.{Changes}
-use Rattle.g_disc.specs.Disc.{Causes, DiscState}
+use Rattle.g_disc.specs.Disc.{Causes, DiscState, StayDurable}
 use Rattle.g_disc.specs.Durable.{PowerLossLeaves}
 use Rattle.g_dirs.specs.Durable.{IsDiscSafe}
 use Rattle.g_entry.specs.declared.head.Intent.{Intent}
@@ -29,6 +29,7 @@ use Rattle.g_store_meaning.specs.Meaning.{told_reels}
 use Rattle.g_store_meaning.specs.StoreInvariant.{StoreFacts}
 use Rattle.g_store_meaning.specs.Reading.{AllTold, DevicesStandFor, ReelsTold, StandsForState, holding_of}
 use Rattle.g_store_meaning.specs.Answers.{Belongs, IsStore, Told}
+use Rattle.g_store_meaning.specs.Surviving.{disc_left}
 use Rattle.g_store.specs.Refusing.{first_used}
 use Rattle.g_store.specs.Starting.{Takes}
 
@@ -40,8 +41,6 @@ pub record Makes {A : Type 0} (given : Type 0) (by : State → Outcome → Resul
   pub unkept : All (λ u. has new.online.changed u.number ≡ true) new.online.contents.users
   pub keeps : IsStore new
   pub causes : Causes ⊥ ⊥ disc new.online.disc
-  -- if the disc was safe, the store is durable
-  pub durable : ForSome disc.held (λ _. IsDiscSafe disc → IsDurable new.online)
   pub tapes : OnlyReads rack new.rack
   pub tape_read : new.rack.read_faults ≡ rack.read_faults
   pub wrote : WroteFirst (count reply) disc new.online
@@ -70,6 +69,11 @@ abbrev pub StepsDown : {A : Type 0} → (State → Outcome → Result A StoreFau
 StepsDown by before disc rack NoMemory disc' rack' = DevicesStandFor disc'.size disc'.held (told_reels rack') before
 StepsDown by before disc rack fault disc' rack' = LeadsDown by before disc rack fault disc' rack'
 
+-- What these devices hold, after a store wasn't made: they represent a state that the step leaves, and belong together if the previous ones did.
+pub record LeavesDevices {A : Type 0} (given : Type 0) (by : State → Outcome → Result A StoreFault → State → Type 0) (disc : DiscState) (rack : Rack) (fault : StoreFault) (disc' : DiscState) (rack' : Rack) : Type 0 where
+  pub step : AllTold disc.held (told_reels rack) → given → (s : State) → DevicesStandFor disc.size disc.held (told_reels rack) s → StepsDown by s disc rack fault disc' rack'
+  pub belongs : AllTold disc.held (told_reels rack) → Belong disc.held rack → Belong disc'.held rack'
+
 -- The store isn't made, and the devices are returned.
 pub record Refuses {A : Type 0} (given : Type 0) (by : State → Outcome → Result A StoreFault → State → Type 0) (disc : DiscState) (rack : Rack) (fault : StoreFault) (disc' : DiscState) (rack' : Rack) : Type 0 where
   pub causes : Causes (fault ≡ DiscReadFault) (fault ≡ Stopped) disc disc'
@@ -78,9 +82,13 @@ pub record Refuses {A : Type 0} (given : Type 0) (by : State → Outcome → Res
   pub tape_read_only : (fault ≡ TapeReadFault → ⊥) → rack'.read_faults ≡ rack.read_faults
   pub held : fault ≢ Stopped → disc'.held ≡ disc.held
   pub writes : fault ≢ Stopped → disc'.writes ≡ disc.writes
+  -- so a power loss may leave nothing that it couldn't have left before
+  pub durable : fault ≢ Stopped → StayDurable disc disc'
   pub told : AllTold disc.held (told_reels rack) → AllTold disc'.held (told_reels rack')
   pub step : AllTold disc.held (told_reels rack) → given → (s : State) → DevicesStandFor disc.size disc.held (told_reels rack) s → StepsDown by s disc rack fault disc' rack'
   pub belongs : AllTold disc.held (told_reels rack) → Belong disc.held rack → Belong disc'.held rack'
+  -- after a failed write, the same of whatever a power loss leaves of the disc, if that was safe
+  pub survives : fault ≡ Stopped → IsDiscSafe disc → PowerLossLeaves (λ _ left. LeavesDevices given by disc rack fault (disc_left left disc') rack') disc disc'
 
 -- What a new filestore holds: two users and no file, no dump and no intent.
 abbrev pub new_holding : Holding
@@ -99,10 +107,11 @@ IsOfFormat NoMemory = Unit {0}
 IsOfFormat fault = ⊥
 
 -- FORMAT only requires that every reel is empty; it reports the first one that isn't, for every rack. Afterwards the disc
--- holds the new filestore, for any previous contents. This includes a disc and a rack that represented no state, such as a
--- disc that names files on reels that were emptied.
+-- holds the new filestore, which is durable, for any previous contents. This includes a disc and a rack that represented no
+-- state, such as a disc that names files on reels that were emptied.
 pub record Formats (disc : DiscState) (rack : Rack) (new : StoreFacts) : Type 0 where
   pub makes : Makes (Unit {0}) FormatStep (λ reply. 1) disc rack tt new
+  pub durable : IsDurable new.online
   pub empty : first_used rack.reels ≡ None
   pub holds : IsNew new.online.contents
 
@@ -133,6 +142,8 @@ IsOfStart fault = ⊥
 -- START made the store. The reel of its intent is mounted.
 pub record Begun (disc : DiscState) (rack : Rack) (adopted : Option ℕ) (new : StoreFacts) : Type 0 where
   pub makes : Makes (Belong disc.held rack) StartStep commits_of_start disc rack adopted new
+  -- if the disc was safe, the filestore is durable
+  pub durable : ForSome disc.held (λ _. IsDiscSafe disc → IsDurable new.online)
   pub intent : IfSome new.online.contents.head.intent (λ i. is_mounted (reel i.serial rack.reels) ≡ true)
   -- what the disc holds, unchanged or with the dump of its intent adopted, whether or not disc and rack belong together
   pub loaded : (o : OnlineFacts) × HasLoaded disc o × Takes o rack (Ok adopted) new.online
@@ -152,9 +163,10 @@ pub record RefusesStart (disc : DiscState) (rack : Rack) (fault : StoreFault) (d
 
 -- RESTORE also requires that disc and rack belong together, and that every reel is mounted; it reports the first one that
 -- isn't, for every rack. Whether or not disc and rack belong together, the disc then holds what the completed dumps of the
--- rack give, all of whose copies exist; and what is lost is named.
+-- rack give, all of whose copies exist, and is durable; and what is lost is named.
 pub record Restored (disc : DiscState) (rack : Rack) (number : ℕ) (new : StoreFacts) : Type 0 where
   pub makes : Makes (Belong disc.held rack) RestoreStep (λ n. 1) disc rack number new
+  pub durable : IsDurable new.online
   pub mounted : first_unmounted rack.reels ≡ None
   pub lost : LostIsNamed (told_reels rack) (Ok number)
   pub holds : IsRestored (told_reels rack) disc.held number new.online.contents

@@ -16,4 +16,4 @@ returns-in-Err-fresh-clause-refused g c =
     subst (λ f. RefusesFormat (g.D.Disc.state c.args.disc) (g.T.Tapes.rack c.args.tapes) f (g.D.Disc.state c.in-Err-fresh.disc) (g.T.Tapes.rack c.args.tapes)) (sym c.into.ensures)
     (format_refused (g.D.Disc.state c.args.disc) c.in-Ok.tree.users c.in-Ok.tree.files c.in-Ok.ensures.files c.in-Ok.ensures.tree (g.T.Tapes.rack c.args.tapes) (g.met.T.Tapes.well_formed c.args.tapes)
     c.in-None.ensures (g.D.Disc.state c.in-Err-fresh.disc) c.in-Err-fresh.fault
-    (record { stopped = c.in-Err-fresh.ensures.stopped; same = c.in-Err-fresh.ensures.same; causes = c.in-Err-fresh.ensures.causes; safe = c.in-Err-fresh.ensures.safe; survives = c.in-Err-fresh.ensures.survives; only = c.in-Err-fresh.ensures.only }))
+    (record { stopped = c.in-Err-fresh.ensures.stopped; same = c.in-Err-fresh.ensures.same; causes = c.in-Err-fresh.ensures.causes; durable = c.in-Err-fresh.ensures.durable; safe = c.in-Err-fresh.ensures.safe; survives = c.in-Err-fresh.ensures.survives; only = c.in-Err-fresh.ensures.only }))

@@ -25,6 +25,7 @@ returns-in-Err-clause-refused g c =
       same = c.in-Err.ensures.same;
       causes = c.in-Err.ensures.causes;
       safe = c.in-Err.ensures.safe;
+      durable = c.in-Err.ensures.disc_durable;
       only = c.in-Err.ensures.only;
       belongs = c.in-Err.ensures.belongs_refused;
       found = c.in-Err.ensures.found;
