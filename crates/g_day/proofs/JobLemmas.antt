@@ -16,6 +16,7 @@ use Rattle.g_store_meaning.specs.Reading.{DevicesStandFor, StandsForState, open_
 use Rattle.g_store_meaning.specs.Meaning.{told_reels}
 use Rattle.g_store_meaning.specs.StoreInvariant.{DumpFacts, StoreFacts}
 use Rattle.g_store_calls.proofs.SeenLemmas.{seen as seen_of}
+use Rattle.g_laws_power.proofs.DeviceLemmas.{stops_leave_safe}
 use Rattle.g_script.specs.declared.operator.Operator.{Operator}
 use Rattle.g_script.specs.declared.operator.Operator.TheVariants as line
 use Rattle.g_run_model.specs.Devices.{Devices}
@@ -242,6 +243,7 @@ module _ (s : StoreFacts) (c : CrewState) (ready : IsReady (Up s) c) (count : �
     fuses = tt;
     same = same_itself (devices_in (Up s));
     belongs = λ is. record { told = is.0; belong = is.1.devices };
+    safe = stops_leave_safe.down s;
     dumps = λ is. grow_itself s.rack;
     cause = puts.cause;
     grows = puts_grown puts;

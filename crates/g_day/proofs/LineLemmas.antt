@@ -73,6 +73,7 @@ quiet_line what no_disc no_tape f c c' count failure added before after faults f
   fuses = no_fuse what no_disc no_tape (devices_in f);
   same = same_itself (devices_in f);
   belongs = λ is. is;
+  safe = λ is. is;
   dumps = λ is. grown_by (is_process what) (devices_in f).rack (devices_in f).rack (grow_itself (devices_in f).rack);
   cause = puts.cause;
   grows = puts_grown puts;
@@ -123,6 +124,7 @@ untried_line what no_disc no_tape old new c count same ready failure is text fau
       fuses = no_fuse what no_disc no_tape (devices_in old);
       same = same_itself (devices_in old);
       belongs = λ is. is;
+      safe = λ is. is;
       dumps = λ is. grown_by (is_process what) (devices_in old).rack (devices_in old).rack (grow_itself (devices_in old).rack);
       cause = refl;
       grows = same_grown text text refl;

@@ -13,10 +13,14 @@ use Rattle.g_store_model.specs.CallStep.{Outcome, Plain, commits, stamp_of}
 use Rattle.g_store_model.specs.DumpSteps.{Event, MigrateStep, OpenStep, migrate_refuses, open_refuses, opening}
 use Rattle.g_store_meaning.specs.Answers.{Belongs, HasCause, IsStore, Told}
 use Rattle.g_store_meaning.specs.Reading.{StandsForState}
+use Rattle.g_store_meaning.specs.Safety.{AreSafe, IsSafe}
 use Rattle.g_store_meaning.specs.StoreInvariant.{StoreFacts}
+use Rattle.g_store.specs.Dumping.{OpensDump}
 use Rattle.g_store.specs.Events.{AnswersEvent, LeadsBy, Migrates, Opens, StepsBy}
 use Rattle.g_store.proofs.ArmLemmas.{spent_stands}
 use Rattle.g_store_calls.proofs.SeenLemmas.{seen as seen_of}
+use Rattle.g_laws_power.proofs.DeviceLemmas.{stops_leave_safe}
+use Rattle.g_laws_power.proofs.EventLemmas.{events_keep_safe}
 use Rattle.g_script.specs.declared.operator.Operator.{Operator}
 use Rattle.g_script.specs.declared.operator.Operator.TheVariants as line
 use Rattle.g_run_model.specs.Devices.{Devices}
@@ -30,7 +34,7 @@ use Rattle.g_job_table.specs.Crew.{CrewState}
 use Rattle.g_day.specs.declared.progress.Failure.{Failure}
 use Rattle.g_day.specs.Parts.{ArmsBy, DidLine, DoesLine, DumpsBy, IsReady, CountedBy, Matches, Seen, disc_arms, seen, tape_arms}
 use Rattle.g_day.specs.Puts.{Puts}
-use Rattle.g_day.specs.System.{Down, StandsAs, SystemBelongs, SystemFacts, Up, devices_in, SameDevices}
+use Rattle.g_day.specs.System.{Down, StandsAs, SystemBelongs, SystemFacts, SystemSafe, Up, devices_in, SameDevices}
 use Rattle.g_day.specs.Telling.{TellsFault, refusal_text, system_after}
 use Rattle.g_day.proofs.ByLemmas.{grown_by}
 use Rattle.g_day.proofs.CauseLemmas.{OfDisc, counted_by, same_caused}
@@ -65,10 +69,14 @@ pub record Went {A : Type 0} (by : State → Holding → Outcome → Result A St
   pub keeps : IsStore new
   pub told : Told old → Told new
   pub belongs : Told old → Belongs old → Belongs new
+  pub safe : IsSafe old → (answer ≡ Err Stopped → ⊥) → IsSafe new
+  pub stopped : IsSafe old → answer ≡ Err Stopped → AreSafe new.online.disc new.rack
   pub spent : (new.spent ≡ true) ↔ (answer ≡ Err Stopped)
 
-went : {A : Type 0} (by : State → Holding → Outcome → Result A StoreFault → State → Type 0) (count_of : A → ℕ) (old new : StoreFacts) (answer : Result A StoreFault) → AnswersEvent by count_of old answer new → Went by old answer new
-went by count_of old new answer event = record { step = event.step; keeps = event.keeps; told = event.told; belongs = event.belongs; spent = event.spent }
+went : {A : Type 0} (by : State → Holding → Outcome → Result A StoreFault → State → Type 0) (count_of : A → ℕ) (old new : StoreFacts) (answer : Result A StoreFault) → AnswersEvent by count_of old answer new
+    → (IsSafe old → (answer ≡ Err Stopped → ⊥) → IsSafe new) → (IsSafe old → answer ≡ Err Stopped → AreSafe new.online.disc new.rack) → Went by old answer new
+went by count_of old new answer event safe stopped =
+    record { step = event.step; keeps = event.keeps; told = event.told; belongs = event.belongs; safe = safe; stopped = stopped; spent = event.spent }
 
 -- what it makes of the devices: what they counted, that none was armed, that they are the same, and what happened to
 -- completed dumps
@@ -156,6 +164,7 @@ module _ {A : Type 0} (what : Operator) (by : State → Holding → Outcome → 
       fuses = no_fuse what no_disc no_tape (devices_in (Up new));
       same = cause.same;
       belongs = λ is. (event.told is.0, event.belongs is.0 is.1);
+      safe = λ is. event.safe is (λ e. let no : ⊥ = cc in no);
       dumps = cause.dumps;
       cause = puts.cause;
       grows = puts_grown puts;
@@ -218,6 +227,10 @@ module _ {A : Type 0} (what : Operator) (by : State → Holding → Outcome → 
     belongs_by Stopped is was = record { told = event.told was.0; belong = (event.belongs was.0 was.1).devices }
     belongs_by f is was = (event.told was.0, event.belongs was.0 was.1)
 
+    safe_by : (f : StoreFault) → f ≡ fault → SystemSafe (Up old) → SystemSafe (system_after f new)
+    safe_by Stopped is was = event.stopped was (ap Err (sym is))
+    safe_by f is was = event.safe was (λ e. let no : ⊥ = cc in no)
+
     pub fault_line : (failure : Option Failure) (c' : CrewState) (before_text after : Option (List ℕ)) (faults faults' : ℕ) → TellsFault fault count c failure c' before_text after faults faults'
         → DidLine what before failure (seen system c' count) before_text after faults faults'
     fault_line failure c' before_text after faults faults' tells =
@@ -232,6 +245,7 @@ module _ {A : Type 0} (what : Operator) (by : State → Holding → Outcome → 
           fuses = no_fuse what no_disc no_tape (devices_in system);
           same = subst (λ (d : Devices). SameDevices (devices_in (Up old)) d) (sym (same_devices fault new)) cause.same;
           belongs = belongs_by fault refl;
+          safe = safe_by fault refl;
           dumps = λ is. subst (λ (d : Devices). DumpsBy (is_process what) old.rack d.rack) (sym (same_devices fault new)) (cause.dumps is);
           cause = both.1;
           grows = told_grown fault count c failure c' before_text after faults faults' tells;
@@ -258,31 +272,41 @@ down_line {A = A} what by said lifts no_disc no_tape d c count ready failure bef
 
 -- DUMP AND MIGRATE on a store that is up
 module _ (serial : ℕ) (old new : StoreFacts) (c : CrewState) (ready : IsReady (Up old) c) (count : ℕ) where
-  pub opened_line : (number : ℕ) → Opens serial old (Ok number) new → (failure : Option Failure) (before_text after : Option (List ℕ)) (faults faults' : ℕ)
+  went_open : (answer : Result ℕ StoreFault) → Opens serial old answer new → OpensDump serial old answer new → Went (λ s k o a n. OpenStep s k serial o a n) old answer new
+  went_open answer is begins =
+      went (λ s k o a n. OpenStep s k serial o a n) (λ n. 1) old new answer is.event (λ safe other. events_keep_safe.opening serial old new answer safe is begins other)
+      (λ safe e. stops_leave_safe.opening serial old new safe (subst (λ (a : Result ℕ StoreFault). Opens serial old a new) e is))
+
+  pub opened_line : (number : ℕ) → Opens serial old (Ok number) new → OpensDump serial old (Ok number) new → (failure : Option Failure) (before_text after : Option (List ℕ)) (faults faults' : ℕ)
       → Puts failure (operator_line count (dump_text number (codes "OPENED"))) before_text after faults faults' → DidLine (line.Dump serial) (seen (Up old) c count) failure (seen (Up new) c count) before_text after faults faults'
-  opened_line number is failure before_text after faults faults' puts =
+  opened_line number is begins failure before_text after faults faults' puts =
       granted_line (line.Dump serial) (λ s k o a n. OpenStep s k serial o a n) (λ n. dump_text n (codes "OPENED")) (λ o w next it. it) refl refl (λ s k o r u step. open_told s k serial o r u step) old new ready.0 c count
-      number (went (λ s k o a n. OpenStep s k serial o a n) (λ n. 1) old new (Ok number) is.event) (caused (line.Dump serial) (λ o d e it. it) old new (Ok number) is.cause) failure before_text after faults faults' puts
+      number (went_open (Ok number) is begins) (caused (line.Dump serial) (λ o d e it. it) old new (Ok number) is.cause) failure before_text after faults faults' puts
 
   pub unopened_line : (fault : StoreFault) → Opens serial old (Err fault) new → (failure : Option Failure) (c' : CrewState) (before_text after : Option (List ℕ)) (faults faults' : ℕ)
       → TellsFault fault count c failure c' before_text after faults faults' → DidLine (line.Dump serial) (seen (Up old) c count) failure (seen (system_after fault new) c' count) before_text after faults faults'
   unopened_line fault is failure c' before_text after faults faults' tells =
       fault_line (line.Dump serial) (λ s k o a n. OpenStep s k serial o a n) (λ n. dump_text n (codes "OPENED")) (λ o w next it. it) refl refl (λ s k o r u step. open_told s k serial o r u step) old new ready.0 c count
-      fault (went (λ s k o a n. OpenStep s k serial o a n) (λ n. 1) old new (Err fault) is.event) (caused (line.Dump serial) (λ o d e it. it) old new (Err fault) is.cause) (λ s k o u step. stop_down (open_refuses s k serial o) (k.last + 1) s (opening s k serial step.0) u step.2) failure c' before_text after faults faults' tells
+      fault (went_open (Err fault) is tt) (caused (line.Dump serial) (λ o d e it. it) old new (Err fault) is.cause) (λ s k o u step. stop_down (open_refuses s k serial o) (k.last + 1) s (opening s k serial step.0) u step.2) failure c' before_text after faults faults' tells
 
 module _ (path : Path) (old new : StoreFacts) (c : CrewState) (ready : IsReady (Up old) c) (count : ℕ) where
+  went_migrate : (answer : Result Full StoreFault) → Migrates path old answer new → Went (λ s k o a n. MigrateStep s k path.user (input_name k.tree [] path) o a n) old answer new
+  went_migrate answer is =
+      went (λ s k o a n. MigrateStep s k path.user (input_name k.tree [] path) o a n) (λ f. 1) old new answer is.event (λ safe other. events_keep_safe.migrating path old new answer safe is other)
+      (λ safe e. stops_leave_safe.migrating path old new safe (subst (λ (a : Result Full StoreFault). Migrates path old a new) e is))
+
   pub migrated_line : (full : Full) → Migrates path old (Ok full) new → (failure : Option Failure) (before_text after : Option (List ℕ)) (faults faults' : ℕ)
       → Puts failure (operator_line count (codes "MIGRATED " ++ full_text full)) before_text after faults faults' → DidLine (line.Migrate path) (seen (Up old) c count) failure (seen (Up new) c count) before_text after faults faults'
   migrated_line full is failure before_text after faults faults' puts =
       granted_line (line.Migrate path) (λ s k o a n. MigrateStep s k path.user (input_name k.tree [] path) o a n) (λ f. codes "MIGRATED " ++ full_text f) (λ o w next it. it) refl refl
-      (λ s k o r u step. migrate_told s k path.user (input_name k.tree [] path) o r u step) old new ready.0 c count full (went (λ s k o a n. MigrateStep s k path.user (input_name k.tree [] path) o a n) (λ f. 1) old new (Ok full) is.event)
+      (λ s k o r u step. migrate_told s k path.user (input_name k.tree [] path) o r u step) old new ready.0 c count full (went_migrate (Ok full) is)
       (caused (line.Migrate path) (λ o d e it. it) old new (Ok full) is.cause) failure before_text after faults faults' puts
 
   pub unmigrated_line : (fault : StoreFault) → Migrates path old (Err fault) new → (failure : Option Failure) (c' : CrewState) (before_text after : Option (List ℕ)) (faults faults' : ℕ)
       → TellsFault fault count c failure c' before_text after faults faults' → DidLine (line.Migrate path) (seen (Up old) c count) failure (seen (system_after fault new) c' count) before_text after faults faults'
   unmigrated_line fault is failure c' before_text after faults faults' tells =
       fault_line (line.Migrate path) (λ s k o a n. MigrateStep s k path.user (input_name k.tree [] path) o a n) (λ f. codes "MIGRATED " ++ full_text f) (λ o w next it. it) refl refl
-      (λ s k o r u step. migrate_told s k path.user (input_name k.tree [] path) o r u step) old new ready.0 c count fault (went (λ s k o a n. MigrateStep s k path.user (input_name k.tree [] path) o a n) (λ f. 1) old new (Err fault) is.event)
+      (λ s k o r u step. migrate_told s k path.user (input_name k.tree [] path) o r u step) old new ready.0 c count fault (went_migrate (Err fault) is)
       (caused (line.Migrate path) (λ o d e it. it) old new (Err fault) is.cause)
       (λ s k o u step. stop_down (migrate_refuses k path.user (input_name k.tree [] path) o) (input_name k.tree [] path) s
       (commits s (record k { places = with_online false (stamp_of k.tree (input_name k.tree [] path)) k.places })) u step) failure c' before_text after faults faults' tells

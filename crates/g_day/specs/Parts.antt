@@ -18,7 +18,7 @@ use Rattle.g_job_table.specs.Crew.{CrewState, IsCrewOf}
 use Rattle.g_job_table.specs.Numbers.{AreOpen}
 use Rattle.g_day.specs.declared.progress.Failure.{Failure}
 use Rattle.g_day.specs.Puts.{FaultCause, HasGrown}
-use Rattle.g_day.specs.System.{Down, DumpsGrow, SameDevices, StandsAs, SystemBelongs, SystemFacts, Up, devices_in}
+use Rattle.g_day.specs.System.{Down, DumpsGrow, SameDevices, StandsAs, SystemBelongs, SystemFacts, SystemSafe, Up, devices_in}
 
 -- What a run has at hand.
 pub record Seen : Type 0 where
@@ -106,8 +106,12 @@ FusesBy (line.StopDisc k) d = d.disc.fuse ≡ Some k
 FusesBy (line.StopTape k) d = d.rack.fuse ≡ Some k
 FusesBy what d = Unit {0}
 
--- A part of a run that does a line.
-pub record DidLine (what : Operator) (old : Seen) (failure : Option Failure) (new : Seen) (before after : Option (List ℕ)) (faults faults' : ℕ) : Type 0 where
+-- A safe system stays safe: whatever a power loss leaves of it later, a safe store can be made of that.
+abbrev pub KeepsSafe : SystemFacts → SystemFacts → Type 0
+KeepsSafe old new = SystemSafe old → SystemSafe new
+
+-- A part of a run that does a line. `Keeps` is what holds of the system before and after it besides.
+pub record DidLineBy (Keeps : SystemFacts → SystemFacts → Type 0) (what : Operator) (old : Seen) (failure : Option Failure) (new : Seen) (before after : Option (List ℕ)) (faults faults' : ℕ) : Type 0 where
   pub goes : LineGoes what old failure new before after
   pub ready : IsReady new.system new.crew
   pub crew : failure ≡ None → LeavesCrew old.crew new.crew
@@ -116,6 +120,11 @@ pub record DidLine (what : Operator) (old : Seen) (failure : Option Failure) (ne
   pub fuses : FusesBy what (devices_in new.system)
   pub same : SameDevices (devices_in old.system) (devices_in new.system)
   pub belongs : SystemBelongs old.system → SystemBelongs new.system
+  pub safe : Keeps old.system new.system
   pub dumps : SystemBelongs old.system → DumpsBy (is_process what) (devices_in old.system).rack (devices_in new.system).rack
   pub cause : FaultCause failure faults faults'
   pub grows : HasGrown before after
+
+-- A part of a run that does a line, and keeps a safe system safe.
+abbrev pub DidLine : Operator → Seen → Option Failure → Seen → Option (List ℕ) → Option (List ℕ) → ℕ → ℕ → Type 0
+DidLine what old failure new before after faults faults' = DidLineBy KeepsSafe what old failure new before after faults faults'

@@ -9,6 +9,7 @@ use Rattle.g_store_model.specs.State.{State}
 use Rattle.g_store_meaning.specs.Meaning.{told_reels}
 use Rattle.g_store_meaning.specs.Belonging.{Belong}
 use Rattle.g_store_meaning.specs.Reading.{AllTold, StandsForState}
+use Rattle.g_store_meaning.specs.Safety.{AreSafe, IsSafe}
 use Rattle.g_store_meaning.specs.Answers.{Belongs, Told}
 use Rattle.g_store_meaning.specs.StoreInvariant.{StoreFacts}
 use Rattle.g_run_model.specs.Devices.{AreReadAs, Devices}
@@ -74,3 +75,9 @@ pub record BelongTogether (d : Devices) : Type 0 where
 abbrev pub SystemBelongs : SystemFacts → Type 0
 SystemBelongs (Up s) = Told s × Belongs s
 SystemBelongs (Down d) = BelongTogether d
+
+-- The system is safe from a power loss: its store is safe if it is up. If it is down, a safe store can be made on its devices
+-- as they are, and on whatever a power loss leaves of them.
+abbrev pub SystemSafe : SystemFacts → Type 0
+SystemSafe (Up s) = IsSafe s
+SystemSafe (Down d) = AreSafe d.disc d.rack

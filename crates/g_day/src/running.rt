@@ -12,7 +12,7 @@ ghost use Rattle.g_store_meaning.specs.Reading.{DevicesStandFor, StandsForState}
 ghost use Rattle.g_dumper.specs.Steps.{stepped_of};
 ghost use Rattle.g_process.specs.Processing.{Processes};
 ghost use Rattle.g_store.specs.Arming.{MeansTheSame};
-ghost use Rattle.g_store.specs.Dumping.{KeepsDumps, OpensDump, Progresses, RefusesDump, StepsAs};
+ghost use Rattle.g_store.specs.Dumping.{KeepsDumps, KeepsDumpsSafe, OpensDump, Progresses, RefusesDump, StepsAs};
 ghost use Rattle.g_store.specs.Events.{Migrates, Mounts, Opens, StepsDump, Unmounts};
 ghost use Rattle.g_store.specs.Processing.{MovesDumps, StepsProcess};
 
@@ -223,6 +223,7 @@ impl<D: Disc, T: Tapes> Running<D, T> {
         ensures steps { StepsAs self.old (stepped_of result) self.new }
         ensures progress { Progresses self.old (stepped_of result) self.new }
         ensures dumps { KeepsDumps self.old (stepped_of result) self.new }
+        ensures safe { KeepsDumpsSafe self.old (stepped_of result) self.new }
     {
         match &mut *self.store {
             Some(store) => store.dump_step(),

@@ -81,7 +81,7 @@ module _ {A : Type 0} (by : By A) (count : A → ℕ) (old new : StoreFacts) (sa
 
 -- A REEL THAT IS MOUNTED OR UNMOUNTED keeps its blocks
 module _ (s : ℕ) (is : Bool) (old : Rack) where
-  same_blocks : (n : ℕ) → blocks_of n (changed s (with_mounted is) old) ≡ blocks_of n old
+  pub same_blocks : (n : ℕ) → blocks_of n (changed s (with_mounted is) old) ≡ blocks_of n old
   same_blocks n = by (cases_eq n s)
     where
       mounted_blocks : (o : Option Reel) → blocks_in (option_map (with_mounted is) o) ≡ blocks_in o
@@ -93,7 +93,7 @@ module _ (s : ℕ) (is : Bool) (old : Rack) where
           (ap blocks_in (reel-with_reel s (with_mounted is) (λ r. refl) old.reels) ∙ mounted_blocks (reel s old.reels))
       by (inr apart) = ap blocks_in (reel-with_reel_other s n (with_mounted is) (λ r. refl) (λ e. apart (sym e)) old.reels)
 
-  no_more : LeavesNoMore old (changed s (with_mounted is) old)
+  pub no_more : LeavesNoMore old (changed s (with_mounted is) old)
   no_more = record { leaves = λ n left may blocks at. may blocks (same_blocks n ∙ at); syncable = λ n able. able }
 
   mounted_safe : {A : Type 0} (by : By A) (count : A → ℕ) (store : StoreFacts) (answer : Result A StoreFault) → store.rack ≡ old → IsSafe store

@@ -4,7 +4,7 @@
 use Rattle.std.proofs.Common.{◌≡◌, ◌<◌, ℕ, true, false, Bool, List, [], ◌∷◌, Option, Some, None, map, find, nat_lt, option_map, refl, sym, ◌∙◌, ap, subst, inl, inr}
 use Rattle.std.specs.Prelude.{All, Result, Ok, Err, IfOk, codes, replicate, if◌then◌else◌}
 use Rattle.std.specs.List.{AllByRecursion}
-use Rattle.std.proofs.lemmas.List.Elements.{All-from_recursion, All-map, All-weaker, recursion_from_All}
+use Rattle.std.proofs.lemmas.List.Elements.{All-weaker, recursion_from_All}
 use Rattle.std.proofs.lemmas.Option.{none-some}
 use Rattle.g_disc.specs.Disc.{Causes, DiscState}
 use Rattle.g_tape.specs.Rack.{Mounting, Rack, changed}
@@ -24,7 +24,7 @@ use Rattle.g_store_model.specs.DumpSteps.{Event}
 use Rattle.g_store_model.specs.Rising.{FormatStep, coming_up, fault_from}
 use Rattle.g_store_model.specs.State.{State, first_reel}
 use Rattle.g_store.proofs.MountLemmas.{told_after, told_turned, turned}
-use Rattle.g_store.specs.Making.{Formats, IsOfFormat, Refuses, RefusesFormat, StepsDown}
+use Rattle.g_store.specs.Making.{Formats, IsOfFormat, RefusesFormat, StepsDown}
 use Rattle.g_store.specs.Refusing.{first_used}
 use Rattle.g_script.specs.declared.operator.Operator.{Operator}
 use Rattle.g_script.specs.declared.operator.Operator.TheVariants as line
@@ -39,18 +39,37 @@ use Rattle.g_job_table.specs.Crew.{CrewState}
 use Rattle.g_day.specs.declared.progress.Failure.{Failure}
 use Rattle.g_operator.specs.declared.rising.Rise.{Rise}
 use Rattle.g_operator.specs.declared.rising.Rise.TheVariants as rise
-use Rattle.g_day.specs.BeginningAnew.{AnewLine, GoesFirst, WentAside}
+use Rattle.g_day.specs.BeginningAnew.{AnewLine, GoesFirst, NoClaim, WentAside}
 use Rattle.g_operator.specs.Arming.{disc_armed, tape_armed}
 use Rattle.g_day.specs.Opening.{Opens}
-use Rattle.g_day.specs.Parts.{DidLine, IsReady, Seen, seen}
+use Rattle.g_day.specs.Parts.{DidLine, DidLineBy, IsReady, Seen, seen}
 use Rattle.g_day.specs.Puts.{Puts}
 use Rattle.g_operator.specs.Rising.{MakesNone, Raises, line_of}
 use Rattle.g_day.specs.System.{Down, Up}
 use Rattle.g_day.specs.Telling.{TellsFault}
 use Rattle.g_operator.proofs.DownLemmas.{down_same}
 use Rattle.g_day.proofs.LabelLemmas.{parts_with}
-use Rattle.g_operator.proofs.RiseLemmas.{CameUp, comes_up, format_down, not_made}
+use Rattle.g_operator.proofs.RiseLemmas.{CameUp, NotMade, comes_up, format_down, not_made}
+use Rattle.g_operator.proofs.SafeLemmas.{all_by}
 use Rattle.g_operator.proofs.WayLemmas.{unrisen_line}
+
+-- a line that keeps a safe system safe, without that
+unclaimed : (what : Operator) (old : Seen) (failure : Option Failure) (new : Seen) (before after : Option (List ℕ)) (faults faults' : ℕ) → DidLine what old failure new before after faults faults'
+    → DidLineBy NoClaim what old failure new before after faults faults'
+unclaimed what old failure new before after faults faults' did = record {
+  goes = did.goes;
+  ready = did.ready;
+  crew = did.crew;
+  arms = did.arms;
+  count = did.count;
+  fuses = did.fuses;
+  same = did.same;
+  belongs = did.belongs;
+  safe = tt;
+  dumps = did.dumps;
+  cause = did.cause;
+  grows = did.grows;
+}
 
 -- what a disc counts has its causes, for any contents before and after
 causes_beside : {P Q : Type 0} (old new : DiscState) (a b : Option (List (List ℕ))) → Causes P Q old new → Causes P Q (record old { held = a }) (record new { held = b })
@@ -60,16 +79,6 @@ causes_beside old new a b is =
 -- devices for starting over stay so when a reel is mounted or unmounted, or a device armed
 blank_rack : (d : Devices) (rack : Rack) → rack ≡ d.rack → AreBlank d → (let e : Devices = record d { rack = rack } in AreBlank e)
 blank_rack d rack is blank = subst (λ (r : Rack). let e : Devices = record d { rack = r } in AreBlank e) (sym is) blank
-
--- what is so of a part of each reel is so of each, by that part
-all_parts : {X : Type 0} (P : X → Type 0) (part : Reel → X) (reels : List Reel) → AllByRecursion P (map part reels) → AllByRecursion (λ (r : Reel). P (part r)) reels
-all_parts P part [] all = tt
-all_parts P part (r ∷ reels) all = (all.0, all_parts P part reels all.1)
-
-all_by : {X : Type 0} (P : X → Type 0) (part : Reel → X) (old new : List Reel) → map part new ≡ map part old → All (λ (r : Reel). P (part r)) old → All (λ (r : Reel). P (part r)) new
-all_by {X = X} P part old new same all =
-    All-from_recursion (λ (r : Reel). P (part r)) new
-    (all_parts P part new (subst (λ (xs : List X). AllByRecursion P xs) (sym same) (recursion_from_All P (map part old) (All-map P part old all))))
 
 blank_turned : (s : ℕ) (is : Bool) (d : Devices) → AreBlank d → (let e : Devices = record d { rack = changed s (with_mounted is) d.rack } in AreBlank e)
 blank_turned s is d blank =
@@ -199,14 +208,12 @@ module _ (d e : Devices) (more : 2177 < d.disc.size) (blank : AreBlank d) where
   steps_beside NoMemory of is s reads = left_beside NoMemory is s reads
   steps_beside fault of is s reads = absurd of
 
-  refuses_beside : (fault : StoreFault) → RefusesFormat d.disc d.rack fault e.disc e.rack → Refuses (Unit {0}) FormatStep (with_new_disc d).disc d.rack fault (with_new_disc e).disc e.rack
+  refuses_beside : (fault : StoreFault) → RefusesFormat d.disc d.rack fault e.disc e.rack → NotMade (Unit {0}) FormatStep (with_new_disc d).disc d.rack fault (with_new_disc e).disc e.rack
   refuses_beside fault is = record {
     causes = causes_beside d.disc e.disc (with_new_disc d).disc.held (with_new_disc e).disc.held is.refuses.causes;
     tapes = is.refuses.tapes;
     tape_read = is.refuses.tape_read;
     tape_read_only = is.refuses.tape_read_only;
-    held = λ other. ap (λ (n : ℕ). Some (replicate n (replicate 512 0))) is.refuses.causes.size;
-    writes = is.refuses.writes;
     told = λ told. record { disc = refl; each = (is.refuses.told blank.told).each };
     step = λ told given s reads. steps_beside fault is.only is s reads;
     belongs = λ told belong.
@@ -224,7 +231,7 @@ module _ (disc : DiscState) (rack : Rack) (c : CrewState) (count : ℕ) (ready :
       → GoesFirst line.Format (seen (Down devices) c count) failure (seen (Up new) c' count) before after faults faults'
   risen_format new is opens puts blank = inr (
       comes_up line.Format (Unit {0}) FormatStep (λ r. codes "FORMATTED") (λ o w next it. it) (λ o d e it. it) refl refl (with_new_disc devices).disc rack c count (λ it. tt) tt new
-      (came_anew devices blank ready.0 new is) ready.3 c' failure before after faults faults' opens puts)
+      (came_anew devices blank ready.0 new is) ready.3 c' NoClaim tt failure before after faults faults' opens puts)
 
   refused_format : (fault : StoreFault) (disc' : DiscState) (rack' : Rack) → IsOfFormat fault → RefusesFormat disc rack fault disc' rack' → TellsFault fault count c failure c' before after faults faults'
       → (let e : Devices = record { disc = disc'; rack = rack' } in failure ≡ None → AreBlank devices → NoDiscFault devices e → ⊥)
@@ -236,19 +243,19 @@ module _ (disc : DiscState) (rack : Rack) (c : CrewState) (count : ℕ) (ready :
 
   unformatted_beside : (fault : StoreFault) (disc' : DiscState) (rack' : Rack) → RefusesFormat disc rack fault disc' rack' → AreBlank devices → TellsFault fault count c failure c' before after faults faults'
       → (let e : Devices = record { disc = disc'; rack = rack' } in
-      DidLine line.Format (seen (Down (with_new_disc devices)) c count) failure (seen (Down (with_new_disc e)) c' count) before after faults faults')
+      DidLineBy NoClaim line.Format (seen (Down (with_new_disc devices)) c count) failure (seen (Down (with_new_disc e)) c' count) before after faults faults')
   unformatted_beside fault disc' rack' is blank tells =
       let e : Devices = record { disc = disc'; rack = rack' } in
       not_made line.Format (Unit {0}) FormatStep (λ r. codes "FORMATTED") (λ o w next it. it) (λ o d e it. it) refl refl (with_new_disc devices).disc rack c count (λ it. tt) fault (with_new_disc e).disc rack'
       (refuses_beside devices e ready.0 blank fault is)
-      (λ s o u step. format_told s o (Err fault) u step) (format_down fault) failure c' before after faults faults' ready tells
+      (λ s o u step. format_told s o (Err fault) u step) (format_down fault) NoClaim tt failure c' before after faults faults' ready tells
 
   unrisen_format : (fault : StoreFault) (disc' : DiscState) (rack' : Rack) → MakesNone rise.Format disc rack fault disc' rack' → TellsFault fault count c failure c' before after faults faults'
       → (let e : Devices = record { disc = disc'; rack = rack' } in GoesFirst line.Format (seen (Down devices) c count) failure (seen (Down e) c' count) before after faults faults')
   unrisen_format fault disc' rack' (inl (is, same_disc, same_rack)) tells blank = inl (record {
-    went = unrisen_line (with_new_disc devices).disc rack c count ready failure c' before after faults faults' rise.Format fault
+    went = unclaimed line.Format (seen (Down (with_new_disc devices)) c count) failure _ before after faults faults' (unrisen_line (with_new_disc devices).disc rack c count ready failure c' before after faults faults' rise.Format fault
         (with_new_disc (let e : Devices = record { disc = disc'; rack = rack' } in e)).disc rack'
-        (inl (is, ap (λ (x : DiscState). let e : Devices = record { disc = x; rack = rack' } in (with_new_disc e).disc) same_disc, same_rack)) tells;
+        (inl (is, ap (λ (x : DiscState). let e : Devices = record { disc = x; rack = rack' } in (with_new_disc e).disc) same_disc, same_rack)) tells);
     blank = subst (λ (x : DiscState). let e : Devices = record { disc = x; rack = rack' } in AreBlank e) (sym same_disc) (blank_rack devices rack' same_rack blank);
     unwell = λ none same well.
         let (failed, crew, text, still) = subst (λ (f : StoreFault). TellsFault f count c failure c' before after faults faults') is tells in absurd (let no : ⊥ = cc in no);
@@ -295,7 +302,7 @@ same_aside {what = what} {failure = failure} {new = new} {before = before} {afte
 -- any line on devices for starting over
 aside_first : (what : Operator) (old : Seen) (failure : Option Failure) (new : Seen) (before after : Option (List ℕ)) (faults faults' : ℕ)
     → (what ≡ line.Format → ⊥) → WentAside what old failure new before after faults faults' → GoesFirst what old failure new before after faults faults'
-aside_first what old failure new before after faults faults' isnt went blank = inl (record { went = went.line; blank = went.blank blank; unwell = λ none same well. isnt same })
+aside_first what old failure new before after faults faults' isnt went blank = inl (record { went = unclaimed what _ failure _ before after faults faults' went.line; blank = went.blank blank; unwell = λ none same well. isnt same })
 
 pub first_line : (what : Operator) → is_first what ≡ true → (old : Seen) (failure : Option Failure) (new : Seen) (before after : Option (List ℕ)) (faults faults' : ℕ)
     → AnewLine what old failure new before after faults faults' → GoesFirst what old failure new before after faults faults'

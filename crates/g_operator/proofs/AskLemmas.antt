@@ -11,7 +11,7 @@ use Rattle.g_store_model.specs.State.{Holding, State}
 use Rattle.g_store_model.specs.CallStep.{Outcome}
 use Rattle.g_store_model.specs.DumpSteps.{MigrateStep, OpenStep}
 use Rattle.g_store_model.specs.Process.{ProcessStep}
-use Rattle.g_store.specs.Events.{Migrates, Opens}
+use Rattle.g_store.specs.Events.{Migrates}
 use Rattle.g_script.specs.declared.operator.Operator.{Operator}
 use Rattle.g_script.specs.declared.operator.Operator.TheVariants as line
 use Rattle.g_run_model.specs.Devices.{Devices}
@@ -21,7 +21,7 @@ use Rattle.g_run_model.specs.Texts.{dump_text, operator_line, processed_text}
 use Rattle.g_run_model.specs.World.{World}
 use Rattle.g_job_table.specs.Crew.{CrewState}
 use Rattle.g_day.specs.declared.progress.Failure.{Failure}
-use Rattle.g_operator.specs.Asking.{AsksOf, Processed}
+use Rattle.g_operator.specs.Asking.{AsksOf, Opened, Processed}
 use Rattle.g_day.specs.Parts.{DidLine, IsReady, disc_arms, seen, tape_arms}
 use Rattle.g_day.specs.Puts.{Puts}
 use Rattle.g_store_meaning.specs.StoreInvariant.{StoreFacts}
@@ -73,10 +73,10 @@ refused_by asked (Down d) (Down e) c count ready fault is failure c' before afte
     let (err, same) = is in asked.down d e c c' count ready fault err same failure before after faults faults' tells
 
 -- DUMP, PROCESS and MIGRATE
-pub opens_line : (serial : ℕ) → AsksBy (line.Dump serial) (λ s answer t. Opens serial s answer t) (λ n. dump_text n (codes "OPENED"))
+pub opens_line : (serial : ℕ) → AsksBy (line.Dump serial) (λ s answer t. Opened serial s answer t) (λ n. dump_text n (codes "OPENED"))
 opens_line serial = record {
-  granted = λ s t c ready count. opened_line serial s t c ready count;
-  refused = λ s t c ready count. unopened_line serial s t c ready count;
+  granted = λ s t c ready count number is. opened_line serial s t c ready count number is.opens is.begins;
+  refused = λ s t c ready count fault is. unopened_line serial s t c ready count fault is.opens;
   down = down_asked (line.Dump serial) (λ s k o a n. OpenStep s k serial o a n) (λ n. dump_text n (codes "OPENED")) (λ o w next it. it) refl refl;
 }
 

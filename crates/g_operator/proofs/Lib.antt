@@ -5,6 +5,7 @@ pub mod DownLemmas
 pub mod ProcessLemmas
 pub mod ReelLemmas
 pub mod RiseLemmas
+pub mod SafeLemmas
 pub mod StopLemmas
 pub mod TerminalLemmas
 pub mod TurnedLemmas

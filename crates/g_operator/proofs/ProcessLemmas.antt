@@ -1,6 +1,6 @@
 -- PROCESS on a store that is up: the one line that writes tapes, so that a write that fails in it is the disc's or the rack's.
 -- serves: AskLemmas
-use Rattle.std.proofs.Common.{◌≡◌, ◌⊎◌, ◌≤◌, ◌-◌, ◌^◌, ◌==◌, ℕ, Bool, true, false, not, List, [], ◌∷◌, Option, Some, None, MatchOption, is_some, nat_lt, refl, ◌∙◌, ap, inl, inr}
+use Rattle.std.proofs.Common.{◌≡◌, ◌⊎◌, ◌≤◌, ◌-◌, ◌^◌, ◌==◌, ℕ, Bool, true, false, not, List, [], ◌∷◌, Option, Some, None, MatchOption, is_some, nat_lt, refl, ◌∙◌, ap, subst, inl, inr}
 use Rattle.std.specs.Prelude.{Result, Ok, Err}
 use Rattle.std.specs.List.{AllZip}
 use Rattle.g_base.specs.Counts.{Rose}
@@ -9,7 +9,9 @@ use Rattle.g_tape.specs.Reel.{Reel}
 use Rattle.g_plain.specs.declared.faults.StoreFault.{StoreFault}
 use Rattle.g_plain.specs.declared.faults.StoreFault.TheVariants.{CountersSpent, DiscReadFault, DumpOpen, NoTape, RackNotMounted, ReelNotFree, Stopped, TapeFull, TapeReadFault}
 use Rattle.g_plain.specs.PlainStep.{first_fault}
-use Rattle.g_process.specs.Processing.{ProcessCause}
+use Rattle.g_process.specs.Processing.{ProcessCause, Processes}
+use Rattle.g_laws_power.proofs.DeviceLemmas.{stops_leave_safe}
+use Rattle.g_laws_power.proofs.EventLemmas.{process_keeps_safe}
 use Rattle.g_store_model.specs.CallStep.{Cut, DiscRead, Outcome, Plain, TapeRead}
 use Rattle.g_store_model.specs.DumpSteps.{open_number}
 use Rattle.g_store_model.specs.Process.{Marked, Moved, NotYet, ProcessLeft, ProcessStep, Processes as Steps, process_needs, process_refuses, process_refuses_late}
@@ -154,7 +156,15 @@ process_tape_writes answer old new is = stands_still old.rack.write_faults new.r
 -- ITS LINE
 module _ (serial : ℕ) (old new : StoreFacts) (c : CrewState) (ready : IsReady (Up old) c) (count : ℕ) where
   went_process : (answer : Result ℕ StoreFault) → Processed serial old answer new → Went (λ s k o a n. ProcessStep s k serial o a n) old answer new
-  went_process answer is = record { step = is.step; keeps = is.answers.keeps; told = is.answers.told; belongs = is.answers.belongs; spent = is.answers.spent }
+  went_process answer is = record {
+    step = is.step;
+    keeps = is.answers.keeps;
+    told = is.answers.told;
+    belongs = is.answers.belongs;
+    safe = λ safe other. process_keeps_safe.safe serial old new answer safe is.answers other;
+    stopped = λ safe e. stops_leave_safe.process serial old new safe (subst (λ (a : Result ℕ StoreFault). Processes serial old a new) e is.answers);
+    spent = is.answers.spent;
+  }
 
   caused_process : (answer : Result ℕ StoreFault) → Processed serial old answer new → Caused (line.Process serial) old answer new
   caused_process answer is = record {

@@ -18,17 +18,20 @@ use Rattle.g_store_model.specs.DumpSteps as dumps
 use Rattle.g_store_meaning.specs.Belonging.{BelongWith, DiscBelongs, IsIntended, IsPlaced, KeepsFile, RackBelongs}
 use Rattle.g_store_meaning.specs.Meaning.{told_reels}
 use Rattle.g_store_meaning.specs.Reading.{AllTold, DevicesStandFor, IsView, View, state_down}
+use Rattle.g_store_meaning.specs.Safety.{AreSafe, IsSafe}
 use Rattle.g_store_meaning.specs.StoreInvariant.{StoreFacts}
 use Rattle.g_store.specs.Events.{AnswersEvent, Mounts, Unmounts}
 use Rattle.g_store.specs.Refusing.{DoneOr, is_on, mount_refuses, rack_answer, unmount_refuses}
 use Rattle.g_store.proofs.MountLemmas.{dumps_stay, lacks_by, mounted_by, rows_turned, serials_stay, shelved_turned, told_after, told_turned, turned}
 use Rattle.g_store.proofs.TurnLemmas.{files_view, rack_view}
+use Rattle.g_laws_power.proofs.EventLemmas.{events_keep_safe, no_more, same_blocks}
 use Rattle.g_run_model.specs.Devices.{AreReadAs, Devices}
 use Rattle.g_operator.specs.Reels.{MountsOn, StepsReels, UnmountsOn}
 use Rattle.g_day.specs.System.{BelongTogether, Down, DumpsGrow, StandsAs, Up, labels, SystemFacts}
 use Rattle.g_day.proofs.GrowLemmas.{grow_itself, grow_turned}
 use Rattle.g_day.proofs.UpLemmas.{leads_by}
-use Rattle.g_day.proofs.LabelLemmas.{labels_with}
+use Rattle.g_day.proofs.LabelLemmas.{labels_with, parts_with}
+use Rattle.g_operator.proofs.SafeLemmas.{all_by, safe_rack}
 
 -- what holds of a system and an answer holds of equal ones
 pub as_known : (On : SystemFacts → Result (Unit {0}) StoreFault → SystemFacts → Type 0) (f d e : SystemFacts) (told answer : Result (Unit {0}) StoreFault) → f ≡ d → told ≡ answer → On d answer e → On f told e
@@ -113,6 +116,14 @@ same_belongs s is d was = record {
   belong = subst (BelongWith d.disc.held) (sym (told_then s is d)) (belong_turned s is d.disc.held (told_reels d.rack) was.belong);
 }
 
+-- a power loss leaves no more of it
+safe_turned : (s : ℕ) (is : Bool) (d : Devices) → AreSafe d.disc d.rack → AreSafe d.disc (changed s (with_mounted is) d.rack)
+safe_turned s is d =
+    safe_rack d.rack (changed s (with_mounted is) d.rack) (no_more s is d.rack) d.disc (labels_with s (with_mounted is) (λ r. refl) (λ r. refl) d.rack.reels) (same_blocks s is d.rack) lens (same_belongs s is d)
+  where
+    lens : All (λ (r : Reel). r.len ≡ 0) (changed s (with_mounted is) d.rack).reels → All (λ (r : Reel). r.len ≡ 0) d.rack.reels
+    lens all = all_by (λ (n : ℕ). n ≡ 0) (λ (r : Reel). r.len) (changed s (with_mounted is) d.rack).reels d.rack.reels (sym (parts_with (λ (r : Reel). r.len) s (with_mounted is) (λ r. refl) d.rack.reels)) all
+
 module _ (s : ℕ) (d : Devices) where
   abbrev here : Option Reel
   here = reel s d.rack.reels
@@ -121,22 +132,23 @@ module _ (s : ℕ) (d : Devices) where
   steps_reels : (answer : Result (Unit {0}) StoreFault) (reels : List Reel) (by : state.State → Result (Unit {0}) StoreFault → state.State → Type 0) → ((fault : StoreFault) → answer ≡ Err fault → fault ≢ Stopped)
       → labels reels ≡ labels d.rack.reels → (let e : Devices = record d { rack = record d.rack { reels = reels } } in BelongTogether d → BelongTogether e)
       → (let k : Rack = record d.rack { reels = reels } in DumpsGrow d.rack k)
+      → (let k : Rack = record d.rack { reels = reels } in AreSafe d.disc d.rack → AreSafe d.disc k)
       → (let e : Devices = record d { rack = record d.rack { reels = reels } } in (u : state.State) → StandsAs (Down d) u → (v : state.State) × StandsAs (Down e) v × by u answer v)
       → (let e : Devices = record d { rack = record d.rack { reels = reels } } in StepsReels by (Down d) answer (Down e))
-  steps_reels answer reels by only same belongs dumps step =
-      record { stays = refl; only = only; disc = refl; read_faults = refl; write_faults = refl; arms = refl; reels = same; belongs = belongs; dumps = dumps; step = step }
+  steps_reels answer reels by only same belongs dumps safe step =
+      record { stays = refl; only = only; disc = refl; read_faults = refl; write_faults = refl; arms = refl; reels = same; belongs = belongs; safe = safe; dumps = dumps; step = step }
 
   -- a reel is turned
   steps_turned : (is : Bool) (by : state.State → Result (Unit {0}) StoreFault → state.State → Type 0) → ((u : state.State) → AreReadAs d u → by u (Ok tt) (turned_state s is u))
       → StepsReels by (Down d) (Ok tt) (Down (turned_devices s is d))
   steps_turned is by step =
       steps_reels (Ok tt) (with_reel s (with_mounted is) d.rack.reels) by (λ fault e. let no : ⊥ = cc in absurd no) (labels_with s (with_mounted is) (λ r. refl) (λ r. refl) d.rack.reels)
-      (same_belongs s is d) (grow_turned s is d.rack) (λ u stands. (turned_state s is u, (stands.0, stand_turned s is d u stands.1), step u stands.1))
+      (same_belongs s is d) (grow_turned s is d.rack) (safe_turned s is d) (λ u stands. (turned_state s is u, (stands.0, stand_turned s is d u stands.1), step u stands.1))
 
   -- or it isn't
   steps_none : (fault : StoreFault) → fault ≢ Stopped → (by : state.State → Result (Unit {0}) StoreFault → state.State → Type 0) → ((u : state.State) → AreReadAs d u → by u (Err fault) u) → StepsReels by (Down d) (Err fault) (Down d)
   steps_none fault other by step =
-      steps_reels (Err fault) d.rack.reels by (λ f e is. other (let same : fault ≡ f = cc in same ∙ is)) refl (λ was. was) (grow_itself d.rack) (λ u stands. (u, stands, step u stands.1))
+      steps_reels (Err fault) d.rack.reels by (λ f e is. other (let same : fault ≡ f = cc in same ∙ is)) refl (λ was. was) (grow_itself d.rack) (λ was. was) (λ u stands. (u, stands, step u stands.1))
 
   -- a reel is turned that isn't refused
   turned_down : (is : Bool) (by : state.State → Result (Unit {0}) StoreFault → state.State → Type 0) (rack : Rack) → rack ≡ changed s (with_mounted is) d.rack
@@ -221,8 +233,8 @@ module _ (s : ℕ) (d : Devices) where
 module _ (s : ℕ) (old new : StoreFacts) (unspent : old.spent ≡ false) where
   steps_up : (by : state.State → Result (Unit {0}) StoreFault → state.State → Type 0) (answer : Result (Unit {0}) StoreFault)
       → AnswersEvent (λ u k o a n. by u a n) (λ reply. 0) old answer new → (refusal : Option StoreFault) (is : Bool) → DoneOr refusal (record old { rack = changed s (with_mounted is) old.rack }) old answer new
-      → ((fault : StoreFault) → refusal ≡ Some fault → (fault ≢ NoMemory) × (fault ≢ Stopped)) → StepsReels by (Up old) answer (Up new)
-  steps_up by (Ok u) event refusal is (free, same) known = record {
+      → ((fault : StoreFault) → refusal ≡ Some fault → (fault ≢ NoMemory) × (fault ≢ Stopped)) → (IsSafe old → IsSafe new) → StepsReels by (Up old) answer (Up new)
+  steps_up by (Ok u) event refusal is (free, same) known safe = record {
     stays = (ap (λ (t : StoreFacts). t.spent) same, ap (λ (t : StoreFacts). t.online.disc) same);
     only = λ fault e. let no : ⊥ = cc in absurd no;
     disc = ap (λ (t : StoreFacts). t.online.disc) same;
@@ -231,12 +243,13 @@ module _ (s : ℕ) (old new : StoreFacts) (unspent : old.spent ≡ false) where
     arms = ap (λ (t : StoreFacts). t.rack.arms) same;
     reels = ap (λ (t : StoreFacts). labels t.rack.reels) same ∙ labels_with s (with_mounted is) (λ r. refl) (λ r. refl) old.rack.reels;
     belongs = λ was. (event.told was.0, event.belongs was.0 was.1);
+    safe = safe;
     dumps = subst (λ (t : StoreFacts). DumpsGrow old.rack t.rack) (sym same) (grow_turned s is old.rack);
     step = λ v stands.
         let leads = event.step stands.told stands.belongs v stands.stands in
         (leads.after, record { told = event.told stands.told; belongs = event.belongs stands.told stands.belongs; stands = leads.left }, leads.step);
   }
-  steps_up by (Err fault) event refusal is (why, same) known = record {
+  steps_up by (Err fault) event refusal is (why, same) known safe = record {
     stays = (ap (λ (t : StoreFacts). t.spent) same, ap (λ (t : StoreFacts). t.online.disc) same);
     only = λ f e is. (known fault why).1 (let eq : fault ≡ f = cc in eq ∙ is);
     disc = ap (λ (t : StoreFacts). t.online.disc) same;
@@ -245,6 +258,7 @@ module _ (s : ℕ) (old new : StoreFacts) (unspent : old.spent ≡ false) where
     arms = ap (λ (t : StoreFacts). t.rack.arms) same;
     reels = ap (λ (t : StoreFacts). labels t.rack.reels) same;
     belongs = λ was. (event.told was.0, event.belongs was.0 was.1);
+    safe = safe;
     dumps = subst (λ (t : StoreFacts). DumpsGrow old.rack t.rack) (sym same) (grow_itself old.rack);
     step = λ v stands.
         let leads = leads_by (λ u k o a n. by u a n) v old new fault (known fault why).0 (event.step stands.told stands.belongs v stands.stands) in
@@ -263,7 +277,9 @@ module _ (s : ℕ) (old new : StoreFacts) (unspent : old.spent ≡ false) where
 
   pub mounts_up : (answer : Result (Unit {0}) StoreFault) → Mounts s old answer new → MountsOn s (Up old) answer (Up new)
   mounts_up answer is = steps_up (λ v a n. dumps.MountStep v s a n) answer is.event (mount_refuses s old) true is.exact (one_known (is_none (reel s old.rack.reels)))
+      (λ safe. events_keep_safe.mounting s old new answer safe is)
 
   pub unmounts_up : (answer : Result (Unit {0}) StoreFault) → Unmounts s old answer new → UnmountsOn s (Up old) answer (Up new)
   unmounts_up answer is = steps_up (λ v a n. dumps.UnmountStep v s a n) answer is.event (unmount_refuses s old) false is.exact
       (three_known (is_none (reel s old.rack.reels)) (not (is_mounted (reel s old.rack.reels))) (is_on s old.dump))
+      (λ safe. events_keep_safe.unmounting s old new answer safe is)

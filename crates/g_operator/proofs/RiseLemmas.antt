@@ -1,6 +1,7 @@
 -- FORMAT, START and RESTORE on a system that is down: it is brought up, or not made, by the step of its state.
 -- serves: AnewLemmas, WayLemmas
 use Rattle.std.proofs.Common.{◌≡◌, ℕ, ◌<◌, ◌≤◌, ◌++◌, false, List, [], ◌∷◌, Option, Some, None, refl, sym, ◌∙◌, ap, subst, inl, inr}
+use Rattle.g_base.specs.Counts.{Rose}
 use Rattle.std.specs.Prelude.{not, ◌≢◌, Bool, MatchBool, MatchOption, option_map, Result, Ok, Err, codes}
 use Rattle.g_disc.specs.Disc.{Causes, DiscState}
 use Rattle.g_tape.specs.Rack.{Rack}
@@ -20,7 +21,10 @@ use Rattle.g_store_meaning.specs.Meaning.{told_reels}
 use Rattle.g_store_meaning.specs.Answers.{Belongs, IsStore, Told}
 use Rattle.g_store_meaning.specs.Reading.{AllTold, DevicesStandFor, StandsForState}
 use Rattle.g_store_meaning.specs.StoreInvariant.{StoreFacts}
+use Rattle.g_store_meaning.specs.Surviving.{DumpsMadeSafe}
 use Rattle.g_store.specs.Making.{Begun, Formats, LeadsDown, Makes, Refuses, RefusesFormat, RefusesRestore, RefusesStart, Restored, StepsDown, commits_of_start}
+use Rattle.g_laws_power.proofs.DeviceLemmas.{format_is_safe, refusals_keep_safe}
+use Rattle.g_laws_power.proofs.SurvivalLemmas.{making_is_safe}
 use Rattle.g_script.specs.declared.operator.Operator.{Operator}
 use Rattle.g_script.specs.declared.operator.Operator.TheVariants as line
 use Rattle.g_run_model.specs.Devices.{Devices}
@@ -34,9 +38,9 @@ use Rattle.g_job_table.specs.Crew.{CrewState}
 use Rattle.g_run_model.proofs.EventToldLemmas.{ToldBy, format_told, restore_told, start_told, OutcomeTold}
 use Rattle.g_day.specs.declared.progress.Failure.{Failure}
 use Rattle.g_day.specs.Opening.{Opens}
-use Rattle.g_day.specs.Parts.{DidLine, DoesLine, IsReady, CountedBy, Matches, Seen, disc_arms, seen, tape_arms}
+use Rattle.g_day.specs.Parts.{DidLine, DidLineBy, DoesLine, IsReady, CountedBy, KeepsSafe, Matches, Seen, disc_arms, seen, tape_arms}
 use Rattle.g_day.specs.Puts.{Puts}
-use Rattle.g_day.specs.System.{BelongTogether, Down, StandsAs, Up, devices_in}
+use Rattle.g_day.specs.System.{BelongTogether, Down, StandsAs, SystemFacts, Up, devices_in}
 use Rattle.g_day.specs.Telling.{TellsFault, refusal_text}
 use Rattle.g_day.proofs.ByLemmas.{grown_by}
 use Rattle.g_day.proofs.CauseLemmas.{OfDisc, counted_by, same_caused}
@@ -83,6 +87,21 @@ pub came_up : {A : Type 0} (given : Type 0) (by : State → Outcome → Result A
     → CameUp given by disc rack reply new
 came_up given by count_of disc rack reply new m =
     record { running = m.running; keeps = m.keeps; causes = m.causes; tapes = m.tapes; tape_read = m.tape_read; told = m.told; step = m.step; belongs = m.belongs }
+
+-- no store was made on devices with this premise
+pub record NotMade {A : Type 0} (given : Type 0) (by : State → Outcome → Result A StoreFault → State → Type 0) (disc : DiscState) (rack : Rack) (fault : StoreFault) (disc' : DiscState) (rack' : Rack) : Type 0 where
+  pub causes : Causes (fault ≡ DiscReadFault) (fault ≡ Stopped) disc disc'
+  pub tapes : OnlyReads rack rack'
+  pub tape_read : fault ≡ TapeReadFault → Rose rack.read_faults rack'.read_faults
+  pub tape_read_only : (fault ≡ TapeReadFault → ⊥) → rack'.read_faults ≡ rack.read_faults
+  pub told : AllTold disc.held (told_reels rack) → AllTold disc'.held (told_reels rack')
+  pub step : AllTold disc.held (told_reels rack) → given → (s : State) → DevicesStandFor disc.size disc.held (told_reels rack) s → StepsDown by s disc rack fault disc' rack'
+  pub belongs : AllTold disc.held (told_reels rack) → Belong disc.held rack → Belong disc'.held rack'
+
+none_made : {A : Type 0} (given : Type 0) (by : State → Outcome → Result A StoreFault → State → Type 0) (disc : DiscState) (rack : Rack) (fault : StoreFault) (disc' : DiscState) (rack' : Rack)
+    → Refuses given by disc rack fault disc' rack' → NotMade given by disc rack fault disc' rack'
+none_made given by disc rack fault disc' rack' r =
+    record { causes = r.causes; tapes = r.tapes; tape_read = r.tape_read; tape_read_only = r.tape_read_only; told = r.told; step = r.step; belongs = r.belongs }
 
 -- the event of the line that brings the system up
 module _ {A : Type 0} (what : Operator) (given : Type 0) (by : State → Outcome → Result A StoreFault → State → Type 0) (said : A → List ℕ)
@@ -157,9 +176,9 @@ module _ {A : Type 0} (what : Operator) (given : Type 0) (by : State → Outcome
           count = m.count;
         }
 
-    pub comes_up : (failure : Option Failure) (before_text after : Option (List ℕ)) (faults faults' : ℕ) → (failure ≡ None → Opens new.online.contents.users c c')
-        → Puts failure added before_text after faults faults' → DidLine what before failure (seen (Up new) c' count) before_text after faults faults'
-    comes_up failure before_text after faults faults' opens puts = record {
+    pub comes_up : (Keeps : SystemFacts → SystemFacts → Type 0) → Keeps (Down old_devices) (Up new) → (failure : Option Failure) (before_text after : Option (List ℕ)) (faults faults' : ℕ) → (failure ≡ None → Opens new.online.contents.users c c')
+        → Puts failure added before_text after faults faults' → DidLineBy Keeps what before failure (seen (Up new) c' count) before_text after faults faults'
+    comes_up Keeps keeps failure before_text after faults faults' opens puts = record {
       goes = was_done what before (seen (Up new) c' count) failure added before_text after up_does (λ w m e. up_matches (opens e) w m) puts.put;
       ready = (makes.running, makes.keeps.tied.size, makes.keeps.tied.most);
       crew = λ none. leaves_opened new.online.contents.users c c' (opens none);
@@ -169,13 +188,14 @@ module _ {A : Type 0} (what : Operator) (given : Type 0) (by : State → Outcome
       same = same_still old_devices (devices_in (Up new)) makes.causes.size (makes.causes.reads_kept (λ e. e)) (makes.causes.writes_kept (λ e. e)) makes.causes.later makes.tapes.read_faults
           (stands_still rack.write_faults new.rack.write_faults makes.tapes.write_faults) (labels_read rack.reels new.rack.reels makes.tapes.reels);
       belongs = λ is. (makes.told is.told, makes.belongs is.told (gives is));
+      safe = keeps;
       dumps = λ is. grown_by (is_process what) rack new.rack (grow_held rack new.rack makes.tapes.reels);
       cause = puts.cause;
       grows = puts_grown puts;
     }
 
   -- IT ISN'T MADE
-  module _ (fault : StoreFault) (disc' : DiscState) (rack' : Rack) (refuses : Refuses given by disc rack fault disc' rack')
+  module _ (fault : StoreFault) (disc' : DiscState) (rack' : Rack) (refuses : NotMade given by disc rack fault disc' rack')
       (told_too : (s : State) (o : Outcome) (u : State) → by s o (Err fault) u → ToldBy (by s) o (Err fault) u)
       (stays : (s : State) (o : Outcome) (u : State) → s.up ≡ false → by s o (Err fault) u → u.up ≡ false) where
     abbrev new_devices : Devices
@@ -225,12 +245,13 @@ module _ {A : Type 0} (what : Operator) (given : Type 0) (by : State → Outcome
     pub faulted : Faulted what before (Down new_devices) fault
     faulted = record { does = fault_done; nothing = nothing_done }
 
-  pub not_made : (fault : StoreFault) (disc' : DiscState) (rack' : Rack) → Refuses given by disc rack fault disc' rack'
+  pub not_made : (fault : StoreFault) (disc' : DiscState) (rack' : Rack) → NotMade given by disc rack fault disc' rack'
       → ((s : State) (o : Outcome) (u : State) → by s o (Err fault) u → ToldBy (by s) o (Err fault) u)
       → ((s : State) (o : Outcome) (u : State) → s.up ≡ false → by s o (Err fault) u → u.up ≡ false)
+      → (Keeps : SystemFacts → SystemFacts → Type 0) → (let d : Devices = record { disc = disc'; rack = rack' } in Keeps (Down old_devices) (Down d))
       → (failure : Option Failure) (c' : CrewState) (before_text after : Option (List ℕ)) (faults faults' : ℕ) → IsReady (Down old_devices) c → TellsFault fault count c failure c' before_text after faults faults'
-      → (let d : Devices = record { disc = disc'; rack = rack' } in DidLine what before failure (seen (Down d) c' count) before_text after faults faults')
-  not_made fault disc' rack' refuses told_too stays failure c' before_text after faults faults' ready tells =
+      → (let d : Devices = record { disc = disc'; rack = rack' } in DidLineBy Keeps what before failure (seen (Down d) c' count) before_text after faults faults')
+  not_made fault disc' rack' refuses told_too stays Keeps keeps failure c' before_text after faults faults' ready tells =
       let d : Devices = record { disc = disc'; rack = rack' } in
       let both = tells_fault what before (Down d) fault (faulted fault disc' rack' refuses told_too stays) failure c' before_text after faults faults' tells in record {
         goes = both.0;
@@ -244,6 +265,7 @@ module _ {A : Type 0} (what : Operator) (given : Type 0) (by : State → Outcome
         fuses = no_fuse what no_disc no_tape d;
         same = same_caused {A = A} (Err fault) old_devices d (of_fault fault disc' rack' refuses told_too stays).disc refuses.tapes;
         belongs = λ is. record { told = refuses.told is.told; belong = refuses.belongs is.told is.belong };
+        safe = keeps;
         dumps = λ is. grown_by (is_process what) rack rack' (grow_held rack rack' refuses.tapes.reels);
         cause = both.1;
         grows = told_grown fault count c failure c' before_text after faults faults' tells;
@@ -287,42 +309,50 @@ module _ (disc : DiscState) (rack : Rack) (c : CrewState) (count : ℕ) (ready :
       → Puts failure (operator_line count (codes "FORMATTED")) before_text after faults faults'
       → (let d : Devices = record { disc = disc; rack = rack } in DidLine line.Format (seen (Down d) c count) failure (seen (Up new) c' count) before_text after faults faults')
   formatted_line new is opens puts =
-      comes_up line.Format (Unit {0}) FormatStep (λ r. codes "FORMATTED") (λ o w next it. it) (λ o d e it. it) refl refl disc rack c count (λ it. tt) tt new (came_up (Unit {0}) FormatStep (λ reply. 1) disc rack tt new is.makes) ready.3 c' failure before_text after faults faults' opens puts
+      comes_up line.Format (Unit {0}) FormatStep (λ r. codes "FORMATTED") (λ o w next it. it) (λ o d e it. it) refl refl disc rack c count (λ it. tt) tt new (came_up (Unit {0}) FormatStep (λ reply. 1) disc rack tt new is.makes) ready.3 c'
+      KeepsSafe (λ safe. format_is_safe disc rack new safe is) failure before_text after faults faults' opens puts
 
   pub unformatted_line : (fault : StoreFault) (disc' : DiscState) (rack' : Rack) → RefusesFormat disc rack fault disc' rack' → TellsFault fault count c failure c' before_text after faults faults'
       → (let d : Devices = record { disc = disc; rack = rack } in let e : Devices = record { disc = disc'; rack = rack' } in
       DidLine line.Format (seen (Down d) c count) failure (seen (Down e) c' count) before_text after faults faults')
   unformatted_line fault disc' rack' is tells =
-      not_made line.Format (Unit {0}) FormatStep (λ r. codes "FORMATTED") (λ o w next it. it) (λ o d e it. it) refl refl disc rack c count (λ it. tt) fault disc' rack' is.refuses
-      (λ s o u step. format_told s o (Err fault) u step) (format_down fault) failure c' before_text after faults faults' ready tells
+      not_made line.Format (Unit {0}) FormatStep (λ r. codes "FORMATTED") (λ o w next it. it) (λ o d e it. it) refl refl disc rack c count (λ it. tt) fault disc' rack' (none_made (Unit {0}) FormatStep disc rack fault disc' rack' is.refuses)
+      (λ s o u step. format_told s o (Err fault) u step) (format_down fault)
+      KeepsSafe (λ safe. refusals_keep_safe.format disc disc' rack rack' fault safe is) failure c' before_text after faults faults' ready tells
 
   -- START
-  pub started_line : (number : Option ℕ) (new : StoreFacts) → Begun disc rack number new → (failure ≡ None → Opens new.online.contents.users c c')
+  pub started_line : (number : Option ℕ) (new : StoreFacts) → Begun disc rack number new → DumpsMadeSafe rack new.rack → (failure ≡ None → Opens new.online.contents.users c c')
       → Puts failure (operator_line count (started_text number)) before_text after faults faults'
       → (let d : Devices = record { disc = disc; rack = rack } in DidLine line.Start (seen (Down d) c count) failure (seen (Up new) c' count) before_text after faults faults')
-  started_line number new is opens puts =
-      comes_up line.Start (Belong disc.held rack) StartStep started_text (λ o w next it. it) (λ o d e it. it) refl refl disc rack c count (λ it. it.belong) number new (came_up (Belong disc.held rack) StartStep commits_of_start disc rack number new is.makes) ready.3 c' failure before_text after faults faults' opens puts
+  started_line number new is durable opens puts =
+      comes_up line.Start (Belong disc.held rack) StartStep started_text (λ o w next it. it) (λ o d e it. it) refl refl disc rack c count (λ it. it.belong) number new (came_up (Belong disc.held rack) StartStep commits_of_start disc rack number new is.makes) ready.3 c'
+      KeepsSafe (λ safe. making_is_safe.start disc rack number new safe.now is durable) failure before_text after faults faults' opens puts
 
-  pub unstarted_line : (fault : StoreFault) (disc' : DiscState) (rack' : Rack) → RefusesStart disc rack fault disc' rack' → TellsFault fault count c failure c' before_text after faults faults'
+  pub unstarted_line : (fault : StoreFault) (disc' : DiscState) (rack' : Rack) → RefusesStart disc rack fault disc' rack' → (fault ≡ Stopped → DumpsMadeSafe rack rack') → TellsFault fault count c failure c' before_text after faults faults'
       → (let d : Devices = record { disc = disc; rack = rack } in let e : Devices = record { disc = disc'; rack = rack' } in
       DidLine line.Start (seen (Down d) c count) failure (seen (Down e) c' count) before_text after faults faults')
-  unstarted_line fault disc' rack' is tells =
-      not_made line.Start (Belong disc.held rack) StartStep started_text (λ o w next it. it) (λ o d e it. it) refl refl disc rack c count (λ it. it.belong) fault disc' rack' is.refuses
-      (λ s o u step. start_told s o (Err fault) u step) (start_down fault) failure c' before_text after faults faults' ready tells
+  unstarted_line fault disc' rack' is durable tells =
+      not_made line.Start (Belong disc.held rack) StartStep started_text (λ o w next it. it) (λ o d e it. it) refl refl disc rack c count (λ it. it.belong) fault disc' rack'
+      (none_made (Belong disc.held rack) StartStep disc rack fault disc' rack' is.refuses)
+      (λ s o u step. start_told s o (Err fault) u step) (start_down fault)
+      KeepsSafe (λ safe. refusals_keep_safe.start disc disc' rack rack' fault safe is durable) failure c' before_text after faults faults' ready tells
 
   -- RESTORE
-  pub restored_line : (number : ℕ) (new : StoreFacts) → Restored disc rack number new → (failure ≡ None → Opens new.online.contents.users c c')
+  pub restored_line : (number : ℕ) (new : StoreFacts) → Restored disc rack number new → DumpsMadeSafe rack new.rack → (failure ≡ None → Opens new.online.contents.users c c')
       → Puts failure (operator_line count (codes "RESTORED FROM DUMP " ++ decimal number)) before_text after faults faults'
       → (let d : Devices = record { disc = disc; rack = rack } in DidLine line.Restore (seen (Down d) c count) failure (seen (Up new) c' count) before_text after faults faults')
-  restored_line number new is opens puts =
-      comes_up line.Restore (Belong disc.held rack) RestoreStep (λ n. codes "RESTORED FROM DUMP " ++ decimal n) (λ o w next it. it) (λ o d e it. it) refl refl disc rack c count (λ it. it.belong) number new (came_up (Belong disc.held rack) RestoreStep (λ n. 1) disc rack number new is.makes) ready.3 c' failure before_text after faults faults' opens puts
+  restored_line number new is durable opens puts =
+      comes_up line.Restore (Belong disc.held rack) RestoreStep (λ n. codes "RESTORED FROM DUMP " ++ decimal n) (λ o w next it. it) (λ o d e it. it) refl refl disc rack c count (λ it. it.belong) number new (came_up (Belong disc.held rack) RestoreStep (λ n. 1) disc rack number new is.makes) ready.3 c'
+      KeepsSafe (λ safe. making_is_safe.restore disc rack number new safe.now is durable) failure before_text after faults faults' opens puts
 
-  pub unrestored_line : (fault : StoreFault) (disc' : DiscState) (rack' : Rack) → RefusesRestore disc rack fault disc' rack' → TellsFault fault count c failure c' before_text after faults faults'
+  pub unrestored_line : (fault : StoreFault) (disc' : DiscState) (rack' : Rack) → RefusesRestore disc rack fault disc' rack' → (fault ≡ Stopped → DumpsMadeSafe rack rack') → TellsFault fault count c failure c' before_text after faults faults'
       → (let d : Devices = record { disc = disc; rack = rack } in let e : Devices = record { disc = disc'; rack = rack' } in
       DidLine line.Restore (seen (Down d) c count) failure (seen (Down e) c' count) before_text after faults faults')
-  unrestored_line fault disc' rack' is tells =
-      not_made line.Restore (Belong disc.held rack) RestoreStep (λ n. codes "RESTORED FROM DUMP " ++ decimal n) (λ o w next it. it) (λ o d e it. it) refl refl disc rack c count (λ it. it.belong) fault disc' rack' is.refuses
-      (λ s o u step. restore_told s o (Err fault) u step) (restore_down fault) failure c' before_text after faults faults' ready tells
+  unrestored_line fault disc' rack' is durable tells =
+      not_made line.Restore (Belong disc.held rack) RestoreStep (λ n. codes "RESTORED FROM DUMP " ++ decimal n) (λ o w next it. it) (λ o d e it. it) refl refl disc rack c count (λ it. it.belong) fault disc' rack'
+      (none_made (Belong disc.held rack) RestoreStep disc rack fault disc' rack' is.refuses)
+      (λ s o u step. restore_told s o (Err fault) u step) (restore_down fault)
+      KeepsSafe (λ safe. refusals_keep_safe.restore disc disc' rack rack' fault safe is durable) failure c' before_text after faults faults' ready tells
 
 -- a system that is up isn't brought up again
 pub running_line : {A : Type 0} (what : Operator) (by : State → Outcome → Result A StoreFault → State → Type 0) (said : A → List ℕ)

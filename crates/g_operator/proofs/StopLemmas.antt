@@ -1,10 +1,12 @@
 -- A DEVICE IS ARMED by a line.
 -- serves: arm_disc (armed, aside), arm_tape (armed, aside), stop_disc_line (anew, line), stop_tape_line (anew, line)
-use Rattle.std.proofs.Common.{◌≡◌, ℕ, ◌+◌, ◌<◌, ◌≤◌, ◌++◌, List, [], ◌∷◌, Option, refl, sym, ◌∙◌, ap, subst}
+use Rattle.std.proofs.Common.{◌≡◌, ℕ, ◌+◌, ◌<◌, ◌≤◌, ◌++◌, List, [], ◌∷◌, Option, Some, refl, sym, ◌∙◌, ap, subst}
 use Rattle.std.specs.Prelude.{codes}
 use Rattle.g_base.specs.Fuse.{IsArmedBy, armed_with}
 use Rattle.g_base.proofs.FuseLemmas.{within_all, within_none}
 use Rattle.g_store_model.specs.CallStep.{Plain}
+use Rattle.g_store_meaning.specs.Answers.{Belongs}
+use Rattle.g_store_meaning.specs.Safety.{IsSafe}
 use Rattle.g_store_meaning.specs.StoreInvariant.{StoreFacts}
 use Rattle.g_store.specs.Arming.{MeansTheSame}
 use Rattle.g_script.specs.declared.operator.Operator.TheVariants as line
@@ -25,18 +27,33 @@ use Rattle.g_day.proofs.LabelLemmas.{same_counts}
 use Rattle.g_day.proofs.LeavesLemmas.{leaves_same}
 use Rattle.g_day.proofs.LineLemmas.{was_done}
 use Rattle.g_day.proofs.PutLemmas.{puts_grown}
+use Rattle.g_operator.proofs.SafeLemmas.{safe_armed, safe_disc, store_safe}
 
 -- a store that means the same
-pub armed_up : (armed : Devices → Devices) (s t : StoreFacts) → MeansTheSame s t → devices_in (Up t) ≡ armed (devices_in (Up s)) → t.spent ≡ s.spent → t.online.disc.size ≡ s.online.disc.size
-    → HasArmed armed (Up s) (Up t)
-armed_up armed s t same devices spent size = record {
+armed_up : (armed : Devices → Devices) (s t : StoreFacts) → MeansTheSame s t → devices_in (Up t) ≡ armed (devices_in (Up s)) → t.spent ≡ s.spent → t.online.disc.size ≡ s.online.disc.size
+    → (IsSafe s → IsSafe t) → HasArmed armed (Up s) (Up t)
+armed_up armed s t same devices spent size safe = record {
   devices = devices;
   stands = λ u is. record { told = same.told is.told; belongs = same.belongs is.belongs; stands = same.state u is.stands };
   belongs = λ is. (same.told is.0, same.belongs is.1);
+  safe = safe;
   ready = λ c ready.
       let (unspent, low, high) = ready in
       (spent ∙ unspent, subst (λ (n : ℕ). 2177 < n) (sym size) low, subst (λ (n : ℕ). n ≤ 1048576) (sym size) high);
 }
+
+pub disc_up : (k : ℕ) (s t : StoreFacts) → MeansTheSame s t
+    → t ≡ record s { online = record s.online { disc = record s.online.disc { fuse = Some k; arms = armed_with k s.online.disc.writes s.online.disc.arms } } }
+    → HasArmed (disc_armed k) (Up s) (Up t)
+disc_up k s t same is =
+    armed_up (disc_armed k) s t same (ap (λ (x : StoreFacts). devices_in (Up x)) is) (ap (λ (x : StoreFacts). x.spent) is) (ap (λ (x : StoreFacts). x.online.disc.size) is)
+    (λ safe. subst IsSafe (sym is) (store_safe s (Some k) s.rack.fuse (armed_with k s.online.disc.writes s.online.disc.arms) s.rack.arms (subst (λ (x : StoreFacts). Belongs s → Belongs x) is same.belongs) safe))
+
+pub tape_up : (k : ℕ) (s t : StoreFacts) → MeansTheSame s t → t ≡ record s { rack = record s.rack { fuse = Some k; arms = armed_with k s.rack.write_faults s.rack.arms } }
+    → HasArmed (tape_armed k) (Up s) (Up t)
+tape_up k s t same is =
+    armed_up (tape_armed k) s t same (ap (λ (x : StoreFacts). devices_in (Up x)) is) (ap (λ (x : StoreFacts). x.spent) is) (ap (λ (x : StoreFacts). x.online.disc.size) is)
+    (λ safe. subst IsSafe (sym is) (store_safe s s.online.disc.fuse (Some k) s.online.disc.arms (armed_with k s.rack.write_faults s.rack.arms) (subst (λ (x : StoreFacts). Belongs s → Belongs x) is same.belongs) safe))
 
 -- devices under no store
 pub disc_down : (k : ℕ) (d : Devices) → HasArmed (disc_armed k) (Down d) (Down (disc_armed k d))
@@ -44,6 +61,7 @@ disc_down k d = record {
   devices = refl;
   stands = λ u is. (is.0, record { told = is.1.told; belong = is.1.belong; reads = is.1.reads });
   belongs = λ is. record { told = is.told; belong = is.belong };
+  safe = safe_disc d.disc (Some k) (armed_with k d.disc.writes d.disc.arms) d.rack;
   ready = λ c ready. ready;
 }
 
@@ -52,6 +70,7 @@ tape_down k d = record {
   devices = refl;
   stands = λ u is. (is.0, record { told = is.1.told; belong = is.1.belong; reads = is.1.reads });
   belongs = λ is. record { told = is.told; belong = is.belong };
+  safe = safe_armed d.rack (Some k) (armed_with k d.rack.write_faults d.rack.arms) d.disc;
   ready = λ c ready. ready;
 }
 
@@ -121,6 +140,7 @@ module _ (k : ℕ) (old new : SystemFacts) (c : CrewState) (count : ℕ) where
     fuses = ap (λ (d : Devices). d.disc.fuse) armed.devices;
     same = subst (λ (d : Devices). SameDevices (devices_in old) d) (sym armed.devices) (same_counts (devices_in old) (disc_armed k (devices_in old)) refl refl refl refl refl refl refl);
     belongs = armed.belongs;
+    safe = armed.safe;
     dumps = λ was. subst (λ (d : Devices). DumpsGrow (devices_in old).rack d.rack) (sym armed.devices) (grow_held (devices_in old).rack (disc_armed k (devices_in old)).rack refl);
     cause = puts.cause;
     grows = puts_grown puts;
@@ -150,6 +170,7 @@ module _ (k : ℕ) (old new : SystemFacts) (c : CrewState) (count : ℕ) where
     fuses = ap (λ (d : Devices). d.rack.fuse) armed.devices;
     same = subst (λ (d : Devices). SameDevices (devices_in old) d) (sym armed.devices) (same_counts (devices_in old) (tape_armed k (devices_in old)) refl refl refl refl refl refl refl);
     belongs = armed.belongs;
+    safe = armed.safe;
     dumps = λ was. subst (λ (d : Devices). DumpsGrow (devices_in old).rack d.rack) (sym armed.devices) (grow_held (devices_in old).rack (tape_armed k (devices_in old)).rack refl);
     cause = puts.cause;
     grows = puts_grown puts;

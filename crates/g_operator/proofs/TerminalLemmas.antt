@@ -277,6 +277,7 @@ module _ (t : ℕ) (change : JobState → JobState) (stays : (j : JobState) → 
     fuses = no_fuse what no_disc no_tape (devices_in (Up s));
     same = same_itself (devices_in (Up s));
     belongs = λ is. is;
+    safe = λ is. is;
     dumps = λ is. grown_by (is_process what) s.rack s.rack (grow_itself s.rack);
     cause = refl;
     grows = same_grown before before refl;

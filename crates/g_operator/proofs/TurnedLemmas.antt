@@ -122,6 +122,7 @@ module _ (what : Operator) (no_disc : disc_arms what ≡ []) (no_tape : tape_arm
     same = same_counts (devices_in old) (devices_in new) (ap (λ (d : DiscState). d.size) is.disc) (ap (λ (d : DiscState). d.read_faults) is.disc) (ap (λ (d : DiscState). d.write_faults) is.disc)
         (ap (λ (d : DiscState). d.writes) is.disc) is.read_faults is.write_faults is.reels;
     belongs = is.belongs;
+    safe = is.safe;
     dumps = λ was. grown_by (is_process what) (devices_in old).rack (devices_in new).rack is.dumps;
     cause = puts.cause;
     grows = puts_grown puts;

@@ -55,8 +55,8 @@ running_rise how s c c' ready count failure before after faults faults' tells =
 -- a store that was made isn't spent
 pub raised_runs : {E : Type 0} (how : Rise) (disc : DiscState) (rack : Rack) (new : StoreFacts) (made : Result (List ℕ) E) → Raises how disc rack new made → new.spent ≡ false
 raised_runs rise.Format disc rack new made (is, text) = is.makes.running
-raised_runs rise.Start disc rack new made (adopted, is, text) = is.makes.running
-raised_runs rise.Restore disc rack new made (number, is, text) = is.makes.running
+raised_runs rise.Start disc rack new made (adopted, is, durable, text) = is.makes.running
+raised_runs rise.Restore disc rack new made (number, is, durable, text) = is.makes.running
 
 module _ (disc : DiscState) (rack : Rack) (c : CrewState) (count : ℕ) (ready : (let d : Devices = record { disc = disc; rack = rack } in IsReady (Down d) c))
     (failure : Option Failure) (c' : CrewState) (before after : Option (List ℕ)) (faults faults' : ℕ) where
@@ -66,18 +66,18 @@ module _ (disc : DiscState) (rack : Rack) (c : CrewState) (count : ℕ) (ready :
       → (let d : Devices = record { disc = disc; rack = rack } in DidLine (line_of how) (seen (Down d) c count) failure (seen (Up new) c' count) before after faults faults')
   risen_line rise.Format new made (is, text) opens puts =
       formatted_line disc rack c count ready failure c' before after faults faults' new is opens (puts (codes "FORMATTED") text)
-  risen_line rise.Start new made (adopted, is, text) opens puts =
-      started_line disc rack c count ready failure c' before after faults faults' adopted new is opens (puts (started_text adopted) text)
-  risen_line rise.Restore new made (number, is, text) opens puts =
-      restored_line disc rack c count ready failure c' before after faults faults' number new is opens (puts (codes "RESTORED FROM DUMP " ++ decimal number) text)
+  risen_line rise.Start new made (adopted, is, durable, text) opens puts =
+      started_line disc rack c count ready failure c' before after faults faults' adopted new is durable opens (puts (started_text adopted) text)
+  risen_line rise.Restore new made (number, is, durable, text) opens puts =
+      restored_line disc rack c count ready failure c' before after faults faults' number new is durable opens (puts (codes "RESTORED FROM DUMP " ++ decimal number) text)
 
   -- it stays down
   refused_line : (how : Rise) (fault : StoreFault) (disc' : DiscState) (rack' : Rack) → RefusesRise how disc rack fault disc' rack' → TellsFault fault count c failure c' before after faults faults'
       → (let d : Devices = record { disc = disc; rack = rack } in let e : Devices = record { disc = disc'; rack = rack' } in
       DidLine (line_of how) (seen (Down d) c count) failure (seen (Down e) c' count) before after faults faults')
   refused_line rise.Format fault disc' rack' is tells = unformatted_line disc rack c count ready failure c' before after faults faults' fault disc' rack' is tells
-  refused_line rise.Start fault disc' rack' is tells = unstarted_line disc rack c count ready failure c' before after faults faults' fault disc' rack' is tells
-  refused_line rise.Restore fault disc' rack' is tells = unrestored_line disc rack c count ready failure c' before after faults faults' fault disc' rack' is tells
+  refused_line rise.Start fault disc' rack' (is, durable) tells = unstarted_line disc rack c count ready failure c' before after faults faults' fault disc' rack' is durable tells
+  refused_line rise.Restore fault disc' rack' (is, durable) tells = unrestored_line disc rack c count ready failure c' before after faults faults' fault disc' rack' is durable tells
 
   untried : (how : Rise) (fault : StoreFault) → fault ≡ NoMemory → TellsFault fault count c failure c' before after faults faults'
       → (let d : Devices = record { disc = disc; rack = rack } in DidLine (line_of how) (seen (Down d) c count) failure (seen (Down d) c' count) before after faults faults')

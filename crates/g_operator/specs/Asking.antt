@@ -4,6 +4,8 @@ use Rattle.g_plain.specs.declared.faults.StoreFault.{StoreFault}
 use Rattle.g_plain.specs.declared.faults.StoreFault.TheVariants.{NotStarted}
 use Rattle.g_process.specs.Processing.{Processes}
 use Rattle.g_store_meaning.specs.StoreInvariant.{StoreFacts}
+use Rattle.g_store.specs.Dumping.{OpensDump}
+use Rattle.g_store.specs.Events.{Opens}
 use Rattle.g_store.specs.Processing.{MovesDumps, StepsProcess}
 use Rattle.g_day.specs.System.{Down, SystemFacts, Up}
 
@@ -12,6 +14,11 @@ abbrev pub AsksOf : {A : Type 0} → (StoreFacts → Result A StoreFault → Sto
 AsksOf by (Up s) answer (Up t) = by s answer t
 AsksOf by (Down d) answer (Down e) = (answer ≡ Err NotStarted) × (e ≡ d)
 AsksOf by old answer new = ⊥
+
+-- How a store answers DUMP, by its step, and how a dump begins that is opened.
+pub record Opened (serial : ℕ) (old : StoreFacts) (answer : Result ℕ StoreFault) (new : StoreFacts) : Type 0 where
+  pub opens : Opens serial old answer new
+  pub begins : OpensDump serial old answer new
 
 -- How a store answers PROCESS, by its step, and what happens to completed dumps.
 pub record Processed (serial : ℕ) (old : StoreFacts) (answer : Result ℕ StoreFault) (new : StoreFacts) : Type 0 where

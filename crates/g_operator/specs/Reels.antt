@@ -5,7 +5,7 @@ use Rattle.g_plain.specs.declared.faults.StoreFault.TheVariants.{Stopped}
 use Rattle.g_store_model.specs.DumpSteps.{MountStep, UnmountStep}
 use Rattle.g_store_model.specs.State.{State}
 use Rattle.g_run_model.specs.Devices.{Devices}
-use Rattle.g_day.specs.System.{Down, DumpsGrow, StandsAs, SystemBelongs, SystemFacts, Up, devices_in, labels}
+use Rattle.g_day.specs.System.{Down, DumpsGrow, StandsAs, SystemBelongs, SystemFacts, SystemSafe, Up, devices_in, labels}
 
 -- A store that is up isn't spent by it, what is down stays down, and the disc is unchanged.
 abbrev pub StaysAsUp : SystemFacts → SystemFacts → Type 0
@@ -23,6 +23,7 @@ pub record StepsReels (by : State → Result (Unit {0}) StoreFault → State →
   pub arms : (devices_in new).rack.arms ≡ (devices_in old).rack.arms
   pub reels : labels (devices_in new).rack.reels ≡ labels (devices_in old).rack.reels
   pub belongs : SystemBelongs old → SystemBelongs new
+  pub safe : SystemSafe old → SystemSafe new
   pub dumps : DumpsGrow (devices_in old).rack (devices_in new).rack
   pub step : (s : State) → StandsAs old s → (u : State) × StandsAs new u × by s answer u
 

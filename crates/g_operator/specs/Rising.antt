@@ -6,6 +6,7 @@ use Rattle.g_tape.specs.Rack.{Rack}
 use Rattle.g_plain.specs.declared.faults.StoreFault.{StoreFault}
 use Rattle.g_plain.specs.declared.faults.StoreFault.TheVariants as faults
 use Rattle.g_store_meaning.specs.StoreInvariant.{StoreFacts}
+use Rattle.g_store_meaning.specs.Surviving.{DumpsMadeSafe}
 use Rattle.g_store.specs.Making.{Begun, Formats, RefusesFormat, RefusesRestore, RefusesStart, Restored}
 use Rattle.g_script.specs.declared.operator.Operator.{Operator}
 use Rattle.g_script.specs.declared.operator.Operator.TheVariants as line
@@ -19,17 +20,17 @@ line_of rise.Format = line.Format
 line_of rise.Start = line.Start
 line_of rise.Restore = line.Restore
 
--- This store resulted, and, if there was memory for a text, this text reports it.
+-- This store resulted, and, if there was memory for a text, this text reports it. START and RESTORE made the rack durable.
 abbrev pub Raises : {E : Type 0} → Rise → DiscState → Rack → StoreFacts → Result (List ℕ) E → Type 0
 Raises rise.Format disc rack store made = Formats disc rack store × IfOk made (λ text. text ≡ codes "FORMATTED")
-Raises rise.Start disc rack store made = (adopted : Option ℕ) × Begun disc rack adopted store × IfOk made (λ text. text ≡ started_text adopted)
-Raises rise.Restore disc rack store made = (number : ℕ) × Restored disc rack number store × IfOk made (λ text. text ≡ codes "RESTORED FROM DUMP " ++ decimal number)
+Raises rise.Start disc rack store made = (adopted : Option ℕ) × Begun disc rack adopted store × DumpsMadeSafe rack store.rack × IfOk made (λ text. text ≡ started_text adopted)
+Raises rise.Restore disc rack store made = (number : ℕ) × Restored disc rack number store × DumpsMadeSafe rack store.rack × IfOk made (λ text. text ≡ codes "RESTORED FROM DUMP " ++ decimal number)
 
--- No store resulted.
+-- No store resulted. START and RESTORE made the rack durable before they wrote the disc.
 abbrev pub RefusesRise : Rise → DiscState → Rack → StoreFault → DiscState → Rack → Type 0
 RefusesRise rise.Format disc rack fault disc' rack' = RefusesFormat disc rack fault disc' rack'
-RefusesRise rise.Start disc rack fault disc' rack' = RefusesStart disc rack fault disc' rack'
-RefusesRise rise.Restore disc rack fault disc' rack' = RefusesRestore disc rack fault disc' rack'
+RefusesRise rise.Start disc rack fault disc' rack' = RefusesStart disc rack fault disc' rack' × (fault ≡ faults.Stopped → DumpsMadeSafe rack rack')
+RefusesRise rise.Restore disc rack fault disc' rack' = RefusesRestore disc rack fault disc' rack' × (fault ≡ faults.Stopped → DumpsMadeSafe rack rack')
 
 -- No store resulted, perhaps because memory ran out before the attempt.
 abbrev pub MakesNone : Rise → DiscState → Rack → StoreFault → DiscState → Rack → Type 0

@@ -1,12 +1,12 @@
 //! What the operator requests from a store: a dump is opened, all versions are consolidated on one reel, a file is taken
 //! off the disc. A system that is down refuses it.
 ghost use Rattle.std.specs.Prelude.{◌≡◌, ◌++◌, IfOk, codes};
-ghost use Rattle.g_operator.specs.Asking.{AsksOf, Processed};
+ghost use Rattle.g_operator.specs.Asking.{AsksOf, Opened, Processed};
 ghost use Rattle.g_day.specs.Parts.{DidLine, IsReady};
 ghost use Rattle.g_day.specs.System.{IsRunning, facts_of};
 ghost use Rattle.g_monitor.specs.Parts.{full_text};
 ghost use Rattle.g_script.specs.declared.operator.Operator.TheVariants as line;
-ghost use Rattle.g_store.specs.Events.{Migrates, Opens};
+ghost use Rattle.g_store.specs.Events.{Migrates};
 ghost use Rattle.g_run_model.specs.Texts.{processed_text};
 
 use g_base::NoMemory;
@@ -48,7 +48,7 @@ fn opens<D: Disc, T: Tapes>(
     serial: u32,
 ) -> Result<u64, StoreFault>
     requires running { IsRunning (facts_of D.state T.rack system.old) }
-    ensures { AsksOf (λ s answer t. Opens serial s answer t) (facts_of D.state T.rack system.old) result (facts_of D.state T.rack system.new) }
+    ensures { AsksOf (λ s answer t. Opened serial s answer t) (facts_of D.state T.rack system.old) result (facts_of D.state T.rack system.new) }
 {
     match system {
         System::Up(store) => store.open_dump(alloc, serial),

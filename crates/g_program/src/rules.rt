@@ -9,6 +9,7 @@ ghost use Rattle.g_lines.specs.Lines.{lines_of};
 ghost use Rattle.g_rules.specs.Rule.{IsInRange};
 ghost use Rattle.g_script.specs.Script.{IsParsed};
 ghost use Rattle.g_script.specs.declared.operator.Timed.{Timed};
+ghost use Rattle.g_store_meaning.specs.Safety.{AreSafe};
 ghost use Rattle.g_store_model.specs.State.{State};
 ghost use Rattle.g_laws_store.specs.Moving.{DumpsMove};
 ghost use Rattle.g_run_model.specs.Devices.{StandFor};
@@ -116,6 +117,11 @@ pub fn run_by_rules<S: Source, K: Sink, D: Disc, T: Tapes>(
         → HaveNoProcess lines → DumpsGrow (T.rack tapes) (T.rack result.tapes) }
     ensures stands { BelongTogether (both (D.state disc) (T.rack tapes)) → HasFilestore (both (D.state disc) (T.rack tapes))
         → HasFilestore (both (D.state result.disc) (T.rack result.tapes)) }
+
+    // With every status, if the devices are safe: they are safe afterwards. That is, they expose their contents and belong together, and START
+    // or RESTORE can make a safe store of them as they are, and of whatever a power loss leaves of them. A power loss within a run is the end of
+    // a run on devices that fail from that moment on.
+    ensures safe { AreSafe (D.state disc) (T.rack tapes) → AreSafe (D.state result.disc) (T.rack result.tapes) }
 {
     let tariff = Tariff::new(|usage: &Usage| -> Charge { price_of(usage) });
     let weigh = WeighRule::new(
@@ -156,6 +162,7 @@ pub fn session_by_rules<C: Console, L: Sink, D: Disc, T: Tapes>(
     ensures dumps { BelongTogether (both (D.state disc) (T.rack tapes)) → DumpsMove (T.rack tapes) (T.rack result.tapes) }
     ensures stands { BelongTogether (both (D.state disc) (T.rack tapes)) → HasFilestore (both (D.state disc) (T.rack tapes))
         → HasFilestore (both (D.state result.disc) (T.rack result.tapes)) }
+    ensures safe { AreSafe (D.state disc) (T.rack tapes) → AreSafe (D.state result.disc) (T.rack result.tapes) }
 {
     let tariff = Tariff::new(|used: &Usage| -> Charge { price_of(used) });
     let weigh = WeighRule::new(

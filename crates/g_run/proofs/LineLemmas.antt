@@ -22,8 +22,8 @@ use Rattle.g_run_model.proofs.CountLemmas.{move_counted}
 use Rattle.g_run_model.proofs.TickLemmas.{line_move}
 use Rattle.g_job_table.specs.Numbers.{AreOpen}
 use Rattle.g_day.specs.declared.progress.Failure.{Failure}
-use Rattle.g_day.specs.BeginningAnew.{AnewLine, IsBlank, IsUntaken, beside, beside_new}
-use Rattle.g_day.specs.Parts.{ArmsBy, DidLine, DoesLine, DoesNothing, IsReady, LineGoes, Matches, Seen, disc_arms, tape_arms}
+use Rattle.g_day.specs.BeginningAnew.{AnewLine, IsBlank, IsUntaken, NoClaim, beside, beside_new}
+use Rattle.g_day.specs.Parts.{ArmsBy, DidLine, DidLineBy, DoesLine, DoesNothing, IsReady, LineGoes, Matches, Seen, disc_arms, tape_arms}
 use Rattle.g_day.specs.Puts.{HasGrown}
 use Rattle.g_day.specs.System.{SameDevices, SystemFacts, devices_in}
 use Rattle.g_operator.proofs.AnewLemmas.{first_line}
@@ -56,6 +56,7 @@ line_keeps next old failure new before after faults faults' did still = record {
   arms = line_arms next failure (devices_in old.system) (devices_in new.system) did.arms;
   same = did.same;
   belongs = did.belongs;
+  safe = did.safe;
   dumps = λ was. kept_line next (devices_in old.system).rack (devices_in new.system).rack (did.dumps was);
   cause = did.cause;
 }
@@ -153,7 +154,7 @@ module _ {F U : Type 0} (tariffs : Shared F (Bor Usage × Unit {0}) Charge) (tar
   -- starting over: a FORMAT, or a line that requests nothing of the filestore
   first_done : (next : Timed) (old mid : Seen) (failure : Option Failure) (new : Seen) (before middle after : Option (List ℕ)) (faults1 faults2 : ℕ) → SameDevices (devices_in old.system) (devices_in mid.system)
       → ((lines : List Timed) → turn_of lines ≡ Some next.turn → PartGoes tariffs tariff rules rule IsAtRest lines lines (beside old) None (beside mid) before middle)
-      → IsUntaken next.what mid failure new middle after faults1 faults2 ⊎ DidLine next.what (beside mid) failure new middle after faults1 faults2
+      → IsUntaken next.what mid failure new middle after faults1 faults2 ⊎ DidLineBy NoClaim next.what (beside mid) failure new middle after faults1 faults2
       → BeginsBy (λ x. LinesGo tariffs tariff rules rule (next ∷ []) old failure x before after) (next ∷ []) old failure new
   first_done next old mid failure new before middle after faults1 faults2 same went (inl u) = inl (record {
     goes = behind_ticks next (beside old) (beside mid) failure (beside new) before middle after went u.went.goes;

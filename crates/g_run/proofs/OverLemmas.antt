@@ -15,10 +15,12 @@ use Rattle.g_job.specs.State.{JobState}
 use Rattle.g_script.specs.declared.operator.Timed.{Timed}
 use Rattle.g_store_meaning.specs.Meaning.{told_reels}
 use Rattle.g_store_meaning.specs.Reading.{DevicesStandFor, StandsForState}
+use Rattle.g_store_meaning.specs.Safety.{AreSafe}
 use Rattle.g_store_meaning.specs.StoreInvariant.{StoreFacts}
 use Rattle.g_store_model.specs.CallStep.{down}
 use Rattle.g_store_model.specs.State.{State}
 use Rattle.g_store.proofs.ArmLemmas.{spent_stands}
+use Rattle.g_laws_power.proofs.DeviceLemmas.{stops_leave_safe}
 use Rattle.g_tape.specs.Rack.{Rack}
 use Rattle.g_run_model.proofs.StandLemmas.{read_as, stands_as}
 use Rattle.g_run_model.specs.Devices.{AreReadAs, Devices}
@@ -41,7 +43,7 @@ use Rattle.g_day.proofs.LabelLemmas.{same_itself}
 use Rattle.g_ticks.proofs.KeepLemmas.{kept_itself}
 use Rattle.g_day.specs.Parts.{Matches, Seen, seen}
 use Rattle.g_day.specs.Puts.{FaultCause, HasGrown, Puts, PutsBy}
-use Rattle.g_day.specs.System.{BelongTogether, Down, StandsAs, SystemBelongs, SystemFacts, Up, devices_in, SameDevices}
+use Rattle.g_day.specs.System.{BelongTogether, Down, StandsAs, SystemBelongs, SystemFacts, SystemSafe, Up, devices_in, SameDevices}
 use Rattle.g_day.proofs.PutLemmas.{grown_then, put_grown, with_more-append, with_more-nil}
 use Rattle.g_ticks.proofs.TickLemmas.{put_on}
 use Rattle.g_run.specs.ScriptEnd.{ClosesBy, DidScript, EndsBeside, TakenDown, both}
@@ -81,6 +83,11 @@ taken_beside (Down d) new is blank = subst (λ (x : Devices). TakenDown (Down (w
 pub belongs_of : (f : SystemFacts) → SystemBelongs f → BelongTogether (devices_in f)
 belongs_of (Up s) is = record { told = is.0; belong = is.1.devices }
 belongs_of (Down d) is = is
+
+-- the devices of a safe store are safe
+pub safe_of : (f : SystemFacts) → SystemSafe f → AreSafe (devices_in f).disc (devices_in f).rack
+safe_of (Up s) is = stops_leave_safe.down s is
+safe_of (Down d) is = is
 
 -- before anything is done
 abbrev nobody : CrewState
@@ -198,6 +205,9 @@ module _ {F U : Type 0} (tariffs : Shared F (Bor Usage × Unit {0}) Charge) (tar
   belongs_down : (failure : Option Failure) (faults faults' : ℕ) → Keeps lines at_start failure (seen f c count) faults faults' → BelongTogether old → BelongTogether new
   belongs_down failure faults faults' keeps was = subst (λ (d : Devices). BelongTogether d) (sym down_is.devices) (belongs_of f (keeps.belongs was))
 
+  safe_down : (failure : Option Failure) (faults faults' : ℕ) → Keeps lines at_start failure (seen f c count) faults faults' → AreSafe old.disc old.rack → AreSafe new.disc new.rack
+  safe_down failure faults faults' keeps was = subst (λ (d : Devices). AreSafe d.disc d.rack) (sym down_is.devices) (safe_of f (keeps.safe was))
+
   same_down : (failure : Option Failure) (faults faults' : ℕ) → Keeps lines at_start failure (seen f c count) faults faults' → SameDevices old new
   same_down failure faults faults' keeps = subst (λ (d : Devices). SameDevices old d) (sym down_is.devices) keeps.same
 
@@ -281,6 +291,7 @@ module _ {F U : Type 0} (tariffs : Shared F (Bor Usage × Unit {0}) Charge) (tar
     arms = subst (λ (d : Devices). AreArmings lines ((let g : Option Failure = Some failure in g) ≡ None) old d) (sym down_is.devices) did.keeps.arms;
     same = same_down (Some failure) faults faults' did.keeps;
     belongs = belongs_down (Some failure) faults faults' did.keeps;
+    safe = safe_down (Some failure) faults faults' did.keeps;
     dumps = dumps_down (Some failure) faults faults' did.keeps;
     cause = did.keeps.cause;
   }
@@ -302,6 +313,7 @@ module _ {F U : Type 0} (tariffs : Shared F (Bor Usage × Unit {0}) Charge) (tar
     };
     same = same_down None faults faults1 did.keeps;
     belongs = belongs_down None faults faults1 did.keeps;
+    safe = safe_down None faults faults1 did.keeps;
     dumps = dumps_down None faults faults1 did.keeps;
     cause = subst (λ (n : ℕ). FaultCause failure n faults2) did.keeps.cause puts.cause;
   }
@@ -345,6 +357,7 @@ module _ {F U : Type 0} (tariffs : Shared F (Bor Usage × Unit {0}) Charge) (tar
         };
         same = same_itself old;
         belongs = λ is. is;
+        safe = λ is. is;
         dumps = λ is. kept_itself lines old.rack;
         cause = refl;
       })

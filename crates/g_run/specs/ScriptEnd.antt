@@ -7,6 +7,7 @@ use Rattle.g_rules.specs.declared.tariff.Usage.{Usage}
 use Rattle.g_disc.specs.Disc.{DiscState}
 use Rattle.g_rules.specs.declared.rule.Standing.{Standing}
 use Rattle.g_script.specs.declared.operator.Timed.{Timed}
+use Rattle.g_store_meaning.specs.Safety.{AreSafe}
 use Rattle.g_store_model.specs.CallStep.{down}
 use Rattle.g_store_model.specs.State.{State}
 use Rattle.g_tape.specs.Rack.{Rack}
@@ -47,5 +48,6 @@ module _ {F U : Type 0} (tariffs : Shared F (Bor Usage × Unit {0}) Charge) (tar
     pub arms : AreArmings lines (failure ≡ None) old new
     pub same : SameDevices old new
     pub belongs : BelongTogether old → BelongTogether new
+    pub safe : AreSafe old.disc old.rack → AreSafe new.disc new.rack
     pub dumps : BelongTogether old → DumpsKept lines old.rack new.rack
     pub cause : FaultCause failure faults faults'

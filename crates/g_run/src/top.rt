@@ -11,6 +11,7 @@ ghost use Rattle.g_lines.specs.Lines.{lines_of};
 ghost use Rattle.g_rules.specs.Rule.{IsWeighRule};
 ghost use Rattle.g_script.specs.Script.{IsParsed};
 ghost use Rattle.g_script.specs.declared.operator.Timed.{Timed};
+ghost use Rattle.g_store_meaning.specs.Safety.{AreSafe};
 ghost use Rattle.g_laws_store.specs.Moving.{DumpsMove};
 ghost use Rattle.g_run_model.specs.Top.{AreArmings, AreFused, IsCutWords, words_line};
 ghost use Rattle.g_laws_runs.specs.Filestores.{HasFilestore};
@@ -120,6 +121,11 @@ pub fn george<
         → HaveNoProcess lines → DumpsGrow (T.rack tapes) (T.rack result.tapes) }
     ensures stands { BelongTogether (both (D.state disc) (T.rack tapes)) → HasFilestore (both (D.state disc) (T.rack tapes))
         → HasFilestore (both (D.state result.disc) (T.rack result.tapes)) }
+
+    // With every status, if the devices are safe: they are safe afterwards. That is, they expose their contents and belong together, and START
+    // or RESTORE can make a safe store of them as they are, and of whatever a power loss leaves of them. A power loss within a run is the end of
+    // a run on devices that fail from that moment on.
+    ensures safe { AreSafe (D.state disc) (T.rack tapes) → AreSafe (D.state result.disc) (T.rack result.tapes) }
 {
     let rules = Rules { tariff, weigh };
     match asked_by(words) {

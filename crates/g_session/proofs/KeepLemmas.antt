@@ -43,6 +43,7 @@ keeps_still s faults ready open_ones = record {
   arms = none_arm (let f : Option Failure = None in f ≡ None) (devices_in s.system) (devices_in s.system) refl refl;
   same = same_itself (devices_in s.system);
   belongs = λ was. was;
+  safe = λ was. was;
   dumps = λ was. kept_itself [] (devices_in s.system).rack;
   cause = refl;
 }
@@ -55,6 +56,7 @@ keeps_from done old new from to count keeps = record {
   arms = keeps.arms;
   same = keeps.same;
   belongs = keeps.belongs;
+  safe = keeps.safe;
   dumps = keeps.dumps;
   cause = refl;
 }

@@ -13,6 +13,7 @@ use Rattle.g_console.specs.Transcript.{Transcript, blank, written_of}
 use Rattle.g_io.specs.Streams.{HasPutPart, with_more}
 use Rattle.g_script.specs.Script.{timed_said}
 use Rattle.g_script.specs.declared.operator.Timed.{Timed}
+use Rattle.g_store_meaning.specs.Safety.{AreSafe}
 use Rattle.g_store_model.specs.State.{State}
 use Rattle.g_run_model.specs.Devices.{Devices, StandFor}
 use Rattle.g_run_model.specs.Texts.{closing, waiting_files}
@@ -27,7 +28,7 @@ use Rattle.g_ticks.specs.Parts.{DumpsKept}
 use Rattle.g_laws_sessions.specs.Session.{AlwaysAnswers, taken}
 use Rattle.g_run.specs.ScriptEnd.{ClosesBy, TakenDown}
 use Rattle.g_run.proofs.FilestoreLemmas.{state_there}
-use Rattle.g_run.proofs.OverLemmas.{belongs_of}
+use Rattle.g_run.proofs.OverLemmas.{belongs_of, safe_of}
 use Rattle.g_session.specs.Ending.{DidSession, EndCause, KeepsMany, RestsAtEnd, first_seen, session_status}
 use Rattle.g_session.specs.Exchanging.{CourseCause, failure_of}
 use Rattle.g_session.specs.Parts.{Broken}
@@ -178,6 +179,7 @@ module _ {F U : Type 0} (tariffs : Shared F (Bor Usage × Unit {0}) Charge) (tar
         causes = session_cause first c failure bad (waiting_files seen.crew.jobs ++ closing None) put put' a b mid d logged logged' cause end closes;
         same = subst (λ (x : Devices). SameDevices old x) (sym taken_down.devices) keeps.keeps.same;
         belongs = λ was. subst (λ (x : Devices). BelongTogether x) (sym taken_down.devices) (belongs_of seen.system (keeps.keeps.belongs was));
+        safe = λ was. subst (λ (x : Devices). AreSafe x.disc x.rack) (sym taken_down.devices) (safe_of seen.system (keeps.keeps.safe was));
         dumps = λ was. (subst (λ (x : Devices). DumpsKept keeps.done old.rack x.rack) (sym taken_down.devices) (keeps.keeps.dumps was)).move;
         stands = λ was has.
             let (s, stand) = state_there old was has in

@@ -39,6 +39,7 @@ keeps_short failure s faults faults' cause = record {
   arms = none_arm (let f : Option Failure = Some failure in f ≡ None) (devices_in s.system) (devices_in s.system) refl refl;
   same = same_itself (devices_in s.system);
   belongs = λ was. was;
+  safe = λ was. was;
   dumps = λ was. kept_itself [] (devices_in s.system).rack;
   cause = cause;
 }
@@ -57,6 +58,7 @@ keeps_put done old (Some failure) new faults faults1 faults2 keeps cause = recor
       subst (λ (ls : List Timed). AreArmings ls (let f : Option Failure = Some failure in f ≡ None) (devices_in old.system) (devices_in new.system)) (append-nil done) more;
   same = keeps.same;
   belongs = keeps.belongs;
+  safe = keeps.safe;
   dumps = keeps.dumps;
   cause = subst (λ (n : ℕ). FaultCause (Some failure) n faults2) keeps.cause cause;
 }

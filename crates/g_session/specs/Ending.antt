@@ -7,6 +7,7 @@ use Rattle.g_rules.specs.declared.tariff.Usage.{Usage}
 use Rattle.g_console.specs.Transcript.{Transcript, blank, written_of}
 use Rattle.g_rules.specs.declared.rule.Standing.{Standing}
 use Rattle.g_script.specs.declared.operator.Timed.{Timed}
+use Rattle.g_store_meaning.specs.Safety.{AreSafe}
 use Rattle.g_store_model.specs.State.{State}
 use Rattle.g_laws_store.specs.Moving.{DumpsMove}
 use Rattle.g_run_model.specs.Devices.{Devices, StandFor}
@@ -104,5 +105,6 @@ module _ {F U : Type 0} (tariffs : Shared F (Bor Usage × Unit {0}) Charge) (tar
     pub causes : SessionCause status faults faults' log_faults log_faults'
     pub same : SameDevices old new
     pub belongs : BelongTogether old → BelongTogether new
+    pub safe : AreSafe old.disc old.rack → AreSafe new.disc new.rack
     pub dumps : BelongTogether old → DumpsMove old.rack new.rack
     pub stands : BelongTogether old → HasFilestore old → HasFilestore new

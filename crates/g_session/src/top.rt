@@ -7,6 +7,7 @@ ghost use Rattle.g_day.specs.System.{BelongTogether, SameDevices};
 ghost use Rattle.g_job_table.specs.Numbers.{AreOpen};
 ghost use Rattle.g_rules.specs.Rule.{IsWeighRule};
 ghost use Rattle.g_script.specs.declared.operator.Timed.{Timed};
+ghost use Rattle.g_store_meaning.specs.Safety.{AreSafe};
 ghost use Rattle.g_store_model.specs.State.{State};
 ghost use Rattle.g_laws_store.specs.Moving.{DumpsMove};
 ghost use Rattle.g_run_model.specs.Devices.{Devices, StandFor};
@@ -84,6 +85,7 @@ pub fn session<
     ensures dumps { BelongTogether (both (D.state disc) (T.rack tapes)) → DumpsMove (T.rack tapes) (T.rack result.tapes) }
     ensures stands { BelongTogether (both (D.state disc) (T.rack tapes)) → HasFilestore (both (D.state disc) (T.rack tapes))
         → HasFilestore (both (D.state result.disc) (T.rack result.tapes)) }
+    ensures safe { AreSafe (D.state disc) (T.rack tapes) → AreSafe (D.state result.disc) (T.rack result.tapes) }
 {
     let rules = Rules { tariff, weigh };
     match in_boxes(alloc, (disc, tapes)) {

@@ -17,10 +17,11 @@ use Rattle.g_dumper.specs.declared.dump.DumpStep.{DumpStep as Step}
 use Rattle.g_dumper.specs.Steps.{stepped}
 use Rattle.g_store_model.specs.DumpSteps.{Completed, DumpStep, Going, Stepped}
 use Rattle.g_store_model.specs.State.{Holding, OpenDump, State}
-use Rattle.g_store.specs.Dumping.{KeepsDumps, LeavesOpen, StepsAs}
+use Rattle.g_store.specs.Dumping.{KeepsDumps, KeepsDumpsSafe, LeavesOpen, StepsAs}
 use Rattle.g_store.specs.Events.{IsStepOfDump, LeadsBy, StepsBy, StepsDump}
 use Rattle.g_store.proofs.ArmLemmas.{spent_stands}
 use Rattle.g_store_calls.proofs.SeenLemmas.{seen as seen_of}
+use Rattle.g_laws_power.proofs.StepLemmas.{steps_keep_safe}
 use Rattle.g_tape.specs.Rack.{Rack, is_mounted, reel}
 use Rattle.g_tape.specs.Reel.{Reel, Remains, Shortened, Torn, Unchanged, ending, left_by}
 use Rattle.g_run_model.specs.Devices.{Devices}
@@ -64,11 +65,15 @@ stop_is s k d o u (cut, inl (inr (at, inr is))) = ap (λ (t : State). t.up) is
 stop_is s k d o u (cut, inr (last, inl is)) = ap (λ (t : State). t.up) is
 stop_is s k d o u (cut, inr (last, inr is)) = ap (λ (t : State). t.up) is
 
+-- what a step does to completed dumps, which a power loss leaves too
+abbrev pub KeepsReels : StoreFacts → Result Stepped StoreFault → StoreFacts → Type 0
+KeepsReels old answer new = KeepsDumps old answer new × KeepsDumpsSafe old answer new
+
 -- what is known of the step of a dump, by its outcome
-pub as_stepped : (old new : StoreFacts) (x y : Step) → x ≡ y → StepsDump old (Ok (stepped x)) new → StepsAs old (Ok (stepped x)) new → KeepsDumps old (Ok (stepped x)) new
-    → StepsDump old (Ok (stepped y)) new × StepsAs old (Ok (stepped y)) new × KeepsDumps old (Ok (stepped y)) new
+pub as_stepped : (old new : StoreFacts) (x y : Step) → x ≡ y → StepsDump old (Ok (stepped x)) new → StepsAs old (Ok (stepped x)) new → KeepsReels old (Ok (stepped x)) new
+    → StepsDump old (Ok (stepped y)) new × StepsAs old (Ok (stepped y)) new × KeepsReels old (Ok (stepped y)) new
 as_stepped old new x y is event steps stay =
-    subst (λ (z : Step). StepsDump old (Ok (stepped z)) new × StepsAs old (Ok (stepped z)) new × KeepsDumps old (Ok (stepped z)) new) is (event, steps, stay)
+    subst (λ (z : Step). StepsDump old (Ok (stepped z)) new × StepsAs old (Ok (stepped z)) new × KeepsReels old (Ok (stepped z)) new) is (event, steps, stay)
 
 -- what is printed for a step
 told_store : (n : ℕ) (r : Result Stepped StoreFault) (s : State) (w : World) → (dump_told n r s w).store ≡ s
@@ -271,7 +276,7 @@ module _ (old new : StoreFacts) (unspent : old.spent ≡ false) (c : CrewState) 
   abbrev still_mounted : SameMounted old.rack new.rack
   still_mounted = step_mounts is.dump is.after old.online new.online old.rack new.rack answer is.stepping
 
-  pub keeps_up : (answer ≡ Err Stopped → ⊥) → KeepsDumps old answer new → AreOpen c.jobs → (failure : Option Failure) (text : List ℕ) (before after : Option (List ℕ)) (faults faults' : ℕ) → Puts failure text before after faults faults'
+  pub keeps_up : (answer ≡ Err Stopped → ⊥) → KeepsReels old answer new → AreOpen c.jobs → (failure : Option Failure) (text : List ℕ) (before after : Option (List ℕ)) (faults faults' : ℕ) → Puts failure text before after faults faults'
       → KeepsRun (seen (Up old) c count) failure (seen (Up new) c count) faults faults'
   keeps_up isnt stay taking failure text before after faults faults' puts = record {
     ready = λ e. ((not_spent new.spent answer event.spent isnt, event.keeps.tied.size, event.keeps.tied.most), taking);
@@ -279,7 +284,8 @@ module _ (old new : StoreFacts) (unspent : old.spent ≡ false) (c : CrewState) 
     tape_arms = (step_arms is.dump is.after old.online new.online old.rack new.rack answer is.stepping).1;
     same = step_same is.dump is.after old.online new.online old.rack new.rack answer is.stepping;
     belongs = λ was. (event.told was.0, event.belongs was.0 was.1);
-    dumps = λ was. grow_stepped old answer new stay was.0 was.1;
+    safe = λ was. steps_keep_safe.safe old new answer was event stay.1 isnt;
+    dumps = λ was. grow_stepped old answer new stay.0 was.0 was.1;
     cause = puts.cause;
     numbers = λ e. refl;
   }
@@ -295,7 +301,7 @@ module _ (old new : StoreFacts) (unspent : old.spent ≡ false) (c : CrewState) 
   pub has : has_dump (Up old) ≡ true
   has = ap (λ (d : Option DumpFacts). is_there d) is.dump_is
 
-  pub did_up : (answer ≡ Err Stopped → ⊥) → KeepsDumps old answer new → AreOpen c.jobs → (failure : Option Failure) (before after : Option (List ℕ)) (faults faults' : ℕ) → Puts failure added before after faults faults'
+  pub did_up : (answer ≡ Err Stopped → ⊥) → KeepsReels old answer new → AreOpen c.jobs → (failure : Option Failure) (before after : Option (List ℕ)) (faults faults' : ℕ) → Puts failure added before after faults faults'
       → DidDump (seen (Up old) c count) failure (seen (Up new) c count) before after faults faults'
   did_up isnt stay taking failure before after faults faults' puts = record {
     goes = goes_up isnt failure before after puts.put;
@@ -348,7 +354,7 @@ module _ (old new : StoreFacts) (unspent : old.spent ≡ false) (c : CrewState) 
       λ w m. let k = came old new unspent c count (Err Stopped) event is w m.stands in
       (dump_told k.dump.number (Err Stopped) k.state w, added old new unspent c count (Err Stopped) event is, inr (steps_down w m k), put)
 
-  module _ (stay : KeepsDumps old (Err Stopped) new) (failure : Option Failure) (c' : CrewState) (before after : Option (List ℕ)) (faults faults' : ℕ) (tells : TellsFault Stopped count c failure c' before after faults faults') where
+  module _ (stay : KeepsReels old (Err Stopped) new) (failure : Option Failure) (c' : CrewState) (before after : Option (List ℕ)) (faults faults' : ℕ) (tells : TellsFault Stopped count c failure c' before after faults faults') where
     pub stop_goes : DumpGoes (seen (Up old) c count) failure (seen (system_after Stopped new) c' count) before after
     stop_goes = subst (λ (x : CrewState). DumpGoes (seen (Up old) c count) failure (seen (Down devices) x count) before after) (sym tells.0) (goes_down failure before after tells.1.put)
 
@@ -359,7 +365,8 @@ module _ (old new : StoreFacts) (unspent : old.spent ≡ false) (c : CrewState) 
       tape_arms = (step_arms is.dump is.after old.online new.online old.rack new.rack (Err Stopped) is.stepping).1;
       same = step_same is.dump is.after old.online new.online old.rack new.rack (Err Stopped) is.stepping;
       belongs = λ was. record { told = event.told was.0; belong = (event.belongs was.0 was.1).devices };
-      dumps = λ was. grow_stepped old (Err Stopped) new stay was.0 was.1;
+      safe = λ was. steps_keep_safe.stopped old new was event stay.1;
+      dumps = λ was. grow_stepped old (Err Stopped) new stay.0 was.0 was.1;
       cause = tells.1.cause;
       numbers = λ e. refl;
     })
@@ -406,7 +413,7 @@ one_fault fault e = cc
 
 -- a dump that is given up is reported by its number
 pub did_lost : (old new : StoreFacts) (unspent : old.spent ≡ false) (c : CrewState) (count number : ℕ) → option_map (λ d. d.plan.number) old.dump ≡ Some number → (fault : StoreFault) → (fault ≡ Stopped → ⊥)
-    → StepsDump old (Err fault) new → StepsAs old (Err fault) new → KeepsDumps old (Err fault) new → AreOpen c.jobs → (failure : Option Failure) (before after : Option (List ℕ)) (faults faults' : ℕ)
+    → StepsDump old (Err fault) new → StepsAs old (Err fault) new → KeepsReels old (Err fault) new → AreOpen c.jobs → (failure : Option Failure) (before after : Option (List ℕ)) (faults faults' : ℕ)
     → Puts failure (operator_line count (dump_text number (codes "LOST " ++ fault_line fault))) before after faults faults' → DidDump (seen (Up old) c count) failure (seen (Up new) c count) before after faults faults'
 did_lost old new unspent c count number number_is fault isnt event is stay taking failure before after faults faults' puts =
     let same : number ≡ is.dump.plan.number =
@@ -416,12 +423,12 @@ did_lost old new unspent c count number number_is fault isnt event is stay takin
     (ap (λ (n : ℕ). operator_line count (dump_text n (codes "LOST " ++ fault_line fault))) same ∙ sym (lost_added count is.dump.plan.number fault c.jobs isnt)) puts)
 
 -- nothing is printed while it continues
-pub did_going : (old new : StoreFacts) (unspent : old.spent ≡ false) (c : CrewState) (count : ℕ) → StepsDump old (Ok Going) new → StepsAs old (Ok Going) new → KeepsDumps old (Ok Going) new → AreOpen c.jobs → (before : Option (List ℕ)) (faults : ℕ)
+pub did_going : (old new : StoreFacts) (unspent : old.spent ≡ false) (c : CrewState) (count : ℕ) → StepsDump old (Ok Going) new → StepsAs old (Ok Going) new → KeepsReels old (Ok Going) new → AreOpen c.jobs → (before : Option (List ℕ)) (faults : ℕ)
     → DidDump (seen (Up old) c count) None (seen (Up new) c count) before before faults faults
 did_going old new unspent c count event is stay taking before faults =
     did_up old new unspent c count (Ok Going) event is (λ e. let no : ⊥ = cc in no) stay taking None before before faults faults (record { put = sym (with_more-nil before); cause = refl })
 
-pub did_completed : (old new : StoreFacts) (unspent : old.spent ≡ false) (c : CrewState) (count n : ℕ) → StepsDump old (Ok (Completed n)) new → StepsAs old (Ok (Completed n)) new → KeepsDumps old (Ok (Completed n)) new → AreOpen c.jobs
+pub did_completed : (old new : StoreFacts) (unspent : old.spent ≡ false) (c : CrewState) (count n : ℕ) → StepsDump old (Ok (Completed n)) new → StepsAs old (Ok (Completed n)) new → KeepsReels old (Ok (Completed n)) new → AreOpen c.jobs
     → (failure : Option Failure) (before after : Option (List ℕ)) (faults faults' : ℕ) → Puts failure (operator_line count (dump_text n (codes "COMPLETED"))) before after faults faults'
     → DidDump (seen (Up old) c count) failure (seen (Up new) c count) before after faults faults'
 did_completed old new unspent c count n event is stay taking failure before after faults faults' puts =
@@ -432,10 +439,10 @@ some_there None n e = absurd (let no : ⊥ = cc in no)
 some_there (Some d) n e = refl
 
 -- a store that was stopped is taken down
-pub did_fails : (old new : StoreFacts) (unspent : old.spent ≡ false) (c : CrewState) (count : ℕ) (fault : StoreFault) → fault ≡ Stopped → StepsDump old (Err fault) new → StepsAs old (Err fault) new → KeepsDumps old (Err fault) new
+pub did_fails : (old new : StoreFacts) (unspent : old.spent ≡ false) (c : CrewState) (count : ℕ) (fault : StoreFault) → fault ≡ Stopped → StepsDump old (Err fault) new → StepsAs old (Err fault) new → KeepsReels old (Err fault) new
     → (failure : Option Failure) (c' : CrewState) (before after : Option (List ℕ)) (faults faults' : ℕ) → TellsFault fault count c failure c' before after faults faults'
     → DidDump (seen (Up old) c count) failure (seen (system_after fault new) c' count) before after faults faults'
 did_fails old new unspent c count fault stop event is stay failure c' before after faults faults' tells =
     subst (λ (f : StoreFault). DidDump (seen (Up old) c count) failure (seen (system_after f new) c' count) before after faults faults') (sym stop)
     (did_stop old new unspent c count (subst (λ (f : StoreFault). StepsDump old (Err f) new) stop event) (subst (λ (f : StoreFault). StepsAs old (Err f) new) stop is)
-    (subst (λ (f : StoreFault). KeepsDumps old (Err f) new) stop stay) failure c' before after faults faults' (subst (λ (f : StoreFault). TellsFault f count c failure c' before after faults faults') stop tells))
+    (subst (λ (f : StoreFault). KeepsReels old (Err f) new) stop stay) failure c' before after faults faults' (subst (λ (f : StoreFault). TellsFault f count c failure c' before after faults faults') stop tells))

@@ -1,11 +1,12 @@
 -- What holds of every device after a turn.
 -- serves: DumpLemmas, TakenLemmas
-use Rattle.std.proofs.Common.{◌≡◌, ℕ, true, List, Option, Some, None, refl, sym, ◌∙◌, ap, subst, inl, inr}
+use Rattle.std.proofs.Common.{◌≡◌, ℕ, true, false, List, Option, Some, None, refl, sym, ◌∙◌, ap, subst, inl, inr}
 use Rattle.std.specs.Prelude.{◌↔◌}
 use Rattle.g_job.specs.Spending.{SpendsBy}
 use Rattle.g_job.specs.State.{JobState}
 use Rattle.g_job.specs.declared.turn.Turn.{Turn}
 use Rattle.g_job.specs.declared.turn.Turn.TheVariants as turns
+use Rattle.g_store_meaning.specs.Safety.{AreSafe, IsSafe}
 use Rattle.g_store_meaning.specs.StoreInvariant.{StoreFacts}
 use Rattle.g_run_model.specs.Devices.{Devices}
 use Rattle.g_run_model.specs.World.{with_job}
@@ -15,11 +16,11 @@ use Rattle.g_run_model.specs.Texts.{shown}
 use Rattle.g_day.specs.declared.progress.Failure.{Failure}
 use Rattle.g_day.specs.declared.progress.Failure.TheVariants.{Memory}
 use Rattle.g_day.specs.Parts.{IsReady, seen}
-use Rattle.g_day.specs.System.{Down, DumpsGrow, SystemBelongs, SystemFacts, Up, SameDevices, devices_in}
+use Rattle.g_day.specs.System.{Down, DumpsGrow, SystemBelongs, SystemFacts, SystemSafe, Up, SameDevices, devices_in}
 use Rattle.g_ticks.specs.Tick.{KeepsRun}
 use Rattle.g_ticks.specs.Turning.{EndsTurn, LeftBy}
-use Rattle.g_ticks.proofs.RanLemmas.{StaysOver}
-use Rattle.g_ticks.proofs.TurningLemmas.{left_devices, numbers_are, open_is, ready_is, same_devices, system_is, text_is, turned_system}
+use Rattle.g_ticks.proofs.RanLemmas.{StaysOver, StaysSafe}
+use Rattle.g_ticks.proofs.TurningLemmas.{left_devices, numbers_are, open_is, ready_is, same_devices, system_is, text_is, turned_system, unbroken}
 use Rattle.g_day.proofs.GrowLemmas.{grow_held, grow_itself}
 use Rattle.g_day.proofs.LabelLemmas.{same_itself}
 
@@ -34,7 +35,18 @@ belongs_left s system (inl (unspent, at)) is = subst (λ (x : SystemFacts). Syst
 belongs_left s system (inr (spent, at)) is =
     subst (λ (x : SystemFacts). SystemBelongs x) (sym at) (let d : SystemFacts = Down (record { disc = s.online.disc; rack = s.rack }) in let b : SystemBelongs d = record { told = is.0; belong = is.1.devices } in b)
 
-module _ (old new : StoreFacts) (c : CrewState) (count : ℕ) (stays : StaysOver old new) where
+safe_turned : (turn : Turn) (s : StoreFacts) → (s.spent ≡ true) ↔ (turn ≡ turns.Broken) → (s.spent ≡ false → IsSafe s) → (s.spent ≡ true → AreSafe s.online.disc s.rack) → SystemSafe (turned_system turn s)
+safe_turned turns.Broken s stopped up down = down (stopped.1 refl)
+safe_turned (turns.Wants serial) s stopped up down = up (unbroken (turns.Wants serial) s stopped (λ e. let no : ⊥ = cc in no))
+safe_turned (turns.Ran units money) s stopped up down = up (unbroken (turns.Ran units money) s stopped (λ e. let no : ⊥ = cc in no))
+safe_turned (turns.Ended units money) s stopped up down = up (unbroken (turns.Ended units money) s stopped (λ e. let no : ⊥ = cc in no))
+
+safe_left : (s : StoreFacts) (system : SystemFacts) → LeftBy s system → (s.spent ≡ false → IsSafe s) → (s.spent ≡ true → AreSafe s.online.disc s.rack) → SystemSafe system
+safe_left s system (inl (unspent, at)) up down = subst (λ (x : SystemFacts). SystemSafe x) (sym at) (up unspent)
+safe_left s system (inr (spent, at)) up down =
+    subst (λ (x : SystemFacts). SystemSafe x) (sym at) (let d : SystemFacts = Down (record { disc = s.online.disc; rack = s.rack }) in let b : SystemSafe d = down spent in b)
+
+module _ (old new : StoreFacts) (c : CrewState) (count : ℕ) (stays : StaysOver old new) (safe : StaysSafe old new) where
   belongs_on : SystemBelongs (Up old) → SystemBelongs (Up new)
   belongs_on is = (stays.told is.0, stays.belongs is.0 is.1)
 
@@ -52,6 +64,7 @@ module _ (old new : StoreFacts) (c : CrewState) (count : ℕ) (stays : StaysOver
         tape_arms = ap (λ (d : Devices). d.rack.arms) (same_devices turn new) ∙ stays.tape_arms;
         same = subst (λ (d : Devices). SameDevices (devices_in (Up old)) d) (sym (same_devices turn new)) stays.same;
         belongs = λ is. belongs_turned turn new (belongs_on is);
+        safe = λ is. safe_turned turn new stopped (safe.up is) (safe.down is);
         dumps = λ is. subst (λ (d : Devices). DumpsGrow old.rack d.rack) (sym (same_devices turn new)) (grow_held old.rack new.rack stays.held);
         cause = (text_is number count old new c job behind there numbers failure system c' before after faults faults' turn ends).cause;
         numbers = λ none. numbers_are number count old new c job behind there numbers failure system c' before after faults faults' turn ends none;
@@ -65,6 +78,7 @@ module _ (old new : StoreFacts) (c : CrewState) (count : ℕ) (stays : StaysOver
     tape_arms = ap (λ (d : Devices). d.rack.arms) (left_devices new system left) ∙ stays.tape_arms;
     same = subst (λ (d : Devices). SameDevices (devices_in (Up old)) d) (sym (left_devices new system left)) stays.same;
     belongs = λ is. belongs_left new system left (belongs_on is);
+    safe = λ is. safe_left new system left (safe.up is) (safe.down is);
     dumps = λ is. subst (λ (d : Devices). DumpsGrow old.rack d.rack) (sym (left_devices new system left)) (grow_held old.rack new.rack stays.held);
     cause = refl;
     numbers = λ none. absurd (let no : ⊥ = cc in no);
@@ -78,6 +92,7 @@ none_keeps_run s c count ready still faults = record {
   tape_arms = refl;
   same = same_itself (devices_in (Up s));
   belongs = λ is. is;
+  safe = λ is. is;
   dumps = λ is. grow_itself s.rack;
   cause = refl;
   numbers = λ none. refl;

@@ -93,6 +93,7 @@ keeps_then a b old mid failure new faults faults1 faults2 first later = record {
   arms = arms_then a b (devices_in old.system) (devices_in mid.system) (devices_in new.system) first.same later.same refl first.arms later.arms;
   same = same_then (devices_in old.system) (devices_in mid.system) (devices_in new.system) first.same later.same;
   belongs = λ was. later.belongs (first.belongs was);
+  safe = λ was. later.safe (first.safe was);
   dumps = λ was. kept_then a b (devices_in old.system).rack (devices_in mid.system).rack (devices_in new.system).rack later.same.reels (first.dumps was) (later.dumps (first.belongs was));
   cause = subst (λ (n : ℕ). FaultCause failure n faults2) first.cause later.cause;
 }
@@ -107,6 +108,7 @@ keeps_more a b old failure new faults faults' first = record {
   arms = arms_more a b (devices_in old.system) (devices_in new.system) (some_none failure) first.arms;
   same = first.same;
   belongs = first.belongs;
+  safe = first.safe;
   dumps = λ was. kept_more a b (devices_in old.system).rack (devices_in new.system).rack (first.dumps was);
   cause = first.cause;
 }

@@ -1,7 +1,7 @@
--- What a turn's calls leave unchanged, whether or not the devices expose their contents; and which reels a state has
--- mounted.
+-- What a turn's calls leave unchanged, whether or not the devices expose their contents; that they leave safe devices; and
+-- which reels a state has mounted.
 -- serves: job_steps, take_turn, FallLemmas, KeptLemmas, RestLemmas, TakenLemmas
-use Rattle.std.proofs.Common.{◌≡◌, ◌⊎◌, ℕ, false, List, [], ◌∷◌, None, Err, refl, sym, ◌∙◌, ap, subst, inl, inr}
+use Rattle.std.proofs.Common.{◌≡◌, ◌⊎◌, ℕ, true, false, List, [], ◌∷◌, None, Err, refl, sym, ◌∙◌, ap, subst, inl, inr}
 use Rattle.std.proofs.lemmas.Bool.{false≢true}
 use Rattle.g_turn.specs.Causes.{IsHonest, IsOther, StopsAt}
 use Rattle.g_turn.specs.State.{Broken, Stop, Waits, Work}
@@ -12,16 +12,20 @@ use Rattle.g_plain.specs.declared.faults.StoreFault.TheVariants.{NoMemory, Stopp
 use Rattle.g_store_meaning.specs.Answers.{Answers, Belongs, Told}
 use Rattle.g_store_meaning.specs.Meaning.{told_reels}
 use Rattle.g_store_meaning.specs.Reading.{StandsForState, View, state_up}
+use Rattle.g_store_meaning.specs.Safety.{AreSafe, IsSafe}
 use Rattle.g_store_meaning.specs.StoreInvariant.{StoreFacts}
 use Rattle.g_store_model.specs.State as state
 use Rattle.g_store_model.specs.State.{State}
 use Rattle.g_store.proofs.MountLemmas.{mounted_by}
 use Rattle.g_store_calls.proofs.CallLemmas.{same_mounts}
 use Rattle.g_store_calls.proofs.SeenLemmas.{seen}
+use Rattle.g_laws_power.proofs.DeviceLemmas.{stops_leave_safe}
+use Rattle.g_laws_power.proofs.SurvivalLemmas.{calls_keep_safe}
 use Rattle.g_tape.specs.Rack.{is_mounted, reel}
 use Rattle.g_day.specs.System.{SameDevices, Up, devices_in}
 use Rattle.g_day.proofs.CauseLemmas.{same_caused}
 use Rattle.g_day.proofs.LabelLemmas.{same_itself, same_then}
+use Rattle.g_day.proofs.UpLemmas.{not_spent}
 
 -- the store stays on devices of the same sizes, which weren't armed, and the disc's fault counters didn't fall; the same
 -- reels are mounted, and they hold the same; and disc and rack still belong together
@@ -95,6 +99,58 @@ dump_stays who (Gives x) h (a ∷ told) old given new r unspent = absurd r
 dump_stays who (Call call more) h [] old given new r unspent = absurd r
 dump_stays who (Call call more) h (a ∷ told) old given new r unspent =
     call_dump who call more h a told old r.0 given new r.1 r.3 unspent (λ other. dump_stays who (more a) (h.2 a other) told r.0 given new r.3 unspent) (kind_of a)
+
+-- SAFE DEVICES: the store is safe afterwards if it wasn't stopped; if it was, its devices are
+pub record StaysSafe (old new : StoreFacts) : Type 0 where
+  pub up : IsSafe old → new.spent ≡ false → IsSafe new
+  pub down : IsSafe old → new.spent ≡ true → AreSafe new.online.disc new.rack
+
+safe_itself : (s t : StoreFacts) → t ≡ s → StaysSafe s t
+safe_itself s t is = record {
+  up = λ safe unspent. subst IsSafe (sym is) safe;
+  down = λ safe spent. absurd (false≢true (sym safe.up ∙ sym (ap (λ (x : StoreFacts). x.spent) is) ∙ spent));
+}
+
+-- a call
+call_safe : (old new : StoreFacts) (who : List ℕ) (call : StoreCall) (a : Answer) → Answers old who call a new → StaysSafe old new
+call_safe old new who call a is = record {
+  up = λ safe unspent. calls_keep_safe old new who call a safe is (λ stops. false≢true (sym unspent ∙ is.spent.1 stops));
+  down = λ safe spent. stops_leave_safe.call old new who call safe (subst (λ (x : Answer). Answers old who call x new) (is.spent.0 spent) is);
+}
+
+-- and those after it: there are none if it was stopped or has to wait
+call_safe_then : (who : List ℕ) (call : StoreCall) (more : Answer → Asks Work) → IsHonest (Call call more) → (a : Answer) (old mid new : StoreFacts) → Answers old who call a mid
+    → ((stop : Stop) → StopsAt stop (more a) → new ≡ mid) → (IsOther a → StaysSafe mid new) → KindOf a → StaysSafe old new
+call_safe_then who call more h a old mid new is ends later (inl (serial, waits)) =
+    let stop : StopsAt (Waits serial) (more a) = subst (λ (x : Answer). StopsAt (Waits serial) (more x)) (sym waits) (h.0 serial) in
+    subst (λ (x : StoreFacts). StaysSafe old x) (sym (ends (Waits serial) stop)) (call_safe old mid who call a is)
+call_safe_then who call more h a old mid new is ends later (inr (inl stops)) =
+    let stop : StopsAt Broken (more a) = subst (λ (x : Answer). StopsAt Broken (more x)) (sym stops) h.1 in
+    subst (λ (x : StoreFacts). StaysSafe old x) (sym (ends Broken stop)) (call_safe old mid who call a is)
+call_safe_then who call more h a old mid new is ends later (inr (inr other)) =
+    let unspent = not_spent mid.spent a is.spent other.1 in record {
+      up = λ safe. (later other.0).up ((call_safe old mid who call a is).up safe unspent);
+      down = λ safe. (later other.0).down ((call_safe old mid who call a is).up safe unspent);
+    }
+
+stopped_part : (who : List ℕ) (stop : Stop) (p : Asks Work) → StopsAt stop p → (old new : StoreFacts) → RanInPart Answers who old p new → new ≡ old
+stopped_part who stop (Gives x) s old new r = r
+stopped_part who stop (Call call more) s old new r = absurd s
+
+-- a whole program, and a prefix of one
+pub ran_safe : (who : List ℕ) (p : Asks Work) → IsHonest p → (told : List Answer) (old : StoreFacts) (given : Work) (new : StoreFacts) → RanBy Answers who old p told given new → StaysSafe old new
+ran_safe who (Gives x) h [] old given new r = safe_itself old new r.1
+ran_safe who (Gives x) h (a ∷ told) old given new r = absurd r
+ran_safe who (Call call more) h [] old given new r = absurd r
+ran_safe who (Call call more) h (a ∷ told) old given new r =
+    call_safe_then who call more h a old r.0 new r.1 (λ stop at. stopped_at who stop (more a) at told r.0 given new r.3) (λ other. ran_safe who (more a) (h.2 a other) told r.0 given new r.3) (kind_of a)
+
+pub part_safe : (who : List ℕ) (p : Asks Work) → IsHonest p → (old new : StoreFacts) → RanInPart Answers who old p new → StaysSafe old new
+part_safe who (Gives x) h old new r = safe_itself old new r
+part_safe who (Call call more) h old new (inl r) = safe_itself old new r
+part_safe who (Call call more) h old new (inr (inl r)) = call_safe old new who call (Err NoMemory) r
+part_safe who (Call call more) h old new (inr (inr r)) =
+    call_safe_then who call more h r.0 old r.1 new r.2 (λ stop at. stopped_part who stop (more r.0) at r.1 new r.4) (λ other. part_safe who (more r.0) (h.2 r.0 other) r.1 new r.4) (kind_of r.0)
 
 module _ (who : List ℕ) where
   -- a whole program

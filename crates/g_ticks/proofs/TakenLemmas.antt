@@ -24,7 +24,7 @@ use Rattle.g_ticks.specs.Turning.{Takes, TookPart, TookTurn}
 use Rattle.g_ticks.proofs.FallLemmas.{chosen_steps, none_falls, none_steps, turn_falls}
 use Rattle.g_day.proofs.PutLemmas.{puts_grown, same_grown}
 use Rattle.g_ticks.proofs.KeptLemmas.{none_keeps_run, part_keeps_run, turn_keeps_run}
-use Rattle.g_ticks.proofs.RanLemmas.{dump_stays, mounted_in, mounted_some, part_stays, ran_stays, some_state}
+use Rattle.g_ticks.proofs.RanLemmas.{dump_stays, mounted_in, mounted_some, part_safe, part_stays, ran_safe, ran_stays, some_state}
 use Rattle.g_ticks.proofs.TurningLemmas.{none_goes, part_goes, text_is, turn_goes, unbroken}
 
 -- what the choice says, in every state that has these reels mounted
@@ -53,7 +53,8 @@ module _ {F U : Type 0} (tariffs : Shared F (Bor Usage × Unit {0}) Charge) (tar
       let takes = took.takes in
       let stays = ran_stays took.job.user (turn_work took.job) takes.told old takes.work took.new takes.ran in record {
         goes = turn_goes tariffs tariff rules rule old c count number ready (λ u here. choice u (mounted_in old ready.0 u here)) took.job took.there failure system c' before after faults faults' took refl;
-        keeps = turn_keeps_run old took.new c count stays number took.job took.behind took.there takes.spends.0 failure system c' before after faults faults' took.turn took.ends took.stopped takes.spends.2 ready still;
+        keeps = turn_keeps_run old took.new c count stays
+            (ran_safe took.job.user (turn_work took.job) (turn_honest took.job) takes.told old takes.work took.new takes.ran) number took.job took.behind took.there takes.spends.0 failure system c' before after faults faults' took.turn took.ends took.stopped takes.spends.2 ready still;
         falls = turn_falls old took.new count number c jobs.rise took.job took.behind took.there (chosen_steps rules rule old c jobs.rise number took.job (choice (some_state old) (mounted_some old)) took.there)
             takes.spends.0 takes.spends.1 stays (some_job_steps before_it) took.turn failure system c' before after faults faults' took.ends takes.spends.2 took.waits
             (λ isnt. dump_stays took.job.user (turn_work took.job) (turn_honest took.job) takes.told old takes.work took.new takes.ran (unbroken took.turn took.new took.stopped isnt));
@@ -68,7 +69,7 @@ module _ {F U : Type 0} (tariffs : Shared F (Bor Usage × Unit {0}) Charge) (tar
       let memory : Option Failure = Some Memory in
       let made : DidTurn tariffs tariff rules rule before_it memory (seen system c' count) before before faults faults = record {
         goes = part_goes tariffs tariff rules rule old c count number ready (λ u here. choice u (mounted_in old ready.0 u here)) took.job took.there system c' before took.new took.ran took.left;
-        keeps = part_keeps_run old took.new c count stays system c' took.left faults;
+        keeps = part_keeps_run old took.new c count stays (part_safe took.job.user (turn_work took.job) (turn_honest took.job) old took.new took.ran) system c' took.left faults;
         falls = λ none. absurd (let no : ⊥ = cc in no);
         grows = same_grown before before refl;
       } in

@@ -149,6 +149,7 @@ module _ {F U : Type 0} (tariffs : Shared F (Bor Usage × Unit {0}) Charge) (tar
       tape_arms = turned.tape_arms ∙ dumped.keeps.tape_arms;
       same = same_then (devices_in (Up old)) (devices_in (Up mid)) (devices_in new) dumped.keeps.same turned.same;
       belongs = λ was. turned.belongs (dumped.keeps.belongs was);
+      safe = λ was. turned.safe (dumped.keeps.safe was);
       dumps = λ was. grow_then old.rack mid.rack (devices_in new).rack (dumped.keeps.dumps was) (turned.dumps (dumped.keeps.belongs was));
       cause = subst (λ (n : ℕ). FaultCause failure n faults2) dumped.keeps.cause turned.cause;
       numbers = λ e. turned.numbers e ∙ dumped.keeps.numbers refl;

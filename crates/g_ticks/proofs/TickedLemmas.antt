@@ -36,6 +36,7 @@ keeps_of old new failure faults faults' keeps = record {
   arms = none_arm (failure ≡ None) (devices_in old.system) (devices_in new.system) keeps.disc_arms keeps.tape_arms;
   same = keeps.same;
   belongs = keeps.belongs;
+  safe = keeps.safe;
   dumps = λ was. kept_grown [] (devices_in old.system).rack (devices_in new.system).rack (keeps.dumps was);
   cause = keeps.cause;
 }
@@ -123,14 +124,14 @@ module _ {F U : Type 0} (tariffs : Shared F (Bor Usage × Unit {0}) Charge) (tar
         keeps : Keeps [] (seen (Up old) c count) None (seen new c' (count + 1)) faults faults'
         keeps =
             let k = keeps_of (seen (Up old) c count) (seen new c' count) None faults faults' did.keeps in
-            record { ready = k.ready; numbers = k.numbers; arms = k.arms; same = k.same; belongs = k.belongs; dumps = k.dumps; cause = k.cause }
+            record { ready = k.ready; numbers = k.numbers; arms = k.arms; same = k.same; belongs = k.belongs; safe = k.safe; dumps = k.dumps; cause = k.cause }
 
     -- the tick isn't over, and the count doesn't change
     module _ (count' : ℕ) where
       short_keeps : (failure : Failure) → KeepsRun (seen (Up old) c count) (Some failure) (seen new c' count) faults faults' → Keeps [] (seen (Up old) c count) (Some failure) (seen new c' count') faults faults'
       short_keeps failure keeps =
           let k = keeps_of (seen (Up old) c count) (seen new c' count) (Some failure) faults faults' keeps in
-          record { ready = k.ready; numbers = k.numbers; arms = k.arms; same = k.same; belongs = k.belongs; dumps = k.dumps; cause = k.cause }
+          record { ready = k.ready; numbers = k.numbers; arms = k.arms; same = k.same; belongs = k.belongs; safe = k.safe; dumps = k.dumps; cause = k.cause }
 
       pub failed : (failure : Failure) → DidTick tariffs tariff rules rule (seen (Up old) c count) (Some failure) (seen new c' count) before after faults faults'
           → DidOne tariffs tariff rules rule limit (seen (Up old) c count) (Some failure) (seen new c' count') before after faults faults'

@@ -51,6 +51,7 @@ keeps_here s faults ready still = record {
   arms = none_arm (let f : Option Failure = None in f ≡ None) (devices_in s.system) (devices_in s.system) refl refl;
   same = same_itself (devices_in s.system);
   belongs = λ was. was;
+  safe = λ was. was;
   dumps = λ was. kept_itself [] (devices_in s.system).rack;
   cause = refl;
 }

@@ -21,7 +21,7 @@ use Rattle.g_day.specs.declared.progress.Failure.{Failure}
 use Rattle.g_day.specs.BeginningAnew.{IsBlank, beside, beside_new}
 use Rattle.g_day.specs.Parts.{IsReady, IsWithin, Matches, Seen}
 use Rattle.g_day.specs.Puts.{FaultCause, HasGrown}
-use Rattle.g_day.specs.System.{Down, DumpsGrow, SameDevices, StandsAs, SystemBelongs, SystemFacts, devices_in}
+use Rattle.g_day.specs.System.{Down, DumpsGrow, SameDevices, StandsAs, SystemBelongs, SystemFacts, SystemSafe, devices_in}
 use Rattle.g_ticks.specs.Tick.{IsBetween, has_dump, left, some_job_steps}
 
 -- The turn from which on the first of some lines is due.
@@ -116,14 +116,15 @@ pub record DumpsKept (done : List Timed) (old new : Rack) : Type 0 where
   pub stay : HaveNoProcess done → DumpsGrow old new
 
 -- What holds of all devices after a part that did some lines. Everything is ready for the next part, unless this one
--- failed. The lines armed the devices. Disc and rack still belong together, and completed dumps stay or move. The sink's
--- counter rises only with a failure of its own.
+-- failed. The lines armed the devices. Disc and rack still belong together, a safe system stays safe, and completed dumps stay or
+-- move. The sink's counter rises only with a failure of its own.
 pub record Keeps (done : List Timed) (old : Seen) (failure : Option Failure) (new : Seen) (faults faults' : ℕ) : Type 0 where
   pub ready : failure ≡ None → IsReady new.system new.crew × AreOpen new.crew.jobs
   pub numbers : failure ≡ None → new.crew.next_job ≤ old.crew.next_job + length done
   pub arms : AreArmings done (failure ≡ None) (devices_in old.system) (devices_in new.system)
   pub same : SameDevices (devices_in old.system) (devices_in new.system)
   pub belongs : SystemBelongs old.system → SystemBelongs new.system
+  pub safe : SystemSafe old.system → SystemSafe new.system
   pub dumps : SystemBelongs old.system → DumpsKept done (devices_in old.system).rack (devices_in new.system).rack
   pub cause : FaultCause failure faults faults'
 

@@ -19,7 +19,7 @@ use Rattle.g_incr.specs.Plan.{needs}
 use Rattle.g_tape.specs.Rack.{Rack, is_mounted, reel}
 use Rattle.g_day.specs.Parts.{IsReady, Matches, Seen}
 use Rattle.g_day.specs.Puts.{FaultCause, HasGrown}
-use Rattle.g_day.specs.System.{Down, DumpsGrow, SameDevices, StandsAs, SystemBelongs, SystemFacts, Up, devices_in}
+use Rattle.g_day.specs.System.{Down, DumpsGrow, SameDevices, StandsAs, SystemBelongs, SystemFacts, SystemSafe, Up, devices_in}
 use Rattle.g_run_model.specs.Events.{IsDumpStep}
 use Rattle.g_run_model.specs.Moves.{DumpCounted, Move, MovesCounted, Run, dump_told}
 use Rattle.g_run_model.specs.World.{Between, KeepsLines, Phase, Stepped, Turned, World, able, has_none, is_due, is_dumping, nothing_steps}
@@ -85,6 +85,7 @@ pub record KeepsRun (old : Seen) (failure : Option Failure) (new : Seen) (faults
   pub tape_arms : (devices_in new.system).rack.arms ≡ (devices_in old.system).rack.arms
   pub same : SameDevices (devices_in old.system) (devices_in new.system)
   pub belongs : SystemBelongs old.system → SystemBelongs new.system
+  pub safe : SystemSafe old.system → SystemSafe new.system
   pub dumps : SystemBelongs old.system → DumpsGrow (devices_in old.system).rack (devices_in new.system).rack
   pub cause : FaultCause failure faults faults'
   pub numbers : failure ≡ None → new.crew.next_job ≡ old.crew.next_job

@@ -2,7 +2,7 @@
 ghost use Rattle.std.specs.Prelude.{◌≡◌, false, true, is_some, option_map};
 ghost use Rattle.g_tape.specs.Rack.{is_mounted, reel};
 ghost use Rattle.g_dumper.specs.Steps.{stepped_of};
-ghost use Rattle.g_store.specs.Dumping.{KeepsDumps, StepsAs};
+ghost use Rattle.g_store.specs.Dumping.{KeepsDumps, KeepsDumpsSafe, StepsAs};
 ghost use Rattle.g_store.specs.Events.{StepsDump};
 
 use g_day::Running;
@@ -87,6 +87,7 @@ impl<D: Disc, T: Tapes> Watched<D, T> {
         ensures event { StepsDump self.old.running (stepped_of result) self.new.running }
         ensures steps { StepsAs self.old.running (stepped_of result) self.new.running }
         ensures dumps { KeepsDumps self.old.running (stepped_of result) self.new.running }
+        ensures safe { KeepsDumpsSafe self.old.running (stepped_of result) self.new.running }
         ensures asked { self.new.asked ≡ true }
     {
         self.asked = true;

@@ -1,26 +1,23 @@
 use Rattle.std.proofs.Common.{sym, ap, subst}
 use Rattle.g_tape.specs.Rack.{Rack}
-use Rattle.g_store_meaning.specs.StoreInvariant.{StoreFacts}
 use Rattle.g_run_model.specs.Devices.{Devices}
 use Rattle.g_laws_runs.specs.BeginningAnew.{AreBlank, with_new_disc}
 use Rattle.g_day.specs.BeginningAnew.{IsBlank, beside_new}
 use Rattle.g_operator.specs.Arming.{HasArmed, tape_armed}
-use Rattle.g_day.specs.System.{Down, SystemFacts, Up, devices_in, facts_of}
+use Rattle.g_day.specs.System.{Down, SystemFacts, Up, facts_of}
 use Rattle.g_operator.proofs.AnewLemmas.{blank_tape_armed}
-use Rattle.g_operator.proofs.StopLemmas.{armed_up, tape_down}
+use Rattle.g_operator.proofs.StopLemmas.{tape_down, tape_up}
 use Rattle.g_operator.proofs.arming.arm_tape.Goals as goal
 
 pub returns-in-Up-clause-armed : goal.returns-in-Up-clause-armed
 returns-in-Up-clause-armed g c =
     subst (λ (f : SystemFacts). HasArmed (tape_armed c.args.k) f (Up c.arm_tape.new.self)) (sym (ap (facts_of g.D.Disc.state g.T.Tapes.rack) c.in-Up.is))
-    (armed_up (tape_armed c.args.k) c.in-Up.store c.arm_tape.new.self c.arm_tape.ensures.same (ap (λ (t : StoreFacts). devices_in (Up t)) c.arm_tape.ensures.armed) (ap (λ (t : StoreFacts). t.spent) c.arm_tape.ensures.armed)
-    (ap (λ (t : StoreFacts). t.online.disc.size) c.arm_tape.ensures.armed))
+    (tape_up c.args.k c.in-Up.store c.arm_tape.new.self c.arm_tape.ensures.same c.arm_tape.ensures.armed)
 
 pub returns-in-Up-clause-aside : goal.returns-in-Up-clause-aside
 returns-in-Up-clause-aside g c =
     subst (λ (f : SystemFacts). HasArmed (tape_armed c.args.k) (beside_new f) (Up c.arm_tape.new.self)) (sym (ap (facts_of g.D.Disc.state g.T.Tapes.rack) c.in-Up.is))
-    (armed_up (tape_armed c.args.k) c.in-Up.store c.arm_tape.new.self c.arm_tape.ensures.same (ap (λ (t : StoreFacts). devices_in (Up t)) c.arm_tape.ensures.armed) (ap (λ (t : StoreFacts). t.spent) c.arm_tape.ensures.armed)
-    (ap (λ (t : StoreFacts). t.online.disc.size) c.arm_tape.ensures.armed))
+    (tape_up c.args.k c.in-Up.store c.arm_tape.new.self c.arm_tape.ensures.same c.arm_tape.ensures.armed)
 
 pub returns-in-Up-clause-blank : goal.returns-in-Up-clause-blank
 returns-in-Up-clause-blank g c = subst (λ (f : SystemFacts). IsBlank f → IsBlank (Up c.arm_tape.new.self)) (sym (ap (facts_of g.D.Disc.state g.T.Tapes.rack) c.in-Up.is)) (λ b. b)

@@ -17,13 +17,13 @@ dump_step-requires-clause-open g c = some_there c.args.up.now.store.running.dump
 
 pub returns-in-Ok-Going-clause-did : goal.returns-in-Ok-Going-clause-did
 returns-in-Ok-Going-clause-did g c =
-    let (event, steps, stay) = as_stepped c.args.up.now.store.running c.dump_step.new.self.running _ _ c.in-Ok-Going.field-0-is c.in-Ok-Going.ensures.event c.in-Ok-Going.ensures.steps c.in-Ok-Going.ensures.dumps in
+    let (event, steps, stay) = as_stepped c.args.up.now.store.running c.dump_step.new.self.running _ _ c.in-Ok-Going.field-0-is c.in-Ok-Going.ensures.event c.in-Ok-Going.ensures.steps (c.in-Ok-Going.ensures.dumps, c.in-Ok-Going.ensures.safe) in
     same_dump (seen_up c.dump_step.new.self.running c.args.up.now.crew c.args.up.now.count (unstopped c.dump_step.new.self.running.spent _ event.spent (λ e. let no : ⊥ = cc in no)))
     (did_going c.args.up.now.store.running c.dump_step.new.self.running c.requires.ready.0 c.args.up.now.crew c.args.up.now.count event steps stay c.requires.open (g.K.Sink.written c.args.out.now) (g.K.Sink.faults c.args.out.now))
 
 pub returns-in-Ok-Completed-clause-did : goal.returns-in-Ok-Completed-clause-did
 returns-in-Ok-Completed-clause-did g c =
-    let (event, steps, stay) = as_stepped c.args.up.now.store.running c.dump_step.new.self.running _ _ c.in-Ok-Completed.field-0-is c.in-Ok-Completed.ensures.event c.in-Ok-Completed.ensures.steps c.in-Ok-Completed.ensures.dumps in
+    let (event, steps, stay) = as_stepped c.args.up.now.store.running c.dump_step.new.self.running _ _ c.in-Ok-Completed.field-0-is c.in-Ok-Completed.ensures.event c.in-Ok-Completed.ensures.steps (c.in-Ok-Completed.ensures.dumps, c.in-Ok-Completed.ensures.safe) in
     same_dump (seen_up c.dump_step.new.self.running c.args.up.now.crew c.args.up.now.count (unstopped c.dump_step.new.self.running.spent _ event.spent (λ e. let no : ⊥ = cc in no)))
     (did_completed c.args.up.now.store.running c.dump_step.new.self.running c.requires.ready.0 c.args.up.now.crew c.args.up.now.count c.in-Ok-Completed.done event steps stay c.requires.open c.say_made.result (g.K.Sink.written c.args.out.now) (g.K.Sink.written c.say_made.new.out) (g.K.Sink.faults c.args.out.now) (g.K.Sink.faults c.say_made.new.out)
     (c.say_made.ensures (dump_text c.in-Ok-Completed.done (codes "COMPLETED")) c.dump_text-made.ensures))
@@ -35,7 +35,7 @@ returns-then-spent-clause-did g c =
     same_dump (ap (λ (f : SystemFacts). seen f c.tell_fault.new.crew c.args.up.now.count) (left_fault c.dump_step.new.self.running c.in-Err.fault fault stopped))
     (did_fails c.args.up.now.store.running c.dump_step.new.self.running c.requires.ready.0 c.args.up.now.crew c.args.up.now.count c.in-Err.fault
     fault
-    c.in-Err.ensures.event c.in-Err.ensures.steps c.in-Err.ensures.dumps c.tell_fault.result c.tell_fault.new.crew (g.K.Sink.written c.args.out.now) (g.K.Sink.written c.tell_fault.new.out) (g.K.Sink.faults c.args.out.now) (g.K.Sink.faults c.tell_fault.new.out) c.tell_fault.ensures)
+    c.in-Err.ensures.event c.in-Err.ensures.steps (c.in-Err.ensures.dumps, c.in-Err.ensures.safe) c.tell_fault.result c.tell_fault.new.crew (g.K.Sink.written c.args.out.now) (g.K.Sink.written c.tell_fault.new.out) (g.K.Sink.faults c.args.out.now) (g.K.Sink.faults c.tell_fault.new.out) c.tell_fault.ensures)
 
 pub returns-else-spent-clause-did : goal.returns-else-spent-clause-did
 returns-else-spent-clause-did g c =
@@ -43,5 +43,5 @@ returns-else-spent-clause-did g c =
     same_dump (seen_up c.dump_step.new.self.running c.args.up.now.crew c.args.up.now.count running)
     (did_lost c.args.up.now.store.running c.dump_step.new.self.running c.requires.ready.0 c.args.up.now.crew c.args.up.now.count c.args.number c.requires.number c.in-Err.fault
     (λ stop. false≢true (sym running ∙ c.in-Err.ensures.event.spent.1 (ap (λ (f : StoreFault). let x : Result Stepped StoreFault = Err f in x) stop)))
-    c.in-Err.ensures.event c.in-Err.ensures.steps c.in-Err.ensures.dumps c.requires.open c.say_made-else-spent.result (g.K.Sink.written c.args.out.now) (g.K.Sink.written c.say_made-else-spent.new.out) (g.K.Sink.faults c.args.out.now) (g.K.Sink.faults c.say_made-else-spent.new.out)
+    c.in-Err.ensures.event c.in-Err.ensures.steps (c.in-Err.ensures.dumps, c.in-Err.ensures.safe) c.requires.open c.say_made-else-spent.result (g.K.Sink.written c.args.out.now) (g.K.Sink.written c.say_made-else-spent.new.out) (g.K.Sink.faults c.args.out.now) (g.K.Sink.faults c.say_made-else-spent.new.out)
     (c.say_made-else-spent.ensures (dump_text c.args.number (codes "LOST " ++ fault_line c.in-Err.fault)) c.lost-made.ensures))
