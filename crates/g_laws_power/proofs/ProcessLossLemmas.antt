@@ -1,5 +1,5 @@
 -- What a power loss leaves after a stopped PROCESS can be safe again.
--- serves: EventLemmas
+-- serves: DeviceLemmas, EventLemmas
 use Rattle.std.proofs.Common.{◌≡◌, ◌≢◌, ℕ, zero, suc, ◌+◌, ◌<◌, ◌==◌, Bool, true, false, List, [], ◌∷◌, ◌++◌, map, Option, Some, None, Err, is_some, refl, sym, ◌∙◌, ap, arith, subst, inl, inr, if◌then◌else◌}
 use Rattle.std.specs.Prelude.{◌⊎◌, ◌||◌, All, Contains, Result}
 use Rattle.std.specs.List.{AllZip}
