@@ -1,6 +1,6 @@
 -- Safe devices: those of a store that goes down or was stopped, and those of which no store was made.
 -- serves: device_losses (format, refusals, stops)
-use Rattle.std.proofs.Common.{◌≡◌, ◌≢◌, ℕ, Bool, true, false, List, [], ◌∷◌, map, Option, Some, None, Err, refl, sym, ◌∙◌, ap, arith, subst, inl, inr, option_map, if◌then◌else◌}
+use Rattle.std.proofs.Common.{◌≡◌, ◌≢◌, ℕ, Bool, true, false, List, [], ◌∷◌, map, Option, Some, None, refl, sym, ◌∙◌, ap, arith, subst, inl, inr, option_map, if◌then◌else◌}
 use Rattle.std.specs.Prelude.{◌⊎◌, ◌↔◌, All, Result, find, nat_lt}
 use Rattle.std.specs.List.{AllZip}
 use Rattle.std.proofs.lemmas.Bool.{ltb-false}
@@ -9,7 +9,6 @@ use Rattle.std.proofs.lemmas.Option.{none-some}
 use Rattle.g_dirs.specs.Durable.{IsDiscSafe}
 use Rattle.g_disc.specs.Disc.{DiscState, StayDurable}
 use Rattle.g_disc.specs.Durable.{MayLeave as MayLeaveDisc}
-use Rattle.g_name.specs.declared.path.Path.{Path}
 use Rattle.g_tape.specs.Rack.{Rack}
 use Rattle.g_tape.specs.Reads.{MayLeave, OnlyReads, blocks_of, unread}
 use Rattle.g_tape.specs.Reel.{Reel}
@@ -24,9 +23,8 @@ use Rattle.g_store_model.specs.CallStep.{Outcome}
 use Rattle.g_store_meaning.specs.Belonging.{Belong, BelongWith}
 use Rattle.g_store_meaning.specs.Meaning.{told_reels}
 use Rattle.g_store_meaning.specs.Reading.{AllTold}
-use Rattle.g_store_meaning.specs.Safety.{AreSafe, CanBeSafe, IsLeft, IsRackLeft, IsReelLeft, IsSafe}
-use Rattle.g_store_meaning.specs.StoreInvariant.{StoreFacts}
-use Rattle.g_store_meaning.specs.Surviving.{DumpsMadeSafe, disc_left}
+use Rattle.g_store_meaning.specs.Safety.{AreSafe, IsRackLeft, IsReelLeft}
+use Rattle.g_store_meaning.specs.Surviving.{disc_left}
 use Rattle.g_laws_store.proofs.TiedLemmas.{durable_is_safe}
 use Rattle.g_store.specs.Making.{Refuses}
 use Rattle.g_store.specs.Refusing.{first_used}
