@@ -1,5 +1,5 @@
 -- What each call on a file of blocks does to what a power loss may leave of it.
--- serves: bring_if (secured), cut (begun, disorderly, kept, secured, stored), end_with (begun, kept), is_synced, make_room (begun, kept, secured), and 4 more
+-- serves: bring_if (secured), cut (begun, disorderly, kept, secured, stored), end_with (begun, kept), finish (no_more), is_synced, and 5 more
 use Rattle.std.proofs.Common.{◌≡◌, ◌⊎◌, ℕ, ◌+◌, ◌*◌, ◌<◌, ◌≤◌, ◌∷◌, Bool, List, min, Result, Ok, Err, OnErr, OnOk, is_err, true, sym, subst, ◌∙◌, inl, inr, arith}
 use Rattle.std.specs.Option.{ForSome}
 use Rattle.std.proofs.lemmas.Bool.{cases_lt}

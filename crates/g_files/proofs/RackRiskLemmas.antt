@@ -1,5 +1,5 @@
 -- What a power loss may leave of the reels of a rack of files.
--- serves: finish, finish_all, risks_list_what_is_read, secure, write
+-- serves: finish (no_more), finish_all, risks_list_what_is_read, secure, write
 use Rattle.std.proofs.Common.{◌≡◌, ◌⊎◌, ◌==◌, ℕ, zero, suc, ◌+◌, ◌*◌, ◌<◌, ◌≤◌, Bool, true, false, if◌then◌else◌, List, [], ◌∷◌, ◌++◌, length, map, get_or, take, replicate, Result, Ok, Err, OnOk, is_err, is_ok, Some, refl, sym, ap, subst, ◌∙◌, inl, inr, arith, length-set, length-take}
 use Rattle.std.specs.Prelude.{All, Option, option_map}
 use Rattle.std.specs.List.{AllZip}

@@ -1,5 +1,5 @@
 -- What a power loss may leave of a reel in a file.
--- serves: end_with (durable), open (able), secure (durable), RackRiskLemmas
+-- serves: end_with (durable), finish (no_more), open (able), secure (durable), RackRiskLemmas
 use Rattle.std.proofs.Common.{◌≡◌, ◌⊎◌, ◌==◌, ℕ, zero, suc, ◌+◌, ◌*◌, ◌<◌, ◌≤◌, true, List, [], ◌∷◌, length, map, take, min, Result, Ok, Err, OnErr, OnOk, Some, None, refl, sym, ap, subst, ◌∙◌, inl, inr, arith, length-take}
 use Rattle.std.specs.Prelude.{All, Contains, Option, option_map, slice_get}
 use Rattle.std.specs.Option.{ForSome}

@@ -1,5 +1,5 @@
 -- What a power loss may leave of a file of blocks, over several calls.
--- serves: append, bring (durable), cut (disorderly), cut_tail (no_more), drop_from (resized), make_room (disorderly, orderly), and 4 more
+-- serves: append, bring (durable), cut (disorderly), cut_tail (no_more), drop_from (resized), make_room (disorderly, orderly), and 5 more
 use Rattle.std.proofs.Common.{◌≡◌, ◌⊎◌, ℕ, ◌+◌, ◌-◌, ◌*◌, ◌<◌, ◌≤◌, List, length, take, min, Result, Ok, Err, OnOk, is_ok, refl, sym, ap, subst, ◌∙◌, inl, inr, arith, length-take, true}
 use Rattle.std.specs.Prelude.{Option, slice_get}
 use Rattle.std.specs.Option.{ForSome}

@@ -1,3 +1,4 @@
+pub mod DeviceLemmas
 pub mod EventLemmas
 mod LeftLemmas
 pub mod ProcessLossLemmas

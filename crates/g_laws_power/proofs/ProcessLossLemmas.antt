@@ -1,5 +1,5 @@
 -- What a power loss leaves after a stopped PROCESS can be safe again.
--- serves: EventLemmas
+-- serves: DeviceLemmas, EventLemmas
 use Rattle.std.proofs.Common.{◌≡◌, ◌≢◌, ℕ, zero, suc, ◌+◌, ◌<◌, ◌==◌, Bool, true, false, List, [], ◌∷◌, ◌++◌, map, Option, Some, None, Err, is_some, refl, sym, ◌∙◌, ap, arith, subst, inl, inr, if◌then◌else◌}
 use Rattle.std.specs.Prelude.{◌⊎◌, ◌||◌, All, Contains, Result}
 use Rattle.std.specs.List.{AllZip}
@@ -9,8 +9,8 @@ use Rattle.std.proofs.lemmas.Bool.{cases_Bool, eqb-true}
 use Rattle.std.proofs.lemmas.Bool.Decides.{eqb_tells}
 use Rattle.std.proofs.lemmas.List.Elements.{All-contains}
 use Rattle.std.proofs.lemmas.Option.{same_Some}
-use Rattle.g_tape.specs.Rack.{Rack, reel}
-use Rattle.g_tape.specs.Reads.{blocks_in, blocks_of, unread}
+use Rattle.g_tape.specs.Rack.{Rack}
+use Rattle.g_tape.specs.Reads.{unread}
 use Rattle.g_tape.specs.Reel.{Reel}
 use Rattle.g_tape.proofs.PlaceLemmas.{reel-found}
 use Rattle.g_plain.proofs.Found.{some_of}
@@ -28,7 +28,7 @@ use Rattle.g_laws_store.proofs.DumpingLemmas.{moved_disc, moved_rack}
 use Rattle.g_store_meaning.specs.Belonging.{BelongWith, DiscBelongs, RackBelongs}
 use Rattle.g_store_meaning.specs.Meaning.{told_reels}
 use Rattle.g_store_meaning.specs.Reading.{AllTold, ReelsTold}
-use Rattle.g_store_meaning.specs.Safety.{AreSafe, CanBeSafe, IsLeft, IsRackLeft, IsReelLeft, IsSafe}
+use Rattle.g_store_meaning.specs.Safety.{AreSafe, CanBeSafe, IsLeft, IsRackLeft, IsSafe}
 use Rattle.g_store_meaning.specs.StoreInvariant.{IsUp, StoreFacts, with_dump}
 use Rattle.g_store_meaning.specs.Surviving.{PowerLossLeavesDumps, PowerLossLeavesEither, disc_left}
 use Rattle.g_dumper.specs.Invariant.{up_with}
@@ -40,9 +40,10 @@ use Rattle.g_process.specs.ProcessPlan.{process_plan}
 use Rattle.g_process.specs.Processing.{Processes}
 use Rattle.g_process.proofs.BecomeLemmas.{apart_of}
 use Rattle.g_process.proofs.BelongLemmas.{disc_intended, disc_marked, ready, up_released, without_all}
-use Rattle.g_process.proofs.ExitLemmas.{cleared_same, found_itself, shelved_same}
+use Rattle.g_process.proofs.ExitLemmas.{cleared_same, shelved_same}
 use Rattle.g_process.proofs.LossLemmas.{cleared_beside, live_leaves}
 use Rattle.g_process.proofs.ReleaseLemmas.{AreApart}
+use Rattle.g_laws_power.proofs.LeftLemmas.{left_each, serials_in, told_in}
 use Rattle.g_laws_power.proofs.SurvivalLemmas.{left_is_durable}
 
 -- A SHELF OF DUMPS that survive a power loss
@@ -134,67 +135,22 @@ unread_names : (rs : List Reel) → names (map unread rs) ≡ names rs
 unread_names [] = refl
 unread_names (r ∷ rs) = ap (λ (ns : List ℕ). r.serial ∷ ns) (unread_names rs)
 
-module _ (rack after : Rack) (left : IsRackLeft rack after) (told : ReelsTold (told_reels rack)) (rising : IsStrictlyIncreasing (names rack.reels)) where
-  names_in : (xs ys : List Reel) → AllZip (IsReelLeft rack) xs ys → names ys ≡ names xs
-  names_in [] [] zip = refl
-  names_in [] (y ∷ ys) zip = absurd zip
-  names_in (x ∷ xs) [] zip = absurd zip
-  names_in (x ∷ xs) (y ∷ ys) (one, zip) = ap (λ (n : ℕ). n ∷ names ys) one.serial ∙ ap (λ (ns : List ℕ). x.serial ∷ ns) (names_in xs ys zip)
-
-  names_left : names after.reels ≡ names rack.reels
-  names_left = names_in rack.reels after.reels left.reels
-
-  apart_left : AreApart (told_reels after)
-  apart_left = apart_of (told_reels after) (subst IsStrictlyIncreasing (sym (unread_names after.reels ∙ names_left)) rising)
-
-  -- each reel that is left was one of the rack's
-  from_left : (P : Reel → Type 0) → ((x y : Reel) → Contains rack.reels x → IsReelLeft rack x y → P (unread y)) → Each P (told_reels after)
-  from_left P make = by rack.reels after.reels left.reels (λ x there. there)
-    where
-      by : (xs ys : List Reel) → AllZip (IsReelLeft rack) xs ys → ((x : Reel) → Contains xs x → Contains rack.reels x) → Each P (map unread ys)
-      by xs [] zip among r (i, inside, at) = absurd (let no : ⊥ = omega (arith, inside) in no)
-      by [] (y ∷ ys) zip among r there = absurd zip
-      by (x ∷ xs) (y ∷ ys) (one, zip) among r there =
-          each_both P (unread y) (map unread ys) (make x y (among x (0, omega arith, refl)) one)
-          (by xs ys zip (λ z later. let (i, inside, at) = later in among z (suc i, omega (arith, inside), at))) r there
-
-  told_each : Each (λ r. is_some r.blocks ≡ true) (told_reels after)
-  told_each = from_left (λ r. is_some r.blocks ≡ true) (λ x y there is. is.told)
+module _ (rack after : Rack) (left : IsRackLeft rack after) (told : ReelsTold (told_reels rack)) where
+  names_left : names (told_reels after) ≡ names (told_reels rack)
+  names_left = serials_in rack rack.reels after.reels left.reels
 
   told_after : ReelsTold (told_reels after)
-  told_after = record { each = by (told_reels after) told_each }
-    where
-      by : (rs : List Reel) → Each (λ r. is_some r.blocks ≡ true) rs → All (λ r. is_some r.blocks ≡ true) rs
-      by [] each k d inside = absurd (let no : ⊥ = omega (arith, inside) in no)
-      by (r ∷ rs) each zero d inside = each_first (λ q. is_some q.blocks ≡ true) r rs each
-      by (r ∷ rs) each (suc k) d inside = by rs (each_later (λ q. is_some q.blocks ≡ true) r rs each) k d (omega (arith, inside))
+  told_after = record { each = told_in rack rack.reels after.reels left.reels }
 
-  -- what the rack had of it
-  had : (x : Reel) → Contains rack.reels x → (blocks : List (List ℕ)) × (blocks_of x.serial rack ≡ Some blocks)
-  had x there =
-      let (blocks, at) = some_of x.blocks (All-contains (λ (r : Reel). is_some r.blocks ≡ true) (told_reels rack) (unread x) told.each (unread_there rack.reels x there)) in
-      (blocks, ap blocks_in (found_itself rack.reels x (apart_of rack.reels rising) there) ∙ at)
-    where
-      unread_there : (rs : List Reel) (r : Reel) → Contains rs r → Contains (map unread rs) (unread r)
-      unread_there [] r (i, inside, at) = absurd (let no : ⊥ = omega (arith, inside) in no)
-      unread_there (q ∷ qs) r (zero, inside, at) = (0, omega arith, ap unread at)
-      unread_there (q ∷ qs) r (suc i, inside, at) =
-          let (j, within, same) = unread_there qs r (i, omega (arith, inside), at) in
-          (suc j, omega (arith, within), same)
+  shelved_as : (shelf : ℕ → List Dump) → ((n : ℕ) → PowerLossLeavesDumps n rack (shelf n)) → AreShelved shelf (told_reels after)
+  shelved_as shelf leaves = record { each = left_each rack (λ n blocks. AreCompleted n blocks (shelf n)) told leaves rack.reels after.reels left.reels (λ r there. there) }
 
-  left_either : (one other : ℕ → List Dump) → ((n : ℕ) → PowerLossLeavesEither n rack (one n) (other n)) → Each (HasEither one other) (told_reels after)
-  left_either one other leaves = from_left (HasEither one other) (λ x y there is blocks at.
-      let (before, found) = had x there in
-      subst (λ (n : ℕ). AreCompleted n blocks (one n) ⊎ AreCompleted n blocks (other n)) (sym is.serial) (leaves x.serial before found blocks (is.blocks blocks at before found)))
-
-  shelved_left : (shelf : ℕ → List Dump) → ((n : ℕ) → PowerLossLeavesDumps n rack (shelf n)) → AreShelved shelf (told_reels after)
-  shelved_left shelf leaves = record { each = from_left (Has shelf) (λ x y there is blocks at.
-      let (before, found) = had x there in
-      subst (λ (n : ℕ). AreCompleted n blocks (shelf n)) (sym is.serial) (leaves x.serial before found blocks (is.blocks blocks at before found))) }
-
-  shelved_either : (special : ℕ) (one other : ℕ → List Dump) → ((n : ℕ) → n ≢ special → one n ≡ other n) → ((n : ℕ) → PowerLossLeavesEither n rack (one n) (other n))
-      → AreShelved one (told_reels after) ⊎ AreShelved other (told_reels after)
-  shelved_either special one other beside leaves = by (which special one other beside (told_reels after) apart_left told_each (left_either one other leaves))
+  shelved_either : IsStrictlyIncreasing (names rack.reels) → (special : ℕ) (one other : ℕ → List Dump) → ((n : ℕ) → n ≢ special → one n ≡ other n)
+      → ((n : ℕ) → PowerLossLeavesEither n rack (one n) (other n)) → AreShelved one (told_reels after) ⊎ AreShelved other (told_reels after)
+  shelved_either rising special one other beside leaves =
+      by (which special one other beside (told_reels after) (apart_of (told_reels after) (subst IsStrictlyIncreasing (sym (names_left ∙ unread_names rack.reels)) rising))
+      (λ r there. All-contains (λ (q : Reel). is_some q.blocks ≡ true) (told_reels after) r told_after.each there)
+      (left_each rack (λ n blocks. AreCompleted n blocks (one n) ⊎ AreCompleted n blocks (other n)) told leaves rack.reels after.reels left.reels (λ r there. there)))
     where
       by : Each (Has one) (told_reels after) ⊎ Each (Has other) (told_reels after) → AreShelved one (told_reels after) ⊎ AreShelved other (told_reels after)
       by (inl all) = inl (record { each = all })
@@ -317,7 +273,7 @@ module _ (serial : ℕ) (old new : StoreFacts) (safe : IsSafe old) (it : (let r 
 
       same_names : names (told_reels after) ≡ names (told_reels old.rack)
       same_names =
-          unread_names after.reels ∙ names_left new.rack after left.reels told_new.each rising ∙ names_new ∙ sym (unread_names old.rack.reels)
+          names_left new.rack after left.reels told_new.each ∙ unread_names new.rack.reels ∙ names_new ∙ sym (unread_names old.rack.reels)
 
       -- a shelf and contents that belong to the reels as they were
       belong_of : (c : Contents) (next : ℕ → List Dump) → Holds blocks c → AreShelved next (told_reels after) → RackBelongs text (all_dumps next (told_reels old.rack))
@@ -333,7 +289,7 @@ module _ (serial : ℕ) (old new : StoreFacts) (safe : IsSafe old) (it : (let r 
       }
 
       by_shelf : ((n : ℕ) → PowerLossLeavesDumps n new.rack (shelf n)) → AreShelved shelf (told_reels after)
-      by_shelf leaves = shelved_left new.rack after left.reels told_new.each rising shelf leaves
+      by_shelf leaves = shelved_as new.rack after left.reels told_new.each shelf leaves
 
       intended_old : AreShelved shelf (told_reels after) → Holds blocks (intended_by serial o) → BelongWith (Some blocks) (told_reels after)
       intended_old on_reels holds =
@@ -408,22 +364,14 @@ module _ (serial : ℕ) (old new : StoreFacts) (safe : IsSafe old) (it : (let r 
     belongs (StopsUnmarked is beside durable content its loss) = mark_left is.may content its (loss safe.dumps) (on_intended is.live is.contents durable)
     belongs (StopsMark is live contents durable loss) = mark_left is.may is.content is.has (loss safe.dumps) (on_intended live contents durable)
     belongs (StopsCopies is either loss) =
-        copies_left is.may is.content is.has (shelved_left new.rack after left.reels told_new.each (rising is.may) (with_dump (new_dump serial o is.content) shelf) (loss safe.dumps))
+        copies_left is.may is.content is.has (shelved_as new.rack after left.reels told_new.each (with_dump (new_dump serial o is.content) shelf) (loss safe.dumps))
         (on_disc (λ bs. Holds bs (intended_by serial o) ⊎ Holds bs (moved_by serial o)) either)
     belongs (StopsRelease is durable last interrupted loss) =
         release_left is.may is.content is.has last (loss safe.dumps) (on_disc (λ bs. Holds bs (moved_by serial o)) (stays_on_disc (moved_by serial o) is.live is.contents durable))
 
-    may_of : Stops text shelf serial old new → MayFill serial old
-    may_of (StopsIntent may either same loss) = may
-    may_of (StopsBefore is durable loss) = is.may
-    may_of (StopsUnmarked is beside durable content its loss) = is.may
-    may_of (StopsMark is live contents durable loss) = is.may
-    may_of (StopsCopies is either loss) = is.may
-    may_of (StopsRelease is durable last interrupted loss) = is.may
-
     left_can : CanBeSafe (disc_left blocks new.online.disc) after
     left_can = let durable = left_is_durable new blocks after left in record {
-      told = record { disc = refl; each = told_after new.rack after left.reels told_new.each (rising (may_of stops)) };
+      told = record { disc = refl; each = told_after new.rack after left.reels told_new.each };
       belong = belongs stops;
       disc_safe = durable.0;
       dumps = λ n. inl (durable.1 n);

@@ -1,7 +1,7 @@
 -- What a power loss leaves of a store between two calls, and after a call that was stopped.
--- serves: power_losses (between, can, left, making, safe, stopped), EventLemmas, ProcessLossLemmas, StepLemmas, StepStateLemmas
-use Rattle.std.proofs.Common.{◌≡◌, ℕ, ◌<◌, Bool, true, false, List, Option, Some, None, Err, is_some, refl, sym, ◌∙◌, ap, subst, inl, true≢false}
-use Rattle.std.specs.Prelude.{All, IfSome, Result}
+-- serves: power_losses (between, can, left, making, safe, stopped), DeviceLemmas, EventLemmas, ProcessLossLemmas, StepLemmas, StepStateLemmas
+use Rattle.std.proofs.Common.{◌≡◌, ℕ, ◌<◌, Bool, true, false, List, Option, Some, None, Err, is_some, refl, sym, ap, subst, inl, true≢false}
+use Rattle.std.specs.Prelude.{IfSome}
 use Rattle.std.proofs.lemmas.List.Elements.{All-weaker}
 use Rattle.std.proofs.lemmas.Option.{same_Some}
 use Rattle.g_disc.specs.Durable.{MayLeave}
@@ -10,8 +10,6 @@ use Rattle.g_tape.specs.Reads.{OnlyReads}
 use Rattle.g_tape.specs.Reel.{Reel}
 use Rattle.g_tape.proofs.ReadLemmas.{blocks_after_reads}
 use Rattle.g_plain.specs.declared.calls.StoreCall.{StoreCall}
-use Rattle.g_plain.specs.declared.calls.StoreReply.{StoreReply}
-use Rattle.g_plain.specs.declared.faults.StoreFault.{StoreFault}
 use Rattle.g_plain.specs.declared.faults.StoreFault.TheVariants.{Stopped}
 use Rattle.g_plain.proofs.Found.{some_of}
 use Rattle.g_disc_contents.specs.Contents.{Contents, File, Holds}
@@ -29,7 +27,7 @@ use Rattle.g_store_meaning.specs.Surviving.{AreDumpsSafe, DumpsMadeSafe, disc_le
 use Rattle.g_store_meaning.proofs.SafeLemmas.{safe_then_read}
 use Rattle.g_store_meaning.proofs.ViewLemmas.{Stands, to}
 use Rattle.g_laws_store.proofs.TiedLemmas.{holds_after_loss}
-use Rattle.g_store_meaning.specs.Safety.{CanBeSafe, IsLeft, IsRackLeft, IsSafe}
+use Rattle.g_store_meaning.specs.Safety.{CanBeSafe, IsLeft, IsSafe}
 use Rattle.g_laws_power.specs.Losses.{CallsKeepSafe, LeftCanBeSafe, LeftIsDurable, MakingIsSafe, StoppedCallsSurvive, StopsLike, StoreSurvives}
 use Rattle.g_laws_power.proofs.LeftLemmas.{belong_left, stand_left, told_left}
 
@@ -178,6 +176,7 @@ can_again s blocks rack told survive left belong = record {
   belong = belong;
   disc_safe = (left_is_durable s blocks rack left).0;
   dumps = λ serial. inl ((left_is_durable s blocks rack left).1 serial);
+  blank = λ _. (left_is_durable s blocks rack left).1;
 }
 
 pub left_can_be_safe : LeftCanBeSafe
@@ -190,6 +189,7 @@ left_can_be_safe = record {
     belong = (answers.belongs safe.told safe.belongs).devices;
     disc_safe = answers.survives.safe (answers.spent.1 refl) safe.disc;
     dumps = λ serial. inl (survive_call old new safe answers.cause.tapes serial);
+    blank = λ _. survive_call old new safe answers.cause.tapes;
   };
 }
 
@@ -210,27 +210,25 @@ making_is_safe = record {
         store = makes.keeps;
         up = makes.running;
         belongs = makes.belongs can.told can.belong;
-        disc = makes.durable had at can.disc_safe;
+        disc = begun.durable had at can.disc_safe;
         dumps = made_dumps rack new makes.no_dump can.dumps made;
       };
   restore = λ disc rack number new can restored made.
-      let makes = restored.makes in
-      let (had, at) = some_of disc.held can.told.disc in record {
+      let makes = restored.makes in record {
         told = makes.told can.told;
         store = makes.keeps;
         up = makes.running;
         belongs = makes.belongs can.told can.belong;
-        disc = makes.durable had at can.disc_safe;
+        disc = restored.durable;
         dumps = made_dumps rack new makes.no_dump can.dumps made;
       };
   format = λ disc rack new told disc_safe survive formats.
-      let makes = formats.makes in
-      let (had, at) = some_of disc.held told.disc in record {
+      let makes = formats.makes in record {
         told = makes.told told;
         store = makes.keeps;
         up = makes.running;
         belongs = makes.belongs told tt;
-        disc = makes.durable had at disc_safe;
+        disc = formats.durable;
         dumps = made_dumps rack new makes.no_dump (λ serial. inl (survive serial)) (safe_then_read rack rack new.rack (λ serial _. survive serial) makes.tapes);
       };
 }

@@ -1,5 +1,5 @@
 -- SAFE DEVICES STAY SAFE when a device is armed, and when a reel is mounted or unmounted while the system is down.
--- serves: ReelLemmas, StopLemmas
+-- serves: AnewLemmas, ReelLemmas, StopLemmas
 use Rattle.std.proofs.Common.{◌≡◌, ◌<◌, ℕ, Bool, List, [], ◌∷◌, Option, Some, None, map, refl, sym, ◌∙◌, ap, subst}
 use Rattle.std.specs.Prelude.{All, IfSome}
 use Rattle.std.specs.List.{AllByRecursion, AllZip}
