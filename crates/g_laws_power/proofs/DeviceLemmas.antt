@@ -9,6 +9,7 @@ use Rattle.std.proofs.lemmas.Option.{none-some, same_Some}
 use Rattle.g_dirs.specs.Durable.{IsDiscSafe}
 use Rattle.g_disc.specs.Disc.{DiscState, StayDurable, is_durable}
 use Rattle.g_disc.specs.Durable.{MayLeave as MayLeaveDisc}
+use Rattle.g_disc.proofs.DurableLemmas.{all_durable_is_unchanged}
 use Rattle.g_tape.specs.Rack.{Rack}
 use Rattle.g_tape.specs.Reads.{MayLeave, OnlyReads, blocks_of, unread}
 use Rattle.g_tape.specs.Reel.{Reel}
