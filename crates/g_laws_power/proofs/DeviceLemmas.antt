@@ -9,6 +9,7 @@ use Rattle.std.proofs.lemmas.Option.{none-some, same_Some}
 use Rattle.g_dirs.specs.Durable.{IsDiscSafe}
 use Rattle.g_disc.specs.Disc.{DiscState, StayDurable, is_durable}
 use Rattle.g_disc.specs.Durable.{MayLeave as MayLeaveDisc}
+use Rattle.g_disc.proofs.DurableLemmas.{all_durable_is_unchanged}
 use Rattle.g_tape.specs.Rack.{Rack}
 use Rattle.g_tape.specs.Reads.{MayLeave, OnlyReads, blocks_of, unread}
 use Rattle.g_tape.specs.Reel.{Reel}
@@ -202,7 +203,7 @@ pub durable_are_safe : DurableAreSafe
 durable_are_safe disc rack told belong long none durable =
     all_survive disc rack told belong (λ held at side names. record { slot = λ k within. all k; files = λ e stands k within. all k }) (λ serial. durable_dumps serial rack (durable serial))
     (λ blocks may. let (had, at) = some_of disc.held told.disc in
-        subst (λ (held : Option (List (List ℕ))). BelongWith held (told_reels rack)) (at ∙ ap (λ (x : List (List ℕ)). Some x) (sym (all_durable_is_unchanged disc had blocks (long had at) at none may))) belong)
+    subst (λ (held : Option (List (List ℕ))). BelongWith held (told_reels rack)) (at ∙ ap (λ (x : List (List ℕ)). Some x) (sym (all_durable_is_unchanged disc had blocks (long had at) at none may))) belong)
   where
     all : (k : ℕ) → is_durable disc k ≡ true
     all k = ap (λ (ks : List ℕ). not (list_any (nat_eq k) ks)) none
