@@ -1,6 +1,6 @@
 -- The end of a check against a seal.
 -- serves: look_against (devices, own, report)
-use Rattle.std.proofs.Common.{◌≡◌, ◌⊎◌, ◌↔◌, inl, inr, ℕ, List, [], ◌∷◌, ◌++◌, Option, Result, Ok, Err, IsTrue, refl, ap, subst, ◌∙◌}
+use Rattle.std.proofs.Common.{◌≡◌, ◌⊎◌, ◌↔◌, inl, inr, ℕ, List, [], ◌∷◌, ◌++◌, Bool, Option, Result, Ok, Err, IsTrue, refl, ap, subst, ◌∙◌}
 use Rattle.std.specs.Option.{ForSome}
 use Rattle.g_dirs.specs.Directory.{Directory}
 use Rattle.g_dirs.specs.Image.{StandsFor}
@@ -69,11 +69,17 @@ module _ (size : ℕ) (held : Option (List (List ℕ))) (reels : List Reel) (twi
   report_found c (byte ∷ report) right store reported (inr quiet) =
       inl (quiet_ends (λ s. EndsCheck s size held reels w) status.NoMemory ended w (λ q. q) quiet, inl (quiet_ends IsFailed status.NoMemory ended w (λ _. tt) quiet))
 
--- the report of devices that were read before
-pub report_mid : (held now : Option (List (List ℕ))) (reels after : List Reel) (twins : Twins) (dumps : List SealedDump) (files : List SealedFile) (text : List ℕ) → now ≡ held → after ≡ reels → AllTold held reels
-    → (AllTold now after → IsReport now after twins dumps files text) → IsReport held reels twins dumps files text
-report_mid held now reels after twins dumps files text same left told is =
-    subst (λ (h : Option (List (List ℕ))). AllTold h reels → IsReport h reels twins dumps files text) same (subst (λ (rs : List Reel). AllTold now rs → IsReport now rs twins dumps files text) left is) told
+-- the check of devices that were read before
+module _ (held now : Option (List (List ℕ))) (same : now ≡ held) where
+  pub checked_mid : (size after_size : ℕ) (reels after : List Reel) (c : Checked) → after_size ≡ size → after ≡ reels → AllTold held reels → (AllTold now after → IsChecked after_size now after c.verdict.broken c.verdict.missing c.text)
+      → IsChecked size held reels c.verdict.broken c.verdict.missing c.text
+  checked_mid size after_size reels after c size_is left told is =
+      subst (λ (n : ℕ). IsChecked n held reels c.verdict.broken c.verdict.missing c.text) size_is
+      (subst (λ (h : Option (List (List ℕ))). AllTold h reels → IsChecked after_size h reels c.verdict.broken c.verdict.missing c.text) same
+      (subst (λ (rs : List Reel). AllTold now rs → IsChecked after_size now rs c.verdict.broken c.verdict.missing c.text) left is) told)
+
+  pub store_mid : (filestore : Bool) → ForSome now (λ blocks. IsTrue filestore ↔ ((d : Directory) × StandsFor blocks d)) → ForSome held (λ blocks. IsTrue filestore ↔ ((d : Directory) × StandsFor blocks d))
+  store_mid filestore = subst (λ (h : Option (List (List ℕ))). ForSome h (λ blocks. IsTrue filestore ↔ ((d : Directory) × StandsFor blocks d))) same
 
 -- a check against the text of the own seal
 pub report_own : (size : ℕ) (held : Option (List (List ℕ))) (rack : Rack) (twins : Twins) (dumps : List SealedDump) (files : List SealedFile) (ended : Status) (w : Written) → AreReels rack.reels → AllTold held (told_reels rack) → AreEntries dumps files

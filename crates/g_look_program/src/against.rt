@@ -26,9 +26,9 @@ use std::io::{self, Error, ErrorKind, Read};
 
 /// A seal, and what a second rack has of it.
 #[derive(Drop)]
-pub struct Against {
+pub struct Against<'a> {
     pub seal: Seal,
-    pub twins: Twins,
+    pub twins: &'a Twins,
 }
 
 /// Checks image and rack against the seal in this file, which is read and parsed first. Returns 8 if it isn't a seal, and 7 if image or rack can't
@@ -84,7 +84,11 @@ fn against_files<K: Sink>(rt: &HostRuntime, seal: Seal, out: &mut K) -> u8
         Ok(Some(second)) => second,
         Ok(None) => {
             let twins = Twins::none(alloc);
-            return look_against(alloc, &Against { seal, twins }, out, &mut disc, &mut tapes).code();
+            let against = Against {
+                seal,
+                twins: &twins,
+            };
+            return look_against(alloc, against, out, &mut disc, &mut tapes).code();
         }
         Err(code) => return code,
     };
@@ -96,21 +100,24 @@ fn against_files<K: Sink>(rt: &HostRuntime, seal: Seal, out: &mut K) -> u8
         Err(LookFault::TapeUnread) => return put(out, b"TAPE READ\n", Status::Unread).code(),
         Err(_) => return Status::NoMemory.code(),
     };
-    let against = Against { seal, twins };
-    let status = look_against(alloc, &against, out, &mut disc, &mut tapes);
+    let against = Against {
+        seal,
+        twins: &twins,
+    };
+    let status = look_against(alloc, against, out, &mut disc, &mut tapes);
     match status {
         Status::Done | Status::No | Status::Nothing => {}
         _ => return status.code(),
     }
     let status = tell_twins(alloc, out, &mut tapes, &mut second, status);
-    tell_rotten_twins(alloc, &against.twins, out, status).code()
+    tell_rotten_twins(alloc, &twins, out, status).code()
 }
 
-/// Checks disc and rack, and reports which bytes have changed since this seal: the text of a check is printed, and the report after it. All reels have
-/// to be mounted. Disc and rack are only read.
+/// Checks disc and rack, and reports which bytes have changed since this seal: the text of a check is printed, and the report after it. The report is made
+/// first, so that seal and dumps needn't be in memory together. All reels have to be mounted. Disc and rack are only read.
 pub fn look_against<K: Sink, D: Disc, T: Tapes>(
     alloc: Global,
-    against: &Against,
+    against: Against,
     out: &mut K,
     disc: &mut D,
     tapes: &mut KnownReels<T>,
@@ -119,12 +126,12 @@ pub fn look_against<K: Sink, D: Disc, T: Tapes>(
     requires mounted { All (λ r. r.mounted ≡ true) (T.rack tapes.old).reels }
     ensures report { AllTold (D.state disc.old).held (told_reels (T.rack tapes.old)) → told.EndsReport result
         (D.state disc.old).size (D.state disc.old).held (told_reels (T.rack tapes.old))
-        against.now.twins against.now.seal.dumps.items against.now.seal.files.items
+        against.entry.twins.now against.entry.seal.dumps.items against.entry.seal.files.items
         (record { before = K.written out.old; after = K.written out.new; faults_before = K.faults out.old; faults_after = K.faults out.new }) }
 
     // Against the text of their own seal, disc and rack get what a check prints, and its status.
-    ensures own { AllTold (D.state disc.old).held (told_reels (T.rack tapes.old)) → AreEntries against.now.seal.dumps.items against.now.seal.files.items
-        → IsSealed (D.state disc.old).held (told_reels (T.rack tapes.old)) (sealed_text against.now.seal.dumps.items against.now.seal.files.items)
+    ensures own { AllTold (D.state disc.old).held (told_reels (T.rack tapes.old)) → AreEntries against.entry.seal.dumps.items against.entry.seal.files.items
+        → IsSealed (D.state disc.old).held (told_reels (T.rack tapes.old)) (sealed_text against.entry.seal.dumps.items against.entry.seal.files.items)
         → told.EndsCheck result (D.state disc.old).size (D.state disc.old).held (told_reels (T.rack tapes.old))
         (record { before = K.written out.old; after = K.written out.new; faults_before = K.faults out.old; faults_after = K.faults out.new }) }
     ensures look { IsOfLook result }
@@ -132,12 +139,13 @@ pub fn look_against<K: Sink, D: Disc, T: Tapes>(
         (record { before = K.written out.old; after = K.written out.new; faults_before = K.faults out.old; faults_after = K.faults out.new }) }
     ensures devices { told.Looked result (D.state disc.old) (D.state disc.new) (T.rack tapes.old) (T.rack tapes.new) }
 {
-    let checked = match check(alloc, disc, tapes) {
-        Ok(checked) => checked,
+    let report = match rotten(alloc, disc, tapes, &against.seal, against.twins) {
+        Ok(report) => report,
         Err(fault) => return tell_check(out, Err(fault)),
     };
-    match rotten(alloc, disc, tapes, &against.seal, &against.twins) {
-        Ok(report) => tell_report(out, checked, &report),
+    drop(against);
+    match check(alloc, disc, tapes) {
+        Ok(checked) => tell_report(out, checked, &report),
         Err(fault) => tell_check(out, Err(fault)),
     }
 }

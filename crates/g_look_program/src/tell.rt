@@ -29,8 +29,13 @@ pub(crate) fn tell_report<K: Sink>(out: &mut K, checked: Checked, report: &Text)
     if report.as_slice().is_empty() {
         return tell_check(out, Ok(checked));
     }
-    let mut text = checked.text;
-    match text.extend(report.as_slice()) {
+    // A text that outgrows its memory doubles it, so this one gets what it needs at once.
+    let mut text = Vec::from(checked.text);
+    match text.reserve_exact(report.as_slice().len()) {
+        Ok(()) => {}
+        Err(_) => return Status::NoMemory,
+    }
+    match text.extend_from_slice(report.as_slice()) {
         Ok(()) => put(out, text.as_slice(), Status::No),
         Err(_) => Status::NoMemory,
     }
