@@ -1,15 +1,15 @@
 -- Safe devices: those of a store that goes down or was stopped, and those of which no store was made.
--- serves: device_losses (format, refusals, stops)
-use Rattle.std.proofs.Common.{◌≡◌, ◌≢◌, ℕ, Bool, true, false, List, [], ◌∷◌, map, Option, Some, None, Err, refl, sym, ◌∙◌, ap, arith, subst, inl, inr, option_map, if◌then◌else◌}
-use Rattle.std.specs.Prelude.{◌⊎◌, ◌↔◌, All, Result, find, nat_lt}
-use Rattle.std.specs.List.{AllZip}
+-- serves: device_losses (durable, format, left, refusals, stops)
+use Rattle.std.proofs.Common.{◌≡◌, ◌≢◌, ℕ, Bool, true, false, List, [], ◌∷◌, length, map, Option, Some, None, refl, sym, ◌∙◌, ap, arith, subst, inl, inr, option_map, if◌then◌else◌}
+use Rattle.std.specs.Prelude.{◌⊎◌, ◌↔◌, All, Result, find, nat_eq, nat_lt, not}
+use Rattle.std.specs.List.{AllZip, list_any}
 use Rattle.std.proofs.lemmas.Bool.{ltb-false}
 use Rattle.std.proofs.lemmas.List.Elements.{All-cons, All-head, All-nil, All-tail}
-use Rattle.std.proofs.lemmas.Option.{none-some}
+use Rattle.std.proofs.lemmas.Option.{none-some, same_Some}
 use Rattle.g_dirs.specs.Durable.{IsDiscSafe}
-use Rattle.g_disc.specs.Disc.{DiscState, StayDurable}
+use Rattle.g_disc.specs.Disc.{DiscState, StayDurable, is_durable}
 use Rattle.g_disc.specs.Durable.{MayLeave as MayLeaveDisc}
-use Rattle.g_name.specs.declared.path.Path.{Path}
+use Rattle.g_disc.proofs.DurableLemmas.{all_durable_is_unchanged}
 use Rattle.g_tape.specs.Rack.{Rack}
 use Rattle.g_tape.specs.Reads.{MayLeave, OnlyReads, blocks_of, unread}
 use Rattle.g_tape.specs.Reel.{Reel}
@@ -24,13 +24,12 @@ use Rattle.g_store_model.specs.CallStep.{Outcome}
 use Rattle.g_store_meaning.specs.Belonging.{Belong, BelongWith}
 use Rattle.g_store_meaning.specs.Meaning.{told_reels}
 use Rattle.g_store_meaning.specs.Reading.{AllTold}
-use Rattle.g_store_meaning.specs.Safety.{AreSafe, CanBeSafe, IsLeft, IsRackLeft, IsReelLeft, IsSafe}
-use Rattle.g_store_meaning.specs.StoreInvariant.{StoreFacts}
-use Rattle.g_store_meaning.specs.Surviving.{DumpsMadeSafe, disc_left}
+use Rattle.g_store_meaning.specs.Safety.{AreSafe, IsRackLeft, IsReelLeft}
+use Rattle.g_store_meaning.specs.Surviving.{disc_left}
 use Rattle.g_laws_store.proofs.TiedLemmas.{durable_is_safe}
 use Rattle.g_store.specs.Making.{Refuses}
 use Rattle.g_store.specs.Refusing.{first_used}
-use Rattle.g_laws_power.specs.Devices.{FormatIsSafe, RefusalsKeepSafe, StopsLeaveSafe}
+use Rattle.g_laws_power.specs.Devices.{DurableAreSafe, FormatIsSafe, LeftIsSafe, RefusalsKeepSafe, StopsLeaveSafe}
 use Rattle.g_laws_power.proofs.EventLemmas.{stopped_can_be_safe}
 use Rattle.g_laws_power.proofs.LeftLemmas.{belong_left, told_left}
 use Rattle.g_laws_power.proofs.ProcessLossLemmas.{process_stopped}
@@ -198,3 +197,19 @@ refusals_keep_safe = record {
 pub format_is_safe : FormatIsSafe
 format_is_safe disc rack new safe formats =
     making_is_safe.format disc rack new safe.now.told safe.now.disc_safe (λ serial. safe.now.blank (all_blank rack.reels formats.empty) serial) formats
+
+-- DURABLE DEVICES
+pub durable_are_safe : DurableAreSafe
+durable_are_safe disc rack told belong long none durable =
+    all_survive disc rack told belong (λ held at side names. record { slot = λ k within. all k; files = λ e stands k within. all k }) (λ serial. durable_dumps serial rack (durable serial))
+    (λ blocks may. let (had, at) = some_of disc.held told.disc in
+    subst (λ (held : Option (List (List ℕ))). BelongWith held (told_reels rack)) (at ∙ ap (λ (x : List (List ℕ)). Some x) (sym (all_durable_is_unchanged disc had blocks (long had at) at none may))) belong)
+  where
+    all : (k : ℕ) → is_durable disc k ≡ true
+    all k = ap (λ (ks : List ℕ). not (list_any (nat_eq k) ks)) none
+
+-- WHAT A POWER LOSS LEFT
+pub left_is_safe : LeftIsSafe
+left_is_safe disc rack blocks after safe left =
+    let can = safe.left blocks after left in
+    durable_are_safe (disc_left blocks disc) after can.told can.belong (λ bs at. ap (λ (x : List (List ℕ)). length x) (sym (same_Some blocks bs at)) ∙ left.on_disc.size) refl left.reels.durable

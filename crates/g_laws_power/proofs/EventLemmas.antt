@@ -3,13 +3,10 @@
 use Rattle.std.proofs.Common.{◌≡◌, ℕ, ◌<◌, Bool, true, false, List, [], Option, Some, None, Ok, Err, refl, sym, ◌∙◌, ap, arith, subst, inl, inr, option_map}
 use Rattle.std.specs.Prelude.{◌⊎◌, IfSome, Result}
 use Rattle.std.proofs.lemmas.Bool.{cases_eq}
-use Rattle.std.proofs.lemmas.Option.{same_Some}
-use Rattle.g_name.specs.declared.full.Full.{Full}
-use Rattle.g_name.specs.declared.path.Path.{Path}
 use Rattle.g_tape.specs.Rack.{Rack, changed, reel}
 use Rattle.g_tape.specs.Reads.{LeavesNoMore, OnlyReads, blocks_in, blocks_of}
 use Rattle.g_tape.specs.Reel.{Reel, with_mounted}
-use Rattle.g_tape.proofs.ReadLemmas.{blocks_after_reads, reel-with_reel, reel-with_reel_other}
+use Rattle.g_tape.proofs.ReadLemmas.{reel-with_reel, reel-with_reel_other}
 use Rattle.g_plain.specs.declared.faults.StoreFault.{StoreFault}
 use Rattle.g_plain.specs.declared.faults.StoreFault.TheVariants.{Stopped}
 use Rattle.g_plain.specs.PlainTree.{input_name}
@@ -26,7 +23,7 @@ use Rattle.g_store_meaning.specs.StoreInvariant.{DumpFacts, StoreFacts}
 use Rattle.g_store_meaning.specs.Surviving.{disc_left, with_disc_left}
 use Rattle.g_process.specs.Processing.{Processes}
 use Rattle.g_store.specs.Dumping.{OpensDump}
-use Rattle.g_store.specs.Events.{AnswersEvent, IsAnsweredBy, Migrates, Mounts, Opens, Unmounts}
+use Rattle.g_store.specs.Events.{AnswersEvent, IsAnsweredBy, Opens}
 use Rattle.g_store.specs.Refusing.{DoneOr, mount_refuses, unmount_refuses}
 use Rattle.g_laws_power.specs.Events.{EventsKeepSafe, ProcessKeepsSafe, StoppedCanBeSafe, StoppedEventsSurvive, StopsLikeBy}
 use Rattle.g_store_meaning.specs.Safety.{CanBeSafe, IsLeft, IsSafe}

@@ -1,7 +1,7 @@
 -- What a power loss leaves of a store between two calls, and after a call that was stopped.
 -- serves: power_losses (between, can, left, making, safe, stopped), DeviceLemmas, EventLemmas, ProcessLossLemmas, StepLemmas, StepStateLemmas
-use Rattle.std.proofs.Common.{◌≡◌, ℕ, ◌<◌, Bool, true, false, List, Option, Some, None, Err, is_some, refl, sym, ◌∙◌, ap, subst, inl, true≢false}
-use Rattle.std.specs.Prelude.{All, IfSome, Result}
+use Rattle.std.proofs.Common.{◌≡◌, ℕ, ◌<◌, Bool, true, false, List, Option, Some, None, Err, is_some, refl, sym, ap, subst, inl, true≢false}
+use Rattle.std.specs.Prelude.{IfSome}
 use Rattle.std.proofs.lemmas.List.Elements.{All-weaker}
 use Rattle.std.proofs.lemmas.Option.{same_Some}
 use Rattle.g_disc.specs.Durable.{MayLeave}
@@ -10,8 +10,6 @@ use Rattle.g_tape.specs.Reads.{OnlyReads}
 use Rattle.g_tape.specs.Reel.{Reel}
 use Rattle.g_tape.proofs.ReadLemmas.{blocks_after_reads}
 use Rattle.g_plain.specs.declared.calls.StoreCall.{StoreCall}
-use Rattle.g_plain.specs.declared.calls.StoreReply.{StoreReply}
-use Rattle.g_plain.specs.declared.faults.StoreFault.{StoreFault}
 use Rattle.g_plain.specs.declared.faults.StoreFault.TheVariants.{Stopped}
 use Rattle.g_plain.proofs.Found.{some_of}
 use Rattle.g_disc_contents.specs.Contents.{Contents, File, Holds}
@@ -29,7 +27,7 @@ use Rattle.g_store_meaning.specs.Surviving.{AreDumpsSafe, DumpsMadeSafe, disc_le
 use Rattle.g_store_meaning.proofs.SafeLemmas.{safe_then_read}
 use Rattle.g_store_meaning.proofs.ViewLemmas.{Stands, to}
 use Rattle.g_laws_store.proofs.TiedLemmas.{holds_after_loss}
-use Rattle.g_store_meaning.specs.Safety.{CanBeSafe, IsLeft, IsRackLeft, IsSafe}
+use Rattle.g_store_meaning.specs.Safety.{CanBeSafe, IsLeft, IsSafe}
 use Rattle.g_laws_power.specs.Losses.{CallsKeepSafe, LeftCanBeSafe, LeftIsDurable, MakingIsSafe, StoppedCallsSurvive, StopsLike, StoreSurvives}
 use Rattle.g_laws_power.proofs.LeftLemmas.{belong_left, stand_left, told_left}
 

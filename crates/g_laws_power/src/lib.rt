@@ -1,7 +1,7 @@
 //! Theorems about what a power loss leaves of the devices of a store. No code is involved.
 #![tactic(auto)]
 
-ghost use Rattle.g_laws_power.specs.Devices.{FormatIsSafe, RefusalsKeepSafe, StepsKeepSafe, StopsLeaveSafe};
+ghost use Rattle.g_laws_power.specs.Devices.{DurableAreSafe, FormatIsSafe, LeftIsSafe, RefusalsKeepSafe, StepsKeepSafe, StopsLeaveSafe};
 ghost use Rattle.g_laws_power.specs.Events.{EventsKeepSafe, ProcessKeepsSafe, StoppedCanBeSafe, StoppedEventsSurvive, StoppedStepsSurvive};
 ghost use Rattle.g_laws_power.specs.Losses.{CallsKeepSafe, LeftCanBeSafe, LeftIsDurable, MakingIsSafe, StoppedCallsSurvive, StoreSurvives};
 
@@ -35,9 +35,12 @@ pub fn step_losses()
 
 /// The devices of a safe store are safe when it goes down, and after a call or an event that a failed write stopped: as they are and
 /// after any power loss, a safe store can be made on them. They stay safe if START, RESTORE or FORMAT refuses. FORMAT makes a safe
-/// store of safe devices, although it doesn't make the rack durable.
+/// store of safe devices, although it doesn't make the rack durable. What a power loss leaves of safe devices is safe again. Devices
+/// that belong together are safe if all of their blocks are durable.
 pub fn device_losses()
     ensures stops { StopsLeaveSafe }
     ensures refusals { RefusalsKeepSafe }
     ensures format { FormatIsSafe }
+    ensures left { LeftIsSafe }
+    ensures durable { DurableAreSafe }
 {}

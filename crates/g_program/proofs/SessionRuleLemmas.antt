@@ -1,6 +1,6 @@
 -- A session by rules whose answers are also answers of other rules is a session by those.
--- serves: session_by_rules (answers, ends)
-use Rattle.std.proofs.Common.{◌≡◌, ℕ, List, [], ◌∷◌, Option, Some, None}
+-- serves: session_by_rules (anew, answers, ends)
+use Rattle.std.proofs.Common.{◌≡◌, ◌⊎◌, ℕ, List, [], ◌∷◌, Option, Some, None, inl, inr}
 use Rattle.std.specs.Fn.{Shared, FnReturnsAt}
 use denote.Ref.{Bor}
 use Rattle.g_rules.specs.declared.tariff.Charge.{Charge}
@@ -14,8 +14,9 @@ use Rattle.g_run.specs.declared.status.Status.TheVariants.{Done, Words, BadScrip
 use Rattle.g_run_model.specs.Devices.{Devices}
 use Rattle.g_run_model.specs.Moves.{Move}
 use Rattle.g_run_model.specs.World.{World}
+use Rattle.g_laws_runs.specs.BeginningAnew.{with_new_disc}
 use Rattle.g_laws_sessions.specs.Session.{AlwaysAnswers, Asked, Comes, Exchange, Exchanged, Exchanges, Goes, IsAnswered, IsCutShort, IsOver, Moment, Nothing, Refused, Rested, Skipped, Then, Took, Unclosed}
-use Rattle.g_session.specs.Session.{EndsSession}
+use Rattle.g_session.specs.Session.{EndsAnew, EndsSession, StaysBlank}
 use Rattle.g_program.proofs.RuleLemmas.{run_by, run_of}
 
 module _ {F G U V : Type 0}
@@ -79,7 +80,7 @@ module _ {F G U V : Type 0}
   always_by : (s : State) (t : Transcript) → AlwaysAnswers tariffs tariff rules rule s t → AlwaysAnswers others other ways way s t
   always_by s t answers lines text requested = answered_by s lines text (answers lines text requested)
 
-  over_by : (s : State) (old new : Devices) (t : Transcript) (before after : Option (List ℕ)) (bad : Option ℕ) → IsOver tariffs tariff rules rule s old new t before after bad → IsOver others other ways way s old new t before after bad
+  unfoldable over_by : (s : State) (old new : Devices) (t : Transcript) (before after : Option (List ℕ)) (bad : Option ℕ) → IsOver tariffs tariff rules rule s old new t before after bad → IsOver others other ways way s old new t before after bad
   over_by s old new t before after bad o = record {
     said = o.said;
     now = o.now;
@@ -129,6 +130,58 @@ module _ {F G U V : Type 0}
   session_by Words s old new t before after it = absurd it
   session_by TooLong s old new t before after it = absurd it
 
+  -- on blank devices
+  blank_by : (status : Status) (s : State) (old new : Devices) (t : Transcript) (before after : Option (List ℕ)) → StaysBlank tariffs tariff rules rule status s old new t before after
+      → StaysBlank others other ways way status s old new t before after
+  unfolding over_by
+  blank_by Done s old new t before after b = record {
+    answers = always_by s t b.answers;
+    ends = (b.ends.0, over_by s (with_new_disc old) (with_new_disc new) t before after None b.ends.1);
+    blank = b.blank;
+    unwell = b.unwell;
+  }
+  blank_by (BadScript k) s old new t before after b = record {
+    answers = always_by s t b.answers;
+    ends = (b.ends.0, over_by s (with_new_disc old) (with_new_disc new) t before after (Some k) b.ends.1);
+    blank = b.blank;
+    unwell = b.unwell;
+  }
+  blank_by ScriptFault s old new t before after b = record {
+    answers = always_by s t b.answers;
+    ends = (b.ends.0, (b.ends.1.0, over_by s (with_new_disc old) (with_new_disc new) t before after b.ends.1.0 b.ends.1.1));
+    blank = b.blank;
+    unwell = b.unwell;
+  }
+  blank_by OutputFault s old new t before after b =
+      record { answers = always_by s t b.answers; ends = short_by s (with_new_disc old) (with_new_disc new) t before after b.ends; blank = b.blank; unwell = λ lines cut begin well. cut }
+  blank_by NoMemory s old new t before after b =
+      record { answers = always_by s t b.answers; ends = short_by s (with_new_disc old) (with_new_disc new) t before after b.ends; blank = b.blank; unwell = λ lines cut begin well. cut }
+  blank_by Words s old new t before after b = absurd b.ends
+  blank_by TooLong s old new t before after b = absurd b.ends
+
+  anew_by : (status : Status) (s : State) (old new : Devices) (t : Transcript) (before after : Option (List ℕ)) → EndsAnew tariffs tariff rules rule status s old new t before after → EndsAnew others other ways way status s old new t before after
+  anew_by status s old new t before after (inl took) =
+      inl (record { answers = always_by s t took.answers; ends = session_by status s (with_new_disc old) new t before after took.ends; together = took.together })
+  anew_by status s old new t before after (inr (inl b)) = inr (inl (blank_by status s old new t before after b))
+  anew_by status s old new t before after (inr (inr e)) = inr (inr (record {
+    said = e.said;
+    now = e.now;
+    comes = comes_by s e.said e.now e.comes;
+    mid = e.mid;
+    run_of = run_of tariffs tariff others other priced rules rule ways way weighed _ None s (with_new_disc old) (with_new_disc e.mid) e.now.moves e.now.world e.run_of;
+    blank = e.blank;
+    unwell = e.unwell;
+    same = e.same;
+    next = e.next;
+    other = e.other;
+    when = e.when;
+    typed = e.typed;
+    is_typed = e.is_typed;
+    lines = e.lines;
+    text = e.text;
+    log = e.log;
+  }))
+
 module _ {F G U V : Type 0} {tariffs : Shared F (Bor Usage × Unit {0}) Charge} {tariff : F} {rules : Shared U (Bor Standing × Unit {0}) ℕ} {rule : U}
     (others : Shared G (Bor Usage × Unit {0}) Charge) (other : G) (ways : Shared V (Bor Standing × Unit {0}) ℕ) (way : V) where
   pub answers_as : (s : State) (t : Transcript) → AlwaysAnswers tariffs tariff rules rule s t
@@ -142,3 +195,9 @@ module _ {F G U V : Type 0} {tariffs : Shared F (Bor Usage × Unit {0}) Charge} 
       → ((standing : Standing) (weight : ℕ) → FnReturnsAt rules rule standing weight → FnReturnsAt ways way standing weight)
       → EndsSession others other ways way status s old new t before after
   session_as status s old new t before after it priced weighed = session_by tariffs tariff others other priced rules rule ways way weighed status s old new t before after it
+
+  pub anew_as : (status : Status) (s : State) (old new : Devices) (t : Transcript) (before after : Option (List ℕ)) → EndsAnew tariffs tariff rules rule status s old new t before after
+      → ((usage : Usage) (charge : Charge) → FnReturnsAt tariffs tariff usage charge → FnReturnsAt others other usage charge)
+      → ((standing : Standing) (weight : ℕ) → FnReturnsAt rules rule standing weight → FnReturnsAt ways way standing weight)
+      → EndsAnew others other ways way status s old new t before after
+  anew_as status s old new t before after it priced weighed = anew_by tariffs tariff others other priced rules rule ways way weighed status s old new t before after it

@@ -14,13 +14,14 @@ ghost use Rattle.g_store_model.specs.State.{State};
 ghost use Rattle.g_laws_store.specs.Moving.{DumpsMove};
 ghost use Rattle.g_run_model.specs.Devices.{StandFor};
 ghost use Rattle.g_run_model.specs.Top.{AreArmings, AreFused, IsCutWords};
+ghost use Rattle.g_laws_runs.specs.BeginningAnew.{AreBlank, with_new_disc};
 ghost use Rattle.g_laws_runs.specs.Filestores.{HasFilestore};
 ghost use Rattle.g_laws_sessions.specs.Session.{AlwaysAnswers};
 ghost use Rattle.g_run.specs.Input.{IsRun};
 ghost use Rattle.g_run.specs.ScriptEnd.{both};
 ghost use Rattle.g_ticks.specs.Parts.{HaveNoProcess};
 ghost use Rattle.g_run.specs.Top as top;
-ghost use Rattle.g_session.specs.Session.{EndsSession, IsOfSession, SessionCause};
+ghost use Rattle.g_session.specs.Session.{EndsAnew, EndsSession, IsOfSession, SessionCause};
 ghost use Rattle.g_program.specs.Rules.{answering, price, share_used};
 
 use g_console::Console;
@@ -150,6 +151,13 @@ pub fn session_by_rules<C: Console, L: Sink, D: Disc, T: Tapes>(
     // All that was printed, what both devices are then, and what the log has.
     ensures ends { C.transcript console.old ≡ Some blank → (t : Transcript) → C.transcript console.new ≡ Some t → (s : State) → StandFor (both (D.state disc) (T.rack tapes)) s
         → EndsSession (answering price) tt (answering share_used) tt result.status s (both (D.state disc) (T.rack tapes)) (both (D.state result.disc) (T.rack result.tapes)) t
+        (L.written log.old) (L.written log.new) }
+
+    // Starting over, on a disc that may name copies which no reel has, so that disc and rack don't belong together: with every status, if a FORMAT took
+    // effect, the session is one from the state of a new disc with the same reels.
+    ensures anew { C.transcript console.old ≡ Some blank → (t : Transcript) → C.transcript console.new ≡ Some t → AreBlank (both (D.state disc) (T.rack tapes))
+        → (s : State) → StandFor (with_new_disc (both (D.state disc) (T.rack tapes))) s
+        → EndsAnew (answering price) tt (answering share_used) tt result.status s (both (D.state disc) (T.rack tapes)) (both (D.state result.disc) (T.rack result.tapes)) t
         (L.written log.old) (L.written log.new) }
 
     // Each fault has its cause.

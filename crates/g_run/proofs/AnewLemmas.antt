@@ -1,5 +1,5 @@
 -- STARTING OVER: lines in sequence on blank devices. Apart from MOUNT, UNMOUNT and STOP, the first of them is a FORMAT.
--- serves: LineLemmas, OverLemmas
+-- serves: LineLemmas, NextLemmas, OverLemmas, crates above
 use Rattle.std.proofs.Common.{◌≡◌, ◌⊎◌, ◌≤◌, ◌++◌, ℕ, true, List, [], ◌∷◌, Some, None, All, refl, sym, ◌∙◌, ap, subst, inl, inr}
 use Rattle.std.proofs.lemmas.List.Elements.{All-cons, All-head, All-nil, All-pop, All-tail, All-weaker}
 use Rattle.g_base.proofs.CountLemmas.{Rose-before, Rose-behind}

@@ -144,7 +144,7 @@ module _ {F U : Type 0} (tariffs : Shared F (Bor Usage × Unit {0}) Charge) (tar
       }
 
   -- after its ticks
-  behind_ticks : (next : Timed) (old mid : Seen) (failure : Option Failure) (new : Seen) (before middle after : Option (List ℕ))
+  pub behind_ticks : (next : Timed) (old mid : Seen) (failure : Option Failure) (new : Seen) (before middle after : Option (List ℕ))
       → ((lines : List Timed) → turn_of lines ≡ Some next.turn → PartGoes tariffs tariff rules rule IsAtRest lines lines old None mid before middle) → LineGoes next.what mid failure new middle after
       → (rest : List Timed) → PartGoes tariffs tariff rules rule Anything ((next ∷ []) ++ rest) rest old failure new before after
   behind_ticks next old mid failure new before middle after went goes rest w m between is =

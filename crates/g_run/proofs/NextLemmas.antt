@@ -1,6 +1,7 @@
 -- A line that nothing follows: the moves up to it, and its own move as the last one.
 -- serves: next_line
-use Rattle.std.proofs.Common.{◌≡◌, ◌++◌, ℕ, Bool, List, [], ◌∷◌, Option, Some, None, append_assoc, refl, sym, ◌∙◌, ap}
+use Rattle.std.proofs.Common.{◌≡◌, ◌⊎◌, ◌++◌, ℕ, Bool, List, [], ◌∷◌, Option, Some, None, append_assoc, refl, sym, ◌∙◌, ap, inl, inr}
+use Rattle.std.proofs.lemmas.Option.{none-some}
 use Rattle.std.specs.Fn.{Shared}
 use denote.Ref.{Bor}
 use Rattle.g_rules.specs.declared.tariff.Charge.{Charge}
@@ -12,13 +13,16 @@ use Rattle.g_run_model.specs.Lines.{is_process}
 use Rattle.g_run_model.specs.Moves.{Move, TakeLine}
 use Rattle.g_run_model.specs.World.{World}
 use Rattle.g_day.specs.declared.progress.Failure.{Failure}
-use Rattle.g_day.specs.Parts.{LineGoes, Matches, Seen}
+use Rattle.g_day.specs.BeginningAnew.{IsBlank, IsUntaken, NoClaim, beside}
+use Rattle.g_day.specs.Parts.{DidLineBy, LineGoes, Matches, Seen}
+use Rattle.g_day.specs.System.{SameDevices, devices_in}
 use Rattle.g_day.proofs.PutLemmas.{with_more-append}
 use Rattle.g_ticks.specs.Tick.{IsBetween}
-use Rattle.g_ticks.specs.Parts.{Anything, Arrives, IsAtRest, PartGoes, turn_of}
+use Rattle.g_ticks.specs.Parts.{Anything, Arrives, BeginsBy, DidTicks, IsAtRest, PartGoes, turn_of}
 use Rattle.g_ticks.proofs.PartLemmas.{leads_then}
+use Rattle.g_run.proofs.AnewLemmas.{is_format, later_well}
 use Rattle.g_run.proofs.LeaveLemmas.{line_leaves}
-use Rattle.g_run.proofs.LineLemmas.{line_leads, matches_without, without}
+use Rattle.g_run.proofs.LineLemmas.{behind_ticks, line_leads, matches_without, without}
 use Rattle.g_run.specs.NextLine.{EndsWithLine, HoldsGo}
 
 module _ {F U : Type 0} (tariffs : Shared F (Bor Usage × Unit {0}) Charge) (tariff : F) (rules : Shared U (Bor Standing × Unit {0}) ℕ) (rule : U) where
@@ -64,3 +68,28 @@ module _ {F U : Type 0} (tariffs : Shared F (Bor Usage × Unit {0}) Charge) (tar
         (a.moves ++ front, tape, outcome, ap (λ (ms : List Move). a.moves ++ ms) last ∙ sym (append_assoc a.moves front (TakeLine tape outcome ∷ []))),
       )
   holds_done next old mid (Some failure) new before middle after went goes all = λ w m between is. all w m between is
+
+  -- starting over: a FORMAT, or a line that doesn't use the filestore
+  pub first_held : (next : Timed) (old mid : Seen) (failure : Option Failure) (new : Seen) (before middle after : Option (List ℕ)) (faults1 faults2 : ℕ) → SameDevices (devices_in old.system) (devices_in mid.system)
+      → ((lines : List Timed) → turn_of lines ≡ Some next.turn → PartGoes tariffs tariff rules rule IsAtRest lines lines (beside old) None (beside mid) before middle)
+      → IsUntaken next.what mid failure new middle after faults1 faults2 ⊎ DidLineBy NoClaim next.what (beside mid) failure new middle after faults1 faults2
+      → BeginsBy (λ s. HoldsGo tariffs tariff rules rule next (beside old) failure s before after) (next ∷ []) old failure new
+  first_held next old mid failure new before middle after faults1 faults2 same went (inl u) = inl (record {
+    goes = holds_done next (beside old) (beside mid) failure (beside new) before middle after went u.went.goes
+        (λ w m between is. behind_ticks tariffs tariff rules rule next (beside old) (beside mid) failure (beside new) before middle after went u.went.goes [] w m between is);
+    blank = u.blank;
+    unwell = λ none begin well. u.unwell none (is_format next begin) (later_well (devices_in old.system) (devices_in mid.system) (devices_in new.system) same well);
+  })
+  first_held next old mid failure new before middle after faults1 faults2 same went (inr took) = inr (holds_done next (beside old) (beside mid) failure new before middle after went took.goes
+      (λ w m between is. behind_ticks tariffs tariff rules rule next (beside old) (beside mid) failure new before middle after went took.goes [] w m between is))
+
+  -- its ticks failed
+  pub none_held : (next : Timed) (old : Seen) (failure : Failure) (new : Seen) (before after : Option (List ℕ)) (faults faults' : ℕ)
+      → DidTicks tariffs tariff rules rule IsAtRest (Some next.turn) old (Some failure) new before after faults faults' → IsBlank old.system
+      → BeginsBy (λ s. HoldsGo tariffs tariff rules rule next (beside old) (Some failure) s before after) (next ∷ []) old (Some failure) new
+  none_held next old failure new before after faults faults' ticked blank =
+      let (blank_new, went) = ticked.aside blank in inl (record {
+        goes = λ w m between is. went (next ∷ []) refl w m between is;
+        blank = blank_new;
+        unwell = λ none begin well. none-some failure (sym none);
+      })

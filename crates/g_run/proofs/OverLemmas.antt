@@ -76,7 +76,7 @@ pub down_taken_down : (d : Devices) → TakenDown (Down d) d
 down_taken_down d = record { devices = refl; stands = λ u is. devices_down d u is.1 }
 
 -- with a new disc
-taken_beside : (f : SystemFacts) (new : Devices) → TakenDown f new → IsBlank f → TakenDown (beside_new f) (with_new_disc new)
+pub taken_beside : (f : SystemFacts) (new : Devices) → TakenDown f new → IsBlank f → TakenDown (beside_new f) (with_new_disc new)
 taken_beside (Up s) new is blank = absurd blank
 taken_beside (Down d) new is blank = subst (λ (x : Devices). TakenDown (Down (with_new_disc d)) (with_new_disc x)) (sym is.devices) (down_taken_down (with_new_disc d))
 

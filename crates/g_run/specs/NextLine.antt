@@ -1,5 +1,5 @@
 -- THE NEXT LINE of a script: what its function promises. Internal: public contracts cite `Top` only.
-use Rattle.std.specs.Prelude.{◌≡◌, ℕ, Bool, List, [], ◌∷◌, ◌++◌, Option, Some, None}
+use Rattle.std.specs.Prelude.{◌≡◌, ℕ, Bool, true, List, [], ◌∷◌, ◌++◌, Option, Some, None}
 use Rattle.std.specs.Fn.{Shared}
 use denote.Ref.{Bor}
 use Rattle.g_rules.specs.declared.tariff.Charge.{Charge}
@@ -9,10 +9,12 @@ use Rattle.g_script.specs.declared.operator.Timed.{Timed}
 use Rattle.g_store_model.specs.CallStep.{Outcome}
 use Rattle.g_run_model.specs.Moves.{Move, TakeLine}
 use Rattle.g_run_model.specs.World.{World}
+use Rattle.g_laws_runs.specs.BeginningAnew.{is_first}
 use Rattle.g_day.specs.declared.progress.Failure.{Failure}
+use Rattle.g_day.specs.BeginningAnew.{IsBlank, beside}
 use Rattle.g_day.specs.Parts.{Matches, Seen}
 use Rattle.g_ticks.specs.Tick.{IsBetween}
-use Rattle.g_ticks.specs.Parts.{Anything, Arrives, Breaks, DidLines}
+use Rattle.g_ticks.specs.Parts.{Anything, Arrives, BeginsBy, Breaks, DidLines}
 
 -- the last of these moves takes a line
 abbrev pub EndsWithLine : List Move → Type 0
@@ -30,3 +32,5 @@ module _ {F U : Type 0} (tariffs : Shared F (Bor Usage × Unit {0}) Charge) (tar
   pub record DidNext (next : Timed) (old : Seen) (failure : Option Failure) (new : Seen) (before after : Option (List ℕ)) (faults faults' : ℕ) : Type 0 where
     pub did : DidLines tariffs tariff rules rule (next ∷ []) old failure new before after faults faults'
     pub holds : HoldsGo next old failure new before after
+    -- for starting over: a FORMAT, or a line that doesn't use the filestore
+    pub first : is_first next.what ≡ true → IsBlank old.system → BeginsBy (λ s. HoldsGo next (beside old) failure s before after) (next ∷ []) old failure new

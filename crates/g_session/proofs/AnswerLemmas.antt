@@ -1,5 +1,5 @@
 -- Each time a line is requested, all lines before it are answered: one request more, and some text more.
--- serves: exchange (said), BrokenLemmas, EndingLemmas, ReplyLemmas, StandsLemmas
+-- serves: exchange (anew, said), AnewLemmas, BrokenLemmas, EndingLemmas, GrowLemmas, ReplyLemmas, StandsLemmas
 use Rattle.std.proofs.Common.{◌≡◌, ◌≢◌, ◌⊎◌, ◌+◌, ◌≤◌, ◌++◌, ℕ, Bool, true, false, List, [], ◌∷◌, All, Option, Some, None, length, take, append_assoc, append-nil, codes, refl, sym, ◌∙◌, ap, subst, inl, inr, arith}
 use Rattle.std.specs.Fn.{Shared}
 use Rattle.std.specs.List.{flat_map}
@@ -127,12 +127,12 @@ module _ {F U : Type 0} (tariffs : Shared F (Bor Usage × Unit {0}) Charge) (tar
   }
 
   -- A REQUEST MORE: what a console exposes after it was asked
-  record Asked (before : Option Transcript) (typed : Typed) (now : Transcript) : Type 0 where
-    was : Transcript
-    is : before ≡ Some was
-    only : now ≡ requesting typed was
+  pub record Asked (before : Option Transcript) (typed : Typed) (now : Transcript) : Type 0 where
+    pub was : Transcript
+    pub is : before ≡ Some was
+    pub only : now ≡ requesting typed was
 
-  asked_by : (before : Option Transcript) (typed : Typed) (after : Option Transcript) (t : Transcript) → Continues before typed after → after ≡ Some t → Asked before typed t
+  pub asked_by : (before : Option Transcript) (typed : Typed) (after : Option Transcript) (t : Transcript) → Continues before typed after → after ≡ Some t → Asked before typed t
   asked_by None typed after t none is = absurd (let no : ⊥ = none_some t (sym none ∙ is) in no)
     where
       none_some : (u : Transcript) → (let none : Option Transcript = None in none ≡ Some u) → ⊥

@@ -1,5 +1,5 @@
 -- A session that was cut short: the exchanges so far, and the part of the next one that was done.
--- serves: answer_lines (said), EndLemmas, EndingLemmas, ReplyLemmas
+-- serves: answer_lines (said), AnewLemmas, EndLemmas, EndingLemmas, ReplyLemmas
 use Rattle.std.proofs.Common.{◌≡◌, ◌⊎◌, ◌+◌, ◌≤◌, ◌++◌, ℕ, List, [], ◌∷◌, Option, Some, None, option_map, length, map, take, append-nil, refl, sym, ◌∙◌, ap, subst, inl, inr, arith}
 use Rattle.std.specs.Prelude.{All}
 use Rattle.std.specs.Fn.{Shared}

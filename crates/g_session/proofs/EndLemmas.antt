@@ -1,5 +1,5 @@
 -- The end of a session: the system ran until nothing could step, the files of unfinished jobs were printed, and the system was taken down.
--- serves: OverallLemmas
+-- serves: AnewLemmas, OverallLemmas
 use Rattle.std.proofs.Common.{◌≡◌, ◌≢◌, ◌⊎◌, ◌+◌, ◌≤◌, ◌++◌, ℕ, Bool, true, false, List, [], ◌∷◌, All, Option, Some, None, option_map, codes, length, map, append_assoc, append-nil, refl, sym, ◌∙◌, ap, subst, inl, inr, arith}
 use Rattle.std.specs.Fn.{Shared}
 use Rattle.std.specs.List.{flat_map}
@@ -116,7 +116,7 @@ module _ {F U : Type 0} (tariffs : Shared F (Bor Usage × Unit {0}) Charge) (tar
   }
 
   -- THE SESSION IS OVER
-  pub session_over : (s : State) (old new : Devices) (bad : Option ℕ) (mid : Seen) (from before after : Option Transcript) (log0 log : Option (List ℕ)) (t : Transcript)
+  unfoldable pub session_over : (s : State) (old new : Devices) (bad : Option ℕ) (mid : Seen) (from before after : Option Transcript) (log0 log : Option (List ℕ)) (t : Transcript)
       → AtEnd tariffs tariff rules rule s old from log0 bad mid before log → option_map written_of after ≡ with_more (option_map written_of before) (waiting_files mid.crew.jobs ++ closing None)
       → TakenDown mid.system new → from ≡ Some blank → after ≡ Some t → IsOver tariffs tariff rules rule s old new t log0 log bad
   session_over s old new bad mid from before after log0 log t at put taken_down fresh is =

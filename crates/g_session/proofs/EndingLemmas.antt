@@ -1,5 +1,5 @@
 -- The end of a session: an open document is refused, the system runs until nothing can step, and what is known then.
--- serves: end_session (said), LinesLemmas, OverallLemmas
+-- serves: end_session (said), AnewLemmas, LinesLemmas, OverallLemmas
 use Rattle.std.proofs.Common.{◌≡◌, ◌≢◌, ◌⊎◌, ◌+◌, ◌≤◌, ◌++◌, ℕ, Bool, true, false, List, [], ◌∷◌, All, Option, Some, None, option_map, codes, length, append-nil, refl, sym, ◌∙◌, ap, subst, inl, inr, arith}
 use Rattle.std.specs.Fn.{Shared}
 use Rattle.std.proofs.lemmas.List.Elements.{All-nil}
@@ -58,10 +58,39 @@ quiet_put before after quiet = quiet ∙ sym (with_more-nil (option_map written_
 true_false : true ≡ false → ⊥
 true_false e = cc
 
+-- any lines
+abbrev pub Any : List Timed → Type 0
+Any done = Unit {0}
+
 module _ {F U : Type 0} (tariffs : Shared F (Bor Usage × Unit {0}) Charge) (tariff : F) (rules : Shared U (Bor Standing × Unit {0}) ℕ) (rule : U) (s : State) (old : Devices) (from : Option Transcript) (log0 : Option (List ℕ)) where
-  abbrev pub AfterOpen : Course → Option ℕ → Seen → Option Transcript → Option (List ℕ) → Type 0
-  AfterOpen (course.Breaks failure) bad seen transcript log = Broken tariffs tariff rules rule s old seen.system from transcript log0 log
-  AfterOpen other bad seen transcript log = HasEnded other transcript × ((done : List Timed) × Last tariffs tariff rules rule s old done bad seen from transcript log0 log)
+  -- all lines that came are answered, and these were taken
+  abbrev pub AfterLinesOf : (List Timed → Type 0) → Course → Option ℕ → Seen → ItemReader → ℕ → Option Transcript → Option (List ℕ) → Type 0
+  AfterLinesOf P (course.Breaks failure) bad seen r number transcript log = Broken tariffs tariff rules rule s old seen.system from transcript log0 log
+  AfterLinesOf P other bad seen r number transcript log =
+      HasEnded other transcript × ((done : List Timed) × P done × Stands tariffs tariff rules rule s old done bad seen r number [] from transcript log0 log)
+
+  abbrev pub AfterOpenOf : (List Timed → Type 0) → Course → Option ℕ → Seen → Option Transcript → Option (List ℕ) → Type 0
+  AfterOpenOf P (course.Breaks failure) bad seen transcript log = Broken tariffs tariff rules rule s old seen.system from transcript log0 log
+  AfterOpenOf P other bad seen transcript log = HasEnded other transcript × ((done : List Timed) × P done × Last tariffs tariff rules rule s old done bad seen from transcript log0 log)
+
+  abbrev pub RestsOf : (List Timed → Type 0) → Course → Option ℕ → Seen → Option Transcript → Option (List ℕ) → Type 0
+  RestsOf P (course.Breaks failure) bad seen transcript log = Broken tariffs tariff rules rule s old seen.system from transcript log0 log
+  RestsOf P other bad seen transcript log = HasEnded other transcript × ((end : AtEnd tariffs tariff rules rule s old from log0 bad seen transcript log) × P end.done)
+
+  -- whatever lines were taken
+  pub any_lines : (c : Course) (bad : Option ℕ) (seen : Seen) (r : ItemReader) (number : ℕ) (transcript : Option Transcript) (log : Option (List ℕ))
+      → AfterLines tariffs tariff rules rule s old from log0 c bad seen r number transcript log → AfterLinesOf Any c bad seen r number transcript log
+  any_lines (course.Breaks failure) bad seen r number transcript log b = b
+  any_lines course.Goes bad seen r number transcript log (never, st) = absurd never
+  any_lines course.Ends bad seen r number transcript log (ended, (done, st)) = (ended, (done, tt, st))
+  any_lines course.Fails bad seen r number transcript log (ended, (done, st)) = (ended, (done, tt, st))
+
+  pub rests_any : (c : Course) (bad : Option ℕ) (seen : Seen) (transcript : Option Transcript) (log : Option (List ℕ))
+      → RestsOf Any c bad seen transcript log → RestsAtEnd tariffs tariff rules rule s old from log0 c bad seen transcript log
+  rests_any (course.Breaks failure) bad seen transcript log b = b
+  rests_any course.Goes bad seen transcript log (never, rest) = absurd never
+  rests_any course.Ends bad seen transcript log (ended, (end, any)) = (ended, end)
+  rests_any course.Fails bad seen transcript log (ended, (end, any)) = (ended, end)
 
   -- some text more, or none
   last_print : (done : List Timed) (bad : Option ℕ) (seen : Seen) (before after : Option Transcript) (log : Option (List ℕ)) → Last tariffs tariff rules rule s old done bad seen from before log0 log
@@ -166,57 +195,57 @@ module _ {F U : Type 0} (tariffs : Shared F (Bor Usage × Unit {0}) Charge) (tar
             subst (λ (x : Transcript). ArePrinted x) (sym p.only) (printed_print p.was (refusal_line k) (st.printed fresh p.was p.is));
       }
 
-  module _ (seen : Seen) (before after : Option Transcript) (log : Option (List ℕ)) (put put' : Option (List ℕ)) (is : put ≡ option_map written_of before) (is' : put' ≡ option_map written_of after)
+  module _ (P : List Timed → Type 0) (seen : Seen) (before after : Option Transcript) (log : Option (List ℕ)) (put put' : Option (List ℕ)) (is : put ≡ option_map written_of before) (is' : put' ≡ option_map written_of after)
       (bad : Option ℕ) (course' : Course) (bad' : Option ℕ) (faults faults' : ℕ) where
     -- nothing was refused
-    open_none : (c : Course) → (HasEnded c after → ((done : List Timed) × Last tariffs tariff rules rule s old done bad seen from after log0 log) → AfterOpen c bad seen after log) → HasEnded c before
-        → ((done : List Timed) × Last tariffs tariff rules rule s old done bad seen from before log0 log) → RefusesNone c bad course' bad' put put' faults faults' → AfterOpen course' bad' seen after log
-    open_none c make ended (done, l) did =
+    open_none : (c : Course) → (HasEnded c after → ((done : List Timed) × P done × Last tariffs tariff rules rule s old done bad seen from after log0 log) → AfterOpenOf P c bad seen after log) → HasEnded c before
+        → ((done : List Timed) × P done × Last tariffs tariff rules rule s old done bad seen from before log0 log) → RefusesNone c bad course' bad' put put' faults faults' → AfterOpenOf P course' bad' seen after log
+    open_none c make ended (done, p, l) did =
         let quiet : option_map written_of after ≡ option_map written_of before = sym is' ∙ did.quiet ∙ is in
-        subst (λ (d : Course). AfterOpen d bad' seen after log) (sym did.course_is)
-        (subst (λ (b : Option ℕ). AfterOpen c b seen after log) (sym did.bad_is)
-        (make (ended_print c before after [] (quiet_put before after quiet) ended) (done, last_print done bad seen before after log l quiet)))
+        subst (λ (d : Course). AfterOpenOf P d bad' seen after log) (sym did.course_is)
+        (subst (λ (b : Option ℕ). AfterOpenOf P c b seen after log) (sym did.bad_is)
+        (make (ended_print c before after [] (quiet_put before after quiet) ended) (done, p, last_print done bad seen before after log l quiet)))
 
     -- an open document was
-    open_document : (c : Course) → (HasEnded c after → (b : Option ℕ) → ((done : List Timed) × Last tariffs tariff rules rule s old done b seen from after log0 log) → AfterOpen c b seen after log) → HasEnded c before
-        → (r : ItemReader) (number k : ℕ) (done : List Timed) → Stands tariffs tariff rules rule s old done bad seen r number [] from before log0 log → r.place ≡ place.Document k
-        → RefusesOpen c k bad course' bad' put put' faults faults' → AfterOpen course' bad' seen after log
-    open_document c make ended r number k done st at did =
-        subst (λ (d : Course). AfterOpen d bad' seen after log) (sym did.course_is)
-        (subst (λ (b : Option ℕ). AfterOpen (course_at_end c did.failure) b seen after log) (sym did.bad_is)
+    open_document : (c : Course) → (HasEnded c after → (b : Option ℕ) → ((done : List Timed) × P done × Last tariffs tariff rules rule s old done b seen from after log0 log) → AfterOpenOf P c b seen after log) → HasEnded c before
+        → (r : ItemReader) (number k : ℕ) (done : List Timed) → P done → Stands tariffs tariff rules rule s old done bad seen r number [] from before log0 log → r.place ≡ place.Document k
+        → RefusesOpen c k bad course' bad' put put' faults faults' → AfterOpenOf P course' bad' seen after log
+    open_document c make ended r number k done p st at did =
+        subst (λ (d : Course). AfterOpenOf P d bad' seen after log) (sym did.course_is)
+        (subst (λ (b : Option ℕ). AfterOpenOf P (course_at_end c did.failure) b seen after log) (sym did.bad_is)
         (by did.failure (subst (λ (x : Option (List ℕ)). PutsBy did.failure (refusal_line k) x (option_map written_of after)) is
         (subst (λ (x : Option (List ℕ)). PutsBy did.failure (refusal_line k) put x) is' did.puts.put))))
       where
-        by : (failure : Option Failure) → PutsBy failure (refusal_line k) (option_map written_of before) (option_map written_of after) → AfterOpen (course_at_end c failure) (or_else bad (Some k)) seen after log
+        by : (failure : Option Failure) → PutsBy failure (refusal_line k) (option_map written_of before) (option_map written_of after) → AfterOpenOf P (course_at_end c failure) (or_else bad (Some k)) seen after log
         by None whole =
-            make (ended_print c before after (refusal_line k) whole ended) (or_else bad (Some k)) (done, last_open done bad seen r number k before after log st at whole)
+            make (ended_print c before after (refusal_line k) whole ended) (or_else bad (Some k)) (done, p, last_open done bad seen r number k before after log st at whole)
         by (Some failure) part =
             broken_still tariffs tariff rules rule s old done bad seen from before after log0 log log st.so_far (shows_of tariffs tariff rules rule s old done bad seen r number [] from before log0 log st)
             (refusal_line k) (inr (inl (k, inr (sym (append-nil (refusal_line k)))))) part (logged_all tariffs tariff rules rule s old done bad seen log0 log st.so_far)
 
     -- ALL LINES ARE OVER
-    pub open_done : (c : Course) (p : Place) (r : ItemReader) (number : ℕ) → r.place ≡ p → AfterLines tariffs tariff rules rule s old from log0 c bad seen r number before log
-        → DidOpen c p bad course' bad' put put' faults faults' → AfterOpen course' bad' seen after log
-    open_done (course.Breaks failure) p r number at b did =
-        subst (λ (d : Course). AfterOpen d bad' seen after log) (sym did.course_is) (broken_quiet seen before after log b (sym is' ∙ did.quiet ∙ is))
-    open_done course.Goes p r number at (never, stands) did = absurd never
-    open_done course.Ends place.Start r number at (ended, (done, st)) did = open_none course.Ends (λ e l. (e, l)) ended (done, last_start done bad seen r number before log st at) did
-    open_done course.Ends place.Skipped r number at (ended, (done, st)) did = open_none course.Ends (λ e l. (e, l)) ended (done, last_skipped done bad seen r number before log st at) did
-    open_done course.Ends (place.Document k) r number at (ended, (done, st)) did = open_document course.Ends (λ e b l. (e, l)) ended r number k done st at did
-    open_done course.Fails place.Start r number at (ended, (done, st)) did = open_none course.Fails (λ e l. (e, l)) ended (done, last_start done bad seen r number before log st at) did
-    open_done course.Fails place.Skipped r number at (ended, (done, st)) did = open_none course.Fails (λ e l. (e, l)) ended (done, last_skipped done bad seen r number before log st at) did
-    open_done course.Fails (place.Document k) r number at (ended, (done, st)) did = open_document course.Fails (λ e b l. (e, l)) ended r number k done st at did
+    pub open_done : (c : Course) (q : Place) (r : ItemReader) (number : ℕ) → r.place ≡ q → AfterLinesOf P c bad seen r number before log
+        → DidOpen c q bad course' bad' put put' faults faults' → AfterOpenOf P course' bad' seen after log
+    open_done (course.Breaks failure) q r number at b did =
+        subst (λ (d : Course). AfterOpenOf P d bad' seen after log) (sym did.course_is) (broken_quiet seen before after log b (sym is' ∙ did.quiet ∙ is))
+    open_done course.Goes q r number at (never, stands) did = absurd never
+    open_done course.Ends place.Start r number at (ended, (done, p, st)) did = open_none course.Ends (λ e l. (e, l)) ended (done, p, last_start done bad seen r number before log st at) did
+    open_done course.Ends place.Skipped r number at (ended, (done, p, st)) did = open_none course.Ends (λ e l. (e, l)) ended (done, p, last_skipped done bad seen r number before log st at) did
+    open_done course.Ends (place.Document k) r number at (ended, (done, p, st)) did = open_document course.Ends (λ e b l. (e, l)) ended r number k done p st at did
+    open_done course.Fails place.Start r number at (ended, (done, p, st)) did = open_none course.Fails (λ e l. (e, l)) ended (done, p, last_start done bad seen r number before log st at) did
+    open_done course.Fails place.Skipped r number at (ended, (done, p, st)) did = open_none course.Fails (λ e l. (e, l)) ended (done, p, last_skipped done bad seen r number before log st at) did
+    open_done course.Fails (place.Document k) r number at (ended, (done, p, st)) did = open_document course.Fails (λ e b l. (e, l)) ended r number k done p st at did
 
-  module _ (bad : Option ℕ) (seen new : Seen) (before after : Option Transcript) (log : Option (List ℕ)) where
-    rested : (c : Course) → ((HasEnded c after × AtEnd tariffs tariff rules rule s old from log0 bad new after log) → RestsAtEnd tariffs tariff rules rule s old from log0 c bad new after log)
-        → HasEnded c before → (done : List Timed) → Last tariffs tariff rules rule s old done bad seen from before log0 log → (failure : Option Failure)
+  module _ (P : List Timed → Type 0) (bad : Option ℕ) (seen new : Seen) (before after : Option Transcript) (log : Option (List ℕ)) where
+    rested : (c : Course) → ((HasEnded c after × ((end : AtEnd tariffs tariff rules rule s old from log0 bad new after log) × P end.done)) → RestsOf P c bad new after log)
+        → HasEnded c before → (done : List Timed) → P done → Last tariffs tariff rules rule s old done bad seen from before log0 log → (failure : Option Failure)
         → PartGoes tariffs tariff rules rule IsAtRest [] [] seen failure new (option_map written_of before) (option_map written_of after)
-        → RestsAtEnd tariffs tariff rules rule s old from log0 (course_at_end c failure) bad new after log
-    rested c make ended done l None goes =
+        → RestsOf P (course_at_end c failure) bad new after log
+    rested c make ended done p l None goes =
         let f = l.so_far in
         let a = goes (record f.now.world { lines = [] }) (with_left f.now.world [] seen f.matches) (record { phase = f.between.phase; turn = f.between.turn }) refl in
-        make (ended_print c before after a.added a.put ended, record { done = done; was = seen; middle = before; last = l; goes = goes })
-    rested c make ended done l (Some failure) goes =
+        make (ended_print c before after a.added a.put ended, (record { done = done; was = seen; middle = before; last = l; goes = goes }, p))
+    rested c make ended done p l (Some failure) goes =
         let f = l.so_far in
         let b = goes (record f.now.world { lines = [] }) (with_left f.now.world [] seen f.matches) (record { phase = f.between.phase; turn = f.between.turn }) refl in
         broken_leads tariffs tariff rules rule s old done bad seen from before after log0 log log f (shows_last tariffs tariff rules rule s old done bad seen from before log0 log l) new.system [] (omega arith) tt
@@ -224,16 +253,16 @@ module _ {F U : Type 0} (tariffs : Shared F (Bor Usage × Unit {0}) Charge) (tar
 
     -- NOTHING STEPS
     pub rest_at_end : (c : Course) (failure : Option Failure) (put put' : Option (List ℕ)) → put ≡ option_map written_of before → put' ≡ option_map written_of after → ((g : Failure) → c ≡ course.Breaks g → ⊥)
-        → AfterOpen c bad seen before log → PartGoes tariffs tariff rules rule IsAtRest [] [] seen failure new put put'
-        → RestsAtEnd tariffs tariff rules rule s old from log0 (course_at_end c failure) bad new after log
+        → AfterOpenOf P c bad seen before log → PartGoes tariffs tariff rules rule IsAtRest [] [] seen failure new put put'
+        → RestsOf P (course_at_end c failure) bad new after log
     rest_at_end c failure put put' is is' whole opened goes =
         by c whole opened
         (subst (λ (x : Option (List ℕ)). PartGoes tariffs tariff rules rule IsAtRest [] [] seen failure new x (option_map written_of after)) is
         (subst (λ (x : Option (List ℕ)). PartGoes tariffs tariff rules rule IsAtRest [] [] seen failure new put x) is' goes))
       where
-        by : (c : Course) → ((g : Failure) → c ≡ course.Breaks g → ⊥) → AfterOpen c bad seen before log → PartGoes tariffs tariff rules rule IsAtRest [] [] seen failure new (option_map written_of before) (option_map written_of after)
-            → RestsAtEnd tariffs tariff rules rule s old from log0 (course_at_end c failure) bad new after log
+        by : (c : Course) → ((g : Failure) → c ≡ course.Breaks g → ⊥) → AfterOpenOf P c bad seen before log → PartGoes tariffs tariff rules rule IsAtRest [] [] seen failure new (option_map written_of before) (option_map written_of after)
+            → RestsOf P (course_at_end c failure) bad new after log
         by (course.Breaks g) whole opened goes = absurd (whole g refl)
         by course.Goes whole (never, l) goes = absurd never
-        by course.Ends whole (ended, (done, l)) goes = rested course.Ends (λ x. x) ended done l failure goes
-        by course.Fails whole (ended, (done, l)) goes = rested course.Fails (λ x. x) ended done l failure goes
+        by course.Ends whole (ended, (done, p, l)) goes = rested course.Ends (λ x. x) ended done p l failure goes
+        by course.Fails whole (ended, (done, p, l)) goes = rested course.Fails (λ x. x) ended done p l failure goes

@@ -1,5 +1,5 @@
 -- What holds of all devices, and of both counts of faults, in an exchange, in all of them, and at the end.
--- serves: answer_lines (keeps), end_session, exchange (keeps), LinesLemmas
+-- serves: answer_lines (keeps), end_session, exchange (anew, keeps), LinesLemmas
 use Rattle.std.proofs.Common.{◌≡◌, ◌⊎◌, ◌+◌, ◌≤◌, ◌++◌, ℕ, List, [], ◌∷◌, Option, Some, None, length, refl, sym, ◌∙◌, ap, subst, inl, inr, arith}
 use Rattle.std.specs.Fn.{Shared}
 use denote.Ref.{Bor}

@@ -1,8 +1,10 @@
+mod AnewLemmas
 mod AnswerLemmas
 mod AsTypedLemmas
 mod BrokenLemmas
 mod EndLemmas
 mod EndingLemmas
+mod GrowLemmas
 mod KeepLemmas
 mod LinesLemmas
 mod OverallLemmas

@@ -1,5 +1,5 @@
 -- The lines of a session: before the first one, after each, and when no more come.
--- serves: answer_lines (said), end_session (keeps, said), session (answers, ends), session_on
+-- serves: answer_lines (said), end_session (keeps, said), session (anew, answers, ends), session_on, AnewLemmas
 use Rattle.std.proofs.Common.{◌≡◌, ◌⊎◌, ◌+◌, ◌≤◌, ◌++◌, ℕ, Bool, true, false, List, [], ◌∷◌, All, Option, Some, None, option_map, length, append-nil, refl, sym, ◌∙◌, ap, subst, inl, inr, arith}
 use Rattle.std.specs.Fn.{Shared}
 use Rattle.std.proofs.lemmas.List.Elements.{All-nil}
@@ -14,6 +14,7 @@ use Rattle.g_script.specs.declared.operator.Timed.{Timed}
 use Rattle.g_store_model.specs.State.{State}
 use Rattle.g_run_model.specs.Devices.{Devices, StandFor}
 use Rattle.g_run_model.proofs.StandLemmas.{read_as}
+use Rattle.g_laws_runs.specs.BeginningAnew.{AreBlank, with_new_disc}
 use Rattle.g_day.specs.declared.progress.Failure.{Failure}
 use Rattle.g_day.specs.declared.progress.Failure.TheVariants as failures
 use Rattle.g_day.specs.Parts.{Seen}
@@ -24,13 +25,16 @@ use Rattle.g_typing.specs.declared.item.ItemReader.{ItemReader}
 use Rattle.g_typing.specs.declared.item.Place.{Place}
 use Rattle.g_typing.specs.declared.item.Place.TheVariants as place
 use Rattle.g_laws_sessions.specs.Session.{AlwaysAnswers, IsCutShort, Nothing, beginning, refusal_line}
+use Rattle.g_run.specs.declared.status.Status.{Status}
+use Rattle.g_run.specs.declared.status.Status.TheVariants.{NoMemory}
 use Rattle.g_run.proofs.OverLemmas.{nothing_done}
-use Rattle.g_session.specs.Ending.{AfterLines, DidOpen, EndCause, KeepsMany, RefusesNone, RefusesOpen, RestsAtEnd, course_at_end, first_seen}
+use Rattle.g_session.specs.Ending.{AfterLines, DidOpen, EndCause, KeepsMany, RefusesNone, RefusesOpen, course_at_end, first_seen}
 use Rattle.g_session.specs.Exchanging.{AfterExchange, failure_of}
 use Rattle.g_session.specs.Parts.{Stands}
+use Rattle.g_session.specs.Session.{EndsAnew}
 use Rattle.g_session.specs.declared.exchange.Course.{Course}
 use Rattle.g_session.specs.declared.exchange.Course.TheVariants as course
-use Rattle.g_session.proofs.EndingLemmas.{AfterOpen}
+use Rattle.g_session.proofs.EndingLemmas.{AfterOpenOf, RestsOf}
 use Rattle.g_session.proofs.KeepLemmas.{many_put}
 use Rattle.g_session.proofs.SoFarLemmas.{so_far_start}
 
@@ -110,12 +114,12 @@ module _ {F U : Type 0} (tariffs : Shared F (Bor Usage × Unit {0}) Charge) (tar
   lines_stop s old from log0 (course.Breaks failure) bad seen r number number' transcript log stops same b = b
 
   -- the end broke off
-  pub rests_broken : (s : State) (old : Devices) (from : Option Transcript) (log0 : Option (List ℕ)) (c : Course) (failure : Failure) (bad : Option ℕ) (seen : Seen) (transcript : Option Transcript) (log : Option (List ℕ))
-      → c ≡ course.Breaks failure → AfterOpen tariffs tariff rules rule s old from log0 c bad seen transcript log → RestsAtEnd tariffs tariff rules rule s old from log0 c bad seen transcript log
-  rests_broken s old from log0 (course.Breaks came) failure bad seen transcript log is b = b
-  rests_broken s old from log0 course.Goes failure bad seen transcript log is after = absurd (goes_breaks failure is)
-  rests_broken s old from log0 course.Ends failure bad seen transcript log is after = absurd (ends_breaks failure is)
-  rests_broken s old from log0 course.Fails failure bad seen transcript log is after = absurd (fails_breaks failure is)
+  pub rests_broken : (P : List Timed → Type 0) (s : State) (old : Devices) (from : Option Transcript) (log0 : Option (List ℕ)) (c : Course) (failure : Failure) (bad : Option ℕ) (seen : Seen) (transcript : Option Transcript) (log : Option (List ℕ))
+      → c ≡ course.Breaks failure → AfterOpenOf tariffs tariff rules rule s old from log0 P c bad seen transcript log → RestsOf tariffs tariff rules rule s old from log0 P c bad seen transcript log
+  rests_broken P s old from log0 (course.Breaks came) failure bad seen transcript log is b = b
+  rests_broken P s old from log0 course.Goes failure bad seen transcript log is after = absurd (goes_breaks failure is)
+  rests_broken P s old from log0 course.Ends failure bad seen transcript log is after = absurd (ends_breaks failure is)
+  rests_broken P s old from log0 course.Fails failure bad seen transcript log is after = absurd (fails_breaks failure is)
 
   -- NOTHING WAS DONE, because memory ran out
   pub nothing_ends : (s : State) (old new : Devices) (t : Transcript) (log : Option (List ℕ)) → new ≡ old → StandFor old s → t ≡ blank → IsCutShort tariffs tariff rules rule s old new t log log
@@ -138,6 +142,23 @@ module _ {F U : Type 0} (tariffs : Shared F (Bor Usage × Unit {0}) Charge) (tar
         put = (0, omega arith, ap (λ (u : Transcript). u.text) new_is);
         log = inl (sym (with_more-nil log));
       }
+
+-- also on blank devices
+module _ {F U : Type 0} (tariffs : Shared F (Bor Usage × Unit {0}) Charge) (tariff : F) (rules : Shared U (Bor Standing × Unit {0}) ℕ) (rule : U) where
+  pub nothing_anew : (s : State) (old new : Devices) (t : Transcript) (log : Option (List ℕ)) → new ≡ old → AreBlank old → StandFor (with_new_disc old) s → t ≡ blank → EndsAnew tariffs tariff rules rule NoMemory s old new t log log
+  nothing_anew s old new t log same are_blank stand new_is = inr (inl (record {
+    answers = blank_answers tariffs tariff rules rule s t new_is;
+    ends = nothing_ends tariffs tariff rules rule s (with_new_disc old) (with_new_disc new) t log (ap with_new_disc same) stand new_is;
+    blank = subst AreBlank (sym same) are_blank;
+    unwell = λ lines cut begin well. cut;
+  }))
+
+  -- the same devices
+  pub anew_same : (status : Status) (s : State) (old old' new new' : Devices) (t : Transcript) (before after : Option (List ℕ)) → old' ≡ old → new ≡ new' → EndsAnew tariffs tariff rules rule status s old' new' t before after
+      → EndsAnew tariffs tariff rules rule status s old new t before after
+  anew_same status s old old' new new' t before after was now ends =
+      subst (λ (d : Devices). EndsAnew tariffs tariff rules rule status s d new t before after) was
+      (subst (λ (d : Devices). EndsAnew tariffs tariff rules rule status s old' d t before after) (sym now) ends)
 
 pub no_failure : (c : Course) → ((g : Failure) → c ≡ course.Breaks g → ⊥) → failure_of c ≡ None
 no_failure (course.Breaks g) whole = absurd (whole g refl)

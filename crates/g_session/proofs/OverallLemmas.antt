@@ -17,24 +17,34 @@ use Rattle.g_store_meaning.specs.Safety.{AreSafe}
 use Rattle.g_store_model.specs.State.{State}
 use Rattle.g_run_model.specs.Devices.{Devices, StandFor}
 use Rattle.g_run_model.specs.Texts.{closing, waiting_files}
+use Rattle.g_laws_runs.specs.BeginningAnew.{AreBlank, BeginAnew, NoDiscFault, with_new_disc}
 use Rattle.g_laws_runs.specs.Filestores.{HasFilestore}
 use Rattle.g_laws_runs.proofs.FilestoreLemmas.{devices_keep}
 use Rattle.g_day.specs.declared.progress.Failure.{Failure}
 use Rattle.g_day.specs.declared.progress.Failure.TheVariants as failures
+use Rattle.g_day.specs.BeginningAnew.{IsBlank, beside, beside_new}
 use Rattle.g_day.specs.Parts.{Seen}
 use Rattle.g_day.specs.Puts.{FaultCause, Puts, PutsBy}
-use Rattle.g_day.specs.System.{BelongTogether, SameDevices}
+use Rattle.g_day.specs.System.{BelongTogether, SameDevices, devices_in}
+use Rattle.g_day.proofs.LabelLemmas.{same_itself}
+use Rattle.g_day.proofs.PutLemmas.{same_grown}
 use Rattle.g_ticks.specs.Parts.{DumpsKept}
-use Rattle.g_laws_sessions.specs.Session.{AlwaysAnswers, taken}
+use Rattle.g_laws_sessions.specs.Session.{AlwaysAnswers, IsOver, taken}
 use Rattle.g_run.specs.ScriptEnd.{ClosesBy, TakenDown}
 use Rattle.g_run.proofs.FilestoreLemmas.{state_there}
-use Rattle.g_run.proofs.OverLemmas.{belongs_of, safe_of}
-use Rattle.g_session.specs.Ending.{DidSession, EndCause, KeepsMany, RestsAtEnd, first_seen, session_status}
-use Rattle.g_session.specs.Exchanging.{CourseCause, failure_of}
+use Rattle.g_run.proofs.AnewLemmas.{blank_devices}
+use Rattle.g_run.proofs.OverLemmas.{belongs_of, safe_of, taken_beside}
+use Rattle.g_store_model.specs.CallStep.{down}
+use Rattle.g_run_model.proofs.StandLemmas.{read_as}
+use Rattle.g_session.specs.Anew.{Elsewhere, NoneYet, RestsAnew, RestsAside}
+use Rattle.g_session.specs.Ending.{AtEnd, DidSession, EndCause, KeepsMany, RestsAtEnd, first_seen, session_status}
+use Rattle.g_session.specs.Exchanging.{CourseCause, HasEnded, failure_of}
 use Rattle.g_session.specs.Parts.{Broken}
-use Rattle.g_session.specs.Session.{EndsSession, IsOfSession, SessionCause}
+use Rattle.g_session.specs.Session.{EndsAnew, EndsSession, IsOfSession, SessionCause, StaysBlank, TookFormat, WentElsewhere}
 use Rattle.g_session.specs.declared.exchange.Course.{Course}
 use Rattle.g_session.specs.declared.exchange.Course.TheVariants as course
+use Rattle.g_session.proofs.AnewLemmas.{elsewhere_on}
+use Rattle.g_session.proofs.GrowLemmas.{closes_grows, grows_print}
 use Rattle.g_session.proofs.EndLemmas.{cut_short, down_run, end_broken, session_over}
 use Rattle.g_session.proofs.EndingLemmas.{broken_quiet, ended_print}
 
@@ -163,14 +173,129 @@ module _ {F U : Type 0} (tariffs : Shared F (Bor Usage × Unit {0}) Charge) (tar
       (bad, session_over tariffs tariff rules rule s old new bad seen from before after log0 log t at puts.put taken_down fresh is),
     )
 
+  -- ON BLANK DEVICES
+  module _ (s : State) (old new : Devices) (from before after : Option Transcript) (log0 log : Option (List ℕ)) (bad : Option ℕ) (seen : Seen) (taken_down : TakenDown seen.system new) (c : Course) (mid d : ℕ)
+      (fresh : from ≡ Some blank) (t : Transcript) (is : after ≡ Some t) where
+    abbrev Closed : Option Failure → Type 0
+    Closed failure = ClosesBy (failure_of c) (waiting_files seen.crew.jobs ++ closing None) failure (option_map written_of before) (option_map written_of after) mid d
+
+    -- a FORMAT took effect
+    ends_took : (failure : Option Failure) → RestsAtEnd tariffs tariff rules rule s (with_new_disc old) from log0 c bad seen before log → Closed failure → TookFormat tariffs tariff rules rule (session_status failure c bad) s old new t log0 log
+    ends_took failure rests closes =
+        let x = all_broken s (with_new_disc old) new from before after log0 log bad seen taken_down c failure mid d rests closes in
+        let r = down_run tariffs tariff rules rule (taken x.said ++ map timed_said x.more) s (with_new_disc old) seen.system new x.moves x.last x.run x.counted x.stands taken_down in
+        let stands = read_as new (down x.last.store) r.stands in record {
+          answers = x.answers fresh t is;
+          ends = ends_by s (with_new_disc old) new from before after log0 log bad seen taken_down c failure mid d rests closes fresh t is;
+          together = record { told = stands.told; belong = stands.belong };
+        }
+
+    -- none did
+    blank_end : IsBlank seen.system → AreBlank new
+    blank_end empty = subst AreBlank (sym taken_down.devices) (blank_devices seen.system empty)
+
+    aside_cut : (came : Failure) → IsBlank seen.system → RestsAtEnd tariffs tariff rules rule s (with_new_disc old) from log0 c bad (beside seen) before log → Closed (Some came)
+        → StaysBlank tariffs tariff rules rule (session_status (Some came) c bad) s old new t log0 log
+    aside_cut came empty rests closes =
+        let down_is = taken_beside seen.system new taken_down empty in
+        let x = all_broken s (with_new_disc old) (with_new_disc new) from before after log0 log bad (beside seen) down_is c (Some came) mid d rests closes in by came x
+      where
+        by : (f : Failure) → Broken tariffs tariff rules rule s (with_new_disc old) (beside_new seen.system) from after log0 log → StaysBlank tariffs tariff rules rule (session_status (Some f) c bad) s old new t log0 log
+        by failures.Output x = record {
+          answers = x.answers fresh t is;
+          ends = cut_short tariffs tariff rules rule s (with_new_disc old) (with_new_disc new) (beside_new seen.system) from after log0 log t x (taken_beside seen.system new taken_down empty) fresh is;
+          blank = blank_end empty;
+          unwell = λ lines cut begin well. cut;
+        }
+        by failures.Memory x = record {
+          answers = x.answers fresh t is;
+          ends = cut_short tariffs tariff rules rule s (with_new_disc old) (with_new_disc new) (beside_new seen.system) from after log0 log t x (taken_beside seen.system new taken_down empty) fresh is;
+          blank = blank_end empty;
+          unwell = λ lines cut begin well. cut;
+        }
+
+    module _ (end : AtEnd tariffs tariff rules rule s (with_new_disc old) from log0 bad (beside seen) before log) (n : NoneYet old end.done seen)
+        (put : option_map written_of after ≡ with_more (option_map written_of before) (waiting_files seen.crew.jobs ++ closing None)) where
+      abbrev over : IsOver tariffs tariff rules rule s (with_new_disc old) (with_new_disc new) t log0 log bad
+      over = session_over tariffs tariff rules rule s (with_new_disc old) (with_new_disc new) bad (beside seen) from before after log0 log t end put (taken_beside seen.system new taken_down n.blank) fresh is
+
+      answered : AlwaysAnswers tariffs tariff rules rule s t
+      answered = (end_broken tariffs tariff rules rule s (with_new_disc old) bad (beside seen) from before after log0 log end
+          (put_by None (waiting_files seen.crew.jobs ++ closing None) (option_map written_of before) (option_map written_of after) put)).answers fresh t is
+
+      unwell_over : (lines : List Timed) → lines ≡ taken over.said → BeginAnew lines → NoDiscFault old new → ⊥
+      unfolding session_over
+      unwell_over lines same begin well = n.unwell (subst BeginAnew (same ∙ end.last.so_far.taken_is) begin) (subst (λ (x : Devices). NoDiscFault old x) taken_down.devices well)
+
+    -- an item of another kind was typed
+    went : Elsewhere tariffs tariff rules rule s old seen.system from before log0 log → (failure : Option Failure) → Closed failure → WentElsewhere tariffs tariff rules rule s old new t log0 log
+    went e failure closes =
+        let x = elsewhere_on tariffs tariff rules rule s old from log0 seen.system seen.system before after log log e
+        (grows_print before after (closes_grows (failure_of c) (waiting_files seen.crew.jobs ++ closing None) failure (option_map written_of before) (option_map written_of after) mid d closes))
+        (same_grown log log refl) (same_itself (devices_in seen.system)) in record {
+          said = x.said;
+          now = x.now;
+          comes = x.comes;
+          mid = x.mid;
+          run_of = x.run_of;
+          blank = x.was_blank;
+          unwell = x.unwell;
+          same = subst (λ (y : Devices). SameDevices x.mid y) (sym taken_down.devices) x.same;
+          next = x.next;
+          other = x.other;
+          when = x.when;
+          typed = x.typed;
+          is_typed = x.is_typed;
+          lines = x.lines fresh t is;
+          text = x.text fresh t is;
+          log = x.log_grows;
+        }
+
+  module _ (s : State) (old new : Devices) (from before after : Option Transcript) (log0 log : Option (List ℕ)) (seen : Seen) (taken_down : TakenDown seen.system new) (mid d : ℕ)
+      (fresh : from ≡ Some blank) (t : Transcript) (is : after ≡ Some t) where
+    ends_aside : (bad : Option ℕ) (c : Course) (failure : Option Failure) → RestsAside tariffs tariff rules rule s old from log0 c bad seen before log
+        → ClosesBy (failure_of c) (waiting_files seen.crew.jobs ++ closing None) failure (option_map written_of before) (option_map written_of after) mid d
+        → StaysBlank tariffs tariff rules rule (session_status failure c bad) s old new t log0 log
+    ends_aside bad (course.Breaks came) None (empty, b) (is_failure, quiet, still) = absurd (none_some came (sym is_failure))
+    ends_aside bad (course.Breaks came) (Some failure) (empty, b) closes = aside_cut s old new from before after log0 log bad seen taken_down (course.Breaks came) mid d fresh t is failure empty b closes
+    ends_aside bad course.Goes failure (never, end) closes = absurd never
+    ends_aside bad course.Ends (Some failure) (ended, (end, n)) closes = aside_cut s old new from before after log0 log bad seen taken_down course.Ends mid d fresh t is failure n.blank (ended, end) closes
+    ends_aside None course.Ends None (ended, (end, n)) closes = record {
+      answers = answered s old new from before after log0 log None seen taken_down course.Ends mid d fresh t is end n closes.put;
+      ends = (ended_print course.Ends before after (waiting_files seen.crew.jobs ++ closing None) closes.put ended t is, over s old new from before after log0 log None seen taken_down course.Ends mid d fresh t is end n closes.put);
+      blank = subst AreBlank (sym taken_down.devices) (blank_devices seen.system n.blank);
+      unwell = unwell_over s old new from before after log0 log None seen taken_down course.Ends mid d fresh t is end n closes.put;
+    }
+    ends_aside (Some line) course.Ends None (ended, (end, n)) closes = record {
+      answers = answered s old new from before after log0 log (Some line) seen taken_down course.Ends mid d fresh t is end n closes.put;
+      ends = (ended_print course.Ends before after (waiting_files seen.crew.jobs ++ closing None) closes.put ended t is, over s old new from before after log0 log (Some line) seen taken_down course.Ends mid d fresh t is end n closes.put);
+      blank = subst AreBlank (sym taken_down.devices) (blank_devices seen.system n.blank);
+      unwell = unwell_over s old new from before after log0 log (Some line) seen taken_down course.Ends mid d fresh t is end n closes.put;
+    }
+    ends_aside bad course.Fails (Some failure) (ended, (end, n)) closes = aside_cut s old new from before after log0 log bad seen taken_down course.Fails mid d fresh t is failure n.blank (ended, end) closes
+    ends_aside bad course.Fails None (ended, (end, n)) closes = record {
+      answers = answered s old new from before after log0 log bad seen taken_down course.Fails mid d fresh t is end n closes.put;
+      ends = (ended_print course.Fails before after (waiting_files seen.crew.jobs ++ closing None) closes.put ended t is, (bad, over s old new from before after log0 log bad seen taken_down course.Fails mid d fresh t is end n closes.put));
+      blank = subst AreBlank (sym taken_down.devices) (blank_devices seen.system n.blank);
+      unwell = unwell_over s old new from before after log0 log bad seen taken_down course.Fails mid d fresh t is end n closes.put;
+    }
+
+    ends_anew : (bad : Option ℕ) (c : Course) (failure : Option Failure) → RestsAnew tariffs tariff rules rule s old from log0 c bad seen before log
+        → ClosesBy (failure_of c) (waiting_files seen.crew.jobs ++ closing None) failure (option_map written_of before) (option_map written_of after) mid d
+        → EndsAnew tariffs tariff rules rule (session_status failure c bad) s old new t log0 log
+    ends_anew bad c failure (inl a) closes = inr (inl (ends_aside bad c failure a closes))
+    ends_anew bad c failure (inr (inl rests)) closes = inl (ends_took s old new from before after log0 log bad seen taken_down c mid d fresh t is failure rests closes)
+    ends_anew bad c failure (inr (inr e)) closes = inr (inr (went s old new from before after log0 log bad seen taken_down c mid d fresh t is e failure closes))
+
   -- THE SESSION
   pub did_session : (old new : Devices) (from before after : Option Transcript) (log0 log : Option (List ℕ)) (first c : Course) (bad : Option ℕ) (seen : Seen) (failure : Option Failure)
       (put put' : Option (List ℕ)) (a b mid d logged logged' : ℕ) → put ≡ option_map written_of before → put' ≡ option_map written_of after
       → ((s : State) → StandFor old s → RestsAtEnd tariffs tariff rules rule s old from log0 c bad seen before log)
+      → ((s : State) → StandFor (with_new_disc old) s → AreBlank old → RestsAnew tariffs tariff rules rule s old from log0 c bad seen before log)
       → KeepsMany (first_seen old) c seen → CourseCause first a b logged logged' → EndCause first c b mid
       → ClosesBy (failure_of c) (waiting_files seen.crew.jobs ++ closing None) failure put put' mid d → TakenDown seen.system new
       → DidSession tariffs tariff rules rule (session_status failure c bad) old new from after log0 log a d logged logged'
-  did_session old new from before after log0 log first c bad seen failure put put' a b mid d logged logged' is is' said keeps cause end closes taken_down =
+  did_session old new from before after log0 log first c bad seen failure put put' a b mid d logged logged' is is' said said_anew keeps cause end closes taken_down =
       let closed_by = subst (λ (x : Option (List ℕ)). ClosesBy (failure_of c) (waiting_files seen.crew.jobs ++ closing None) failure x (option_map written_of after) mid d) is
       (subst (λ (x : Option (List ℕ)). ClosesBy (failure_of c) (waiting_files seen.crew.jobs ++ closing None) failure put x mid d) is' closes) in record {
         of = of_session failure c bad;
@@ -186,4 +311,5 @@ module _ {F U : Type 0} (tariffs : Shared F (Bor Usage × Unit {0}) Charge) (tar
             let x = all_broken s old new from before after log0 log bad seen taken_down c failure mid d (said s stand) closed_by in
             devices_keep tariffs tariff rules rule (taken x.said ++ map timed_said x.more) None s old new x.moves x.last stand has
             (down_run tariffs tariff rules rule (taken x.said ++ map timed_said x.more) s old seen.system new x.moves x.last x.run x.counted x.stands taken_down);
+        anew = λ fresh t known empty s stand. ends_anew s old new from before after log0 log seen taken_down mid d fresh t known bad c failure (said_anew s stand empty) closed_by;
       }

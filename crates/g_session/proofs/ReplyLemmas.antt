@@ -1,5 +1,5 @@
 -- A reply is done: what is known when the next line is requested, or if something failed.
--- serves: exchange (said, typed)
+-- serves: exchange (anew, said, typed), AnewLemmas
 use Rattle.std.proofs.Common.{◌≡◌, ◌≢◌, ◌⊎◌, ◌+◌, ◌≤◌, ◌++◌, ℕ, Bool, true, false, List, [], ◌∷◌, All, Option, Some, None, Result, Ok, option_map, codes, length, take, append-nil, refl, sym, ◌∙◌, ap, subst, inl, inr, arith}
 use Rattle.std.specs.Fn.{Shared}
 use Rattle.std.specs.List.{flat_map}
@@ -32,7 +32,7 @@ use Rattle.g_typing.specs.declared.item.Reply.TheVariants as reply
 use Rattle.g_typing.proofs.AddLemmas.{end_follows}
 use Rattle.g_laws_sessions.specs.Early.{NotBefore, with_lines}
 use Rattle.g_laws_sessions.specs.Session.{AlwaysAnswers, Exchanges, Moment, RefusesLine, or_else, refusal_line, script_of, tick_line}
-use Rattle.g_session.specs.Exchanging.{AfterExchange, DidReply, IsReplyWithin, LogsReply, bad_after, course_after}
+use Rattle.g_session.specs.Exchanging.{AfterExchange, DidReply, IsReplyWithin, LogsReply, ReplyGoes, bad_after, course_after}
 use Rattle.g_session.specs.Parts.{Broken, SoFar, Stands}
 use Rattle.g_session.specs.Taking.{RestsAndTells, TakesItem}
 use Rattle.g_session.proofs.AnswerLemmas.{ArePrinted, answers_print, printed_print, stands_ask}
@@ -112,6 +112,11 @@ has_log reply.Refused text before after faults faults' (none, same, still) = sam
 has_log reply.More text before after faults faults' (none, same, still) = same
 has_log reply.SkippedAll text before after faults faults' (none, same, still) = same
 
+-- the items that were taken, after this reply
+abbrev pub done_after : Reply → List Timed → List Timed
+done_after (reply.Item next timed) done = done ++ next ∷ []
+done_after other done = done
+
 -- the count stays where a document continues
 module _ {F U : Type 0} (tariffs : Shared F (Bor Usage × Unit {0}) Charge) (tariff : F) (rules : Shared U (Bor Standing × Unit {0}) ℕ) (rule : U) where
   pub keeps_count : (answer : Reply) (number : ℕ) (old : Seen) (failure : Option Failure) (new : Seen) (before after : Option (List ℕ)) (faults faults' : ℕ)
@@ -122,6 +127,16 @@ module _ {F U : Type 0} (tariffs : Shared F (Bor Usage × Unit {0}) Charge) (tar
   keeps_count reply.Refused number old failure new before after faults faults' did = tt
   keeps_count reply.More number old failure new before after faults faults' (none, same, quiet, still) = ap (λ (x : Seen). x.count) same
   keeps_count reply.SkippedAll number old failure new before after faults faults' did = tt
+
+  -- the moves and the text of a reply
+  pub reply_goes : (answer : Reply) (number : ℕ) (old : Seen) (failure : Option Failure) (new : Seen) (before after : Option (List ℕ)) (faults faults' : ℕ)
+      → DidReply tariffs tariff rules rule answer number old failure new before after faults faults' → ReplyGoes tariffs tariff rules rule answer number old failure new before after
+  reply_goes (reply.Item next timed) number old failure new before after faults faults' did = did.goes
+  reply_goes reply.Rest number old failure new before after faults faults' did = did.goes
+  reply_goes (reply.Asked q) number old failure new before after faults faults' (same, (text, both, puts)) = (same, (text, both.here, puts.put))
+  reply_goes reply.Refused number old failure new before after faults faults' (same, puts) = (same, puts.put)
+  reply_goes reply.More number old failure new before after faults faults' (none, same, quiet, still) = (none, same, quiet)
+  reply_goes reply.SkippedAll number old failure new before after faults faults' (none, same, quiet, still) = (none, same, quiet)
 
 module _ {F U : Type 0} (tariffs : Shared F (Bor Usage × Unit {0}) Charge) (tariff : F) (rules : Shared U (Bor Standing × Unit {0}) ℕ) (rule : U) (s : State) (old : Devices) (from : Option Transcript) (log0 : Option (List ℕ)) where
   -- nothing was printed
@@ -217,30 +232,29 @@ module _ {F U : Type 0} (tariffs : Shared F (Bor Usage × Unit {0}) Charge) (tar
         (logged_item item whole.text put)
 
     -- THE REPLY WAS DONE
-    replied_on : (answer : Reply) (failure : Option Failure) (faults faults' : ℕ) → Replies r.place number seen.count st.pending line (Ok answer) r' → HasLog answer r'.text log log'
-        → DidReply tariffs tariff rules rule answer number seen failure new (option_map written_of before) (option_map written_of after) faults faults'
-        → AfterExchange tariffs tariff rules rule s old from log0 (course_after failure) (bad_after answer number bad) new r' number after log'
+    abbrev pub RepliedAs : Reply → Option Failure → Type 0
+    RepliedAs answer None = Stands tariffs tariff rules rule s old (done_after answer done) (bad_after answer number bad) new r' (number + 1) [] from after log0 log'
+    RepliedAs answer (Some failure) = Broken tariffs tariff rules rule s old new.system from after log0 log'
+
+    pub replied_on : (answer : Reply) (failure : Option Failure) → Replies r.place number seen.count st.pending line (Ok answer) r' → HasLog answer r'.text log log'
+        → ReplyGoes tariffs tariff rules rule answer number seen failure new (option_map written_of before) (option_map written_of after) → RepliedAs answer failure
     unfolding refusal
-    replied_on (reply.Item next timed) None faults faults' (unskipped, whole) put did =
+    replied_on (reply.Item next timed) None (unskipped, whole) put did =
         let n = so_far_took tariffs tariff rules rule s old done bad seen new log0 log log' (option_map written_of before) (option_map written_of after) (st.pending ++ line ∷ []) next timed r' st.so_far
-        (st.skipping ∙ unskipped) st.going whole put did.goes in (
-          done ++ next ∷ [],
-          stands_next tariffs tariff rules rule s old done (done ++ next ∷ []) bad bad seen new r r' number line false from before after log0 log log' st n
-              (holds_start new.count r' whole.place) (sym (ap is_skipped whole.place)) (λ k is. start_not_document k (sym whole.place ∙ is)),
-        )
-    replied_on (reply.Item next timed) (Some failure) faults faults' (unskipped, whole) put did = item_broken next timed failure whole put did.goes
-    replied_on reply.Rest None faults faults' (unskipped, none, empty, at) put did =
-        let (middle, goes, told) = did.goes in
+        (st.skipping ∙ unskipped) st.going whole put did in
+        stands_next tariffs tariff rules rule s old done (done ++ next ∷ []) bad bad seen new r r' number line false from before after log0 log log' st n
+        (holds_start new.count r' whole.place) (sym (ap is_skipped whole.place)) (λ k is. start_not_document k (sym whole.place ∙ is))
+    replied_on (reply.Item next timed) (Some failure) (unskipped, whole) put did = item_broken next timed failure whole put did
+    replied_on reply.Rest None (unskipped, none, empty, at) put did =
+        let (middle, goes, told) = did in
         let only : [] ∷ [] ≡ st.pending ++ line ∷ [] = ap (λ (l : List ℕ). l ∷ []) (sym empty) ∙ ap (λ (ls : List (List ℕ)). ls ++ line ∷ []) (sym none) in
         let n = subst (λ (ls : List (List ℕ)). Next tariffs tariff rules rule s old done bad new log0 log st.so_far.now ls false (option_map written_of before) (option_map written_of after)) only
-        (so_far_rested tariffs tariff rules rule s old done bad seen new log0 log (option_map written_of before) middle (option_map written_of after) st.so_far (st.skipping ∙ unskipped) st.going goes told) in (
-          done,
-          subst (λ (l : Option (List ℕ)). Stands tariffs tariff rules rule s old done bad new r' (number + 1) [] from after log0 l) (sym put)
-              (stands_next tariffs tariff rules rule s old done done bad bad seen new r r' number line false from before after log0 log log st n
-              (holds_start new.count r' at) (sym (ap is_skipped at)) (λ k is. start_not_document k (sym at ∙ is))),
-        )
-    replied_on reply.Rest (Some failure) faults faults' (unskipped, none, empty, at) put did =
-        subst (λ (l : Option (List ℕ)). Broken tariffs tariff rules rule s old new.system from after log0 l) (sym put) (by did.goes)
+        (so_far_rested tariffs tariff rules rule s old done bad seen new log0 log (option_map written_of before) middle (option_map written_of after) st.so_far (st.skipping ∙ unskipped) st.going goes told) in
+        subst (λ (l : Option (List ℕ)). Stands tariffs tariff rules rule s old done bad new r' (number + 1) [] from after log0 l) (sym put)
+        (stands_next tariffs tariff rules rule s old done done bad bad seen new r r' number line false from before after log0 log log st n
+        (holds_start new.count r' at) (sym (ap is_skipped at)) (λ k is. start_not_document k (sym at ∙ is)))
+    replied_on reply.Rest (Some failure) (unskipped, none, empty, at) put did =
+        subst (λ (l : Option (List ℕ)). Broken tariffs tariff rules rule s old new.system from after log0 l) (sym put) (by did)
       where
         v : World
         v = record st.so_far.now.world { lines = [] }
@@ -255,64 +269,60 @@ module _ {F U : Type 0} (tariffs : Shared F (Bor Usage × Unit {0}) Charge) (tar
             broken_leads tariffs tariff rules rule s old done bad seen from before after log0 log log st.so_far shown new.system [] (omega arith) tt a.moves a.next a.added a.leads (a.added ++ tick_line new.count)
             (inr (inl (new.count, inl refl))) (put_on (option_map written_of before) middle (option_map written_of after) a.added (tick_line new.count) a.put part)
             (logged_all tariffs tariff rules rule s old done bad seen log0 log st.so_far)
-    replied_on (reply.Asked q) None faults faults' (unskipped, none, asks, at) put (same, (text, answers, puts)) =
+    replied_on (reply.Asked q) None (unskipped, none, asks, at) put (same, (text, answers, puts)) =
         let only : line ∷ [] ≡ st.pending ++ line ∷ [] = ap (λ (ls : List (List ℕ)). ls ++ line ∷ []) (sym none) in
         let n = subst (λ (ls : List (List ℕ)). Next tariffs tariff rules rule s old done bad seen log0 log st.so_far.now ls false (option_map written_of before) (option_map written_of after)) only
         (so_far_asked tariffs tariff rules rule s old done bad seen log0 log (option_map written_of before) (option_map written_of after) q line text st.so_far (st.skipping ∙ unskipped) st.going asks
-        (answers st.so_far.now.world st.so_far.matches) puts.put) in (
-          done,
-          subst (λ (l : Option (List ℕ)). Stands tariffs tariff rules rule s old done bad new r' (number + 1) [] from after log0 l) (sym put)
-              (subst (λ (x : Seen). Stands tariffs tariff rules rule s old done bad x r' (number + 1) [] from after log0 log) (sym same)
-              (stands_next tariffs tariff rules rule s old done done bad bad seen seen r r' number line false from before after log0 log log st n
-              (holds_start seen.count r' at) (sym (ap is_skipped at)) (λ k is. start_not_document k (sym at ∙ is)))),
-        )
-    replied_on (reply.Asked q) (Some failure) faults faults' (unskipped, none, asks, at) put (same, (text, answers, puts)) =
+        (answers st.so_far.now.world st.so_far.matches) puts) in
+        subst (λ (l : Option (List ℕ)). Stands tariffs tariff rules rule s old done bad new r' (number + 1) [] from after log0 l) (sym put)
+        (subst (λ (x : Seen). Stands tariffs tariff rules rule s old done bad x r' (number + 1) [] from after log0 log) (sym same)
+        (stands_next tariffs tariff rules rule s old done done bad bad seen seen r r' number line false from before after log0 log log st n
+        (holds_start seen.count r' at) (sym (ap is_skipped at)) (λ k is. start_not_document k (sym at ∙ is))))
+    replied_on (reply.Asked q) (Some failure) (unskipped, none, asks, at) put (same, (text, answers, puts)) =
         subst (λ (l : Option (List ℕ)). Broken tariffs tariff rules rule s old new.system from after log0 l) (sym put)
         (subst (λ (x : Seen). Broken tariffs tariff rules rule s old x.system from after log0 log) (sym same)
-        (broken_still tariffs tariff rules rule s old done bad seen from before after log0 log log st.so_far shown text (inr (inr (refl, (q, answers st.so_far.now.world st.so_far.matches)))) puts.put
+        (broken_still tariffs tariff rules rule s old done bad seen from before after log0 log log st.so_far shown text (inr (inr (refl, (q, answers st.so_far.now.world st.so_far.matches)))) puts
         (logged_all tariffs tariff rules rule s old done bad seen log0 log st.so_far)))
-    replied_on reply.Refused None faults faults' (unskipped, refused) put (same, puts) =
+    replied_on reply.Refused None (unskipped, refused) put (same, puts) =
         let n = so_far_refused tariffs tariff rules rule s old done bad seen log0 log (option_map written_of before) (option_map written_of after) number (is_skipped r'.place)
         (record st.so_far.now { lines = st.so_far.now.lines ++ (st.pending ++ line ∷ []); text = st.so_far.now.text ++ refusal_line number })
-        st.so_far (st.skipping ∙ unskipped) st.going (refusal done bad seen log st.so_far number st.pending line r'.place st.number_is refused) puts.put in (
-          done,
-          subst (λ (l : Option (List ℕ)). Stands tariffs tariff rules rule s old done (or_else bad (Some number)) new r' (number + 1) [] from after log0 l) (sym put)
-              (subst (λ (x : Seen). Stands tariffs tariff rules rule s old done (or_else bad (Some number)) x r' (number + 1) [] from after log0 log) (sym same)
-              (stands_next tariffs tariff rules rule s old done done bad (or_else bad (Some number)) seen seen r r' number line (is_skipped r'.place) from before after log0 log log st n
-              (held_refused seen.count seen.count st.pending line r' refused) refl (no_document seen.count st.pending line r'.place refused))),
-        )
-    replied_on reply.Refused (Some failure) faults faults' (unskipped, refused) put (same, puts) =
+        st.so_far (st.skipping ∙ unskipped) st.going (refusal done bad seen log st.so_far number st.pending line r'.place st.number_is refused) puts in
+        subst (λ (l : Option (List ℕ)). Stands tariffs tariff rules rule s old done (or_else bad (Some number)) new r' (number + 1) [] from after log0 l) (sym put)
+        (subst (λ (x : Seen). Stands tariffs tariff rules rule s old done (or_else bad (Some number)) x r' (number + 1) [] from after log0 log) (sym same)
+        (stands_next tariffs tariff rules rule s old done done bad (or_else bad (Some number)) seen seen r r' number line (is_skipped r'.place) from before after log0 log log st n
+        (held_refused seen.count seen.count st.pending line r' refused) refl (no_document seen.count st.pending line r'.place refused)))
+    replied_on reply.Refused (Some failure) (unskipped, refused) put (same, puts) =
         subst (λ (l : Option (List ℕ)). Broken tariffs tariff rules rule s old new.system from after log0 l) (sym put)
         (subst (λ (x : Seen). Broken tariffs tariff rules rule s old x.system from after log0 log) (sym same)
-        (broken_still tariffs tariff rules rule s old done bad seen from before after log0 log log st.so_far shown (refusal_line number) (inr (inl (number, inr (sym (append-nil (refusal_line number)))))) puts.put
+        (broken_still tariffs tariff rules rule s old done bad seen from before after log0 log log st.so_far shown (refusal_line number) (inr (inl (number, inr (sym (append-nil (refusal_line number)))))) puts
         (logged_all tariffs tariff rules rule s old done bad seen log0 log st.so_far)))
-    replied_on reply.More None faults faults' (holds, stays) put (none, same, quiet, still) = (
-      done,
-      subst (λ (l : Option (List ℕ)). Stands tariffs tariff rules rule s old done bad new r' (number + 1) [] from after log0 l) (sym put)
-          (subst (λ (x : Seen). Stands tariffs tariff rules rule s old done bad x r' (number + 1) [] from after log0 log) (sym same)
-          (stands_quiet done bad seen r' (number + 1) before after log
-          (stands_more tariffs tariff rules rule s old done bad seen r r' number line from before log0 log st holds stays) quiet)),
-    )
-    replied_on reply.More (Some failure) faults faults' replies put (none, same, quiet, still) = absurd (some_none failure none)
-    replied_on reply.SkippedAll None faults faults' (skipped, all, is, at) put (none, same, quiet, still) =
+    replied_on reply.More None (holds, stays) put (none, same, quiet) =
+        subst (λ (l : Option (List ℕ)). Stands tariffs tariff rules rule s old done bad new r' (number + 1) [] from after log0 l) (sym put)
+        (subst (λ (x : Seen). Stands tariffs tariff rules rule s old done bad x r' (number + 1) [] from after log0 log) (sym same)
+        (stands_quiet done bad seen r' (number + 1) before after log
+        (stands_more tariffs tariff rules rule s old done bad seen r r' number line from before log0 log st holds stays) quiet))
+    replied_on reply.More (Some failure) replies put (none, same, quiet) = absurd (some_none failure none)
+    replied_on reply.SkippedAll None (skipped, all, is, at) put (none, same, quiet) =
         let n = subst (λ (l : List ℕ). Next tariffs tariff rules rule s old done bad seen log0 log st.so_far.now (st.pending ++ l ∷ []) false (option_map written_of before) (option_map written_of before)) (sym is)
-        (so_far_skipped tariffs tariff rules rule s old done bad seen log0 log (option_map written_of before) st.pending st.so_far (st.skipping ∙ skipped) all) in (
-          done,
-          subst (λ (l : Option (List ℕ)). Stands tariffs tariff rules rule s old done bad new r' (number + 1) [] from after log0 l) (sym put)
-              (subst (λ (x : Seen). Stands tariffs tariff rules rule s old done bad x r' (number + 1) [] from after log0 log) (sym same)
-              (stands_quiet done bad seen r' (number + 1) before after log
-              (stands_next tariffs tariff rules rule s old done done bad bad seen seen r r' number line false from before before log0 log log st n
-              (holds_start seen.count r' at) (sym (ap is_skipped at)) (λ k known. start_not_document k (sym at ∙ known))) quiet)),
-        )
-    replied_on reply.SkippedAll (Some failure) faults faults' replies put (none, same, quiet, still) = absurd (some_none failure none)
+        (so_far_skipped tariffs tariff rules rule s old done bad seen log0 log (option_map written_of before) st.pending st.so_far (st.skipping ∙ skipped) all) in
+        subst (λ (l : Option (List ℕ)). Stands tariffs tariff rules rule s old done bad new r' (number + 1) [] from after log0 l) (sym put)
+        (subst (λ (x : Seen). Stands tariffs tariff rules rule s old done bad x r' (number + 1) [] from after log0 log) (sym same)
+        (stands_quiet done bad seen r' (number + 1) before after log
+        (stands_next tariffs tariff rules rule s old done done bad bad seen seen r r' number line false from before before log0 log log st n
+        (holds_start seen.count r' at) (sym (ap is_skipped at)) (λ k known. start_not_document k (sym at ∙ known))) quiet))
+    replied_on reply.SkippedAll (Some failure) replies put (none, same, quiet) = absurd (some_none failure none)
+
+    pub after_reply : (answer : Reply) (failure : Option Failure) → RepliedAs answer failure → AfterExchange tariffs tariff rules rule s old from log0 (course_after failure) (bad_after answer number bad) new r' number after log'
+    after_reply answer None st = (done_after answer done, st)
+    after_reply answer (Some failure) b = b
 
     pub replied : (answer : Reply) (failure : Option Failure) (faults faults' : ℕ) (put put' : Option (List ℕ)) → put ≡ option_map written_of before → put' ≡ option_map written_of after
         → Replies r.place number seen.count st.pending line (Ok answer) r' → HasLog answer r'.text log log' → DidReply tariffs tariff rules rule answer number seen failure new put put' faults faults'
         → AfterExchange tariffs tariff rules rule s old from log0 (course_after failure) (bad_after answer number bad) new r' number after log'
     replied answer failure faults faults' put put' is is' replies logged did =
-        replied_on answer failure faults faults' replies logged
-        (subst (λ (a : Option (List ℕ)). DidReply tariffs tariff rules rule answer number seen failure new (option_map written_of before) a faults faults') is'
-        (subst (λ (b : Option (List ℕ)). DidReply tariffs tariff rules rule answer number seen failure new b put' faults faults') is did))
+        after_reply answer failure (replied_on answer failure replies logged
+        (subst (λ (a : Option (List ℕ)). ReplyGoes tariffs tariff rules rule answer number seen failure new (option_map written_of before) a) is'
+        (subst (λ (b : Option (List ℕ)). ReplyGoes tariffs tariff rules rule answer number seen failure new b put') is (reply_goes tariffs tariff rules rule answer number seen failure new put put' faults faults' did))))
 
     -- THE LOG FAILED: nothing was done of the item, and the log has a front of it
     pub unlogged : (next : Timed) (timed : Bool) (after_is : option_map written_of after ≡ option_map written_of before) → Replies r.place number seen.count st.pending line (Ok (reply.Item next timed)) r'

@@ -19,7 +19,9 @@ use Rattle.g_store_model.specs.State.{OpenDump, ReelRow, State}
 use Rattle.g_store_calls.proofs.SeenLemmas.{seen as seen_of}
 use Rattle.g_run_model.specs.Devices.{Devices}
 use Rattle.g_run_model.specs.World.{World, can_step}
+use Rattle.g_laws_runs.specs.BeginningAnew.{with_new_disc}
 use Rattle.g_job_table.specs.Crew.{CrewState}
+use Rattle.g_day.specs.BeginningAnew.{IsBlank, beside_new}
 use Rattle.g_day.specs.Parts.{IsReady, Matches, Seen, seen}
 use Rattle.g_day.specs.System.{Down, SameDevices, SystemFacts, Up, devices_in, labels}
 use Rattle.g_ticks.specs.Tick.{may_step}
@@ -128,6 +130,12 @@ pub stands_by : (f : SystemFacts) (c : CrewState) (count : ℕ) (serials : List 
     → seen_text (seen f c count) serials ≡ state_text w
 stands_by (Up s) c count serials ready same w m = up_stands s c count serials ready.0 same w m
 stands_by (Down d) c count serials ready same w m = down_stands d c count serials ready.2 same w m
+
+-- with a new disc in place of a blank one
+pub stands_beside : (f : SystemFacts) (c : CrewState) (count : ℕ) (serials : List ℕ) → IsReady f c → serials ≡ serials_in f → IsBlank f → (w : World) → Matches w (seen (beside_new f) c count)
+    → seen_text (seen f c count) serials ≡ state_text w
+stands_beside (Up s) c count serials ready same blank w m = absurd blank
+stands_beside (Down d) c count serials ready same blank w m = down_stands (with_new_disc d) c count serials ready.2 same w m
 
 -- the text of an explanation, or none if there was no memory for it
 pub record Explains (made : Result (List ℕ) NoMemory) : Type 0 where

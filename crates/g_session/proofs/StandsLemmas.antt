@@ -1,5 +1,5 @@
 -- Between two lines of a session: one exchange more, with nothing left to reply to.
--- serves: BrokenLemmas, EndLemmas, EndingLemmas, ReplyLemmas
+-- serves: BrokenLemmas, EndLemmas, EndingLemmas, GrowLemmas, ReplyLemmas
 use Rattle.std.proofs.Common.{◌≡◌, ◌⊎◌, ◌+◌, ◌≤◌, ◌++◌, ℕ, Bool, List, [], ◌∷◌, All, Option, Some, None, option_map, length, append_assoc, append-nil, refl, sym, ◌∙◌, ap, subst, inl, inr, arith}
 use Rattle.std.specs.Fn.{Shared}
 use Rattle.std.proofs.lemmas.List.{length-append}

@@ -11,6 +11,7 @@ use Rattle.g_store_meaning.specs.Safety.{AreSafe}
 use Rattle.g_store_model.specs.State.{State}
 use Rattle.g_laws_store.specs.Moving.{DumpsMove}
 use Rattle.g_run_model.specs.Devices.{Devices, StandFor}
+use Rattle.g_laws_runs.specs.BeginningAnew.{AreBlank, with_new_disc}
 use Rattle.g_laws_runs.specs.Filestores.{HasFilestore}
 use Rattle.g_day.specs.declared.progress.Failure.{Failure}
 use Rattle.g_day.specs.declared.progress.Failure.TheVariants as failures
@@ -26,7 +27,7 @@ use Rattle.g_run.specs.declared.status.Status.{Status}
 use Rattle.g_run.specs.declared.status.Status.TheVariants.{Done, BadScript, ScriptFault, OutputFault, NoMemory}
 use Rattle.g_session.specs.Exchanging.{HasEnded, failure_of}
 use Rattle.g_session.specs.Parts.{Broken, Last, Stands}
-use Rattle.g_session.specs.Session.{EndsSession, IsOfSession, SessionCause}
+use Rattle.g_session.specs.Session.{EndsAnew, EndsSession, IsOfSession, SessionCause}
 use Rattle.g_session.specs.declared.exchange.Course.{Course}
 use Rattle.g_session.specs.declared.exchange.Course.TheVariants as course
 
@@ -108,3 +109,4 @@ module _ {F U : Type 0} (tariffs : Shared F (Bor Usage × Unit {0}) Charge) (tar
     pub safe : AreSafe old.disc old.rack → AreSafe new.disc new.rack
     pub dumps : BelongTogether old → DumpsMove old.rack new.rack
     pub stands : BelongTogether old → HasFilestore old → HasFilestore new
+    pub anew : from ≡ Some blank → (t : Transcript) → transcript ≡ Some t → AreBlank old → (s : State) → StandFor (with_new_disc old) s → EndsAnew tariffs tariff rules rule status s old new t log0 log

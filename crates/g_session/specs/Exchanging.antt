@@ -13,8 +13,9 @@ use Rattle.g_run_model.specs.Devices.{Devices}
 use Rattle.g_run_model.specs.World.{World}
 use Rattle.g_day.specs.declared.progress.Failure.{Failure}
 use Rattle.g_day.specs.declared.progress.Failure.TheVariants as failures
+use Rattle.g_day.specs.BeginningAnew.{IsBlank, beside}
 use Rattle.g_day.specs.Parts.{Matches, Seen}
-use Rattle.g_day.specs.Puts.{Puts}
+use Rattle.g_day.specs.Puts.{Puts, PutsBy}
 use Rattle.g_ticks.specs.Parts.{IsTimedWithin, Keeps}
 use Rattle.g_typing.specs.declared.item.ItemReader.{ItemReader}
 use Rattle.g_typing.specs.declared.item.Reply.{Reply}
@@ -23,7 +24,7 @@ use Rattle.g_typing.specs.declared.query.Query.{Query}
 use Rattle.g_laws_sessions.specs.Session.{IsAnswer, or_else, refusal_line}
 use Rattle.g_session.specs.Parts.{Broken, Stands}
 use Rattle.g_session.specs.Session.{LastWas}
-use Rattle.g_session.specs.Taking.{DidRestAndTell, DidTake}
+use Rattle.g_session.specs.Taking.{DidRestAndTell, DidTake, RestsAndTells, TakesItem}
 use Rattle.g_session.specs.declared.exchange.Course.{Course}
 use Rattle.g_session.specs.declared.exchange.Course.TheVariants as course
 
@@ -34,6 +35,11 @@ failure_of other = None
 -- the answer to a question, in any world that matches what is at hand
 abbrev pub AnswersIn : Query → Seen → List ℕ → Type 0
 AnswersIn q old text = (w : World) → Matches w old → IsAnswer q w text
+
+-- and in any world that matches it with a new disc in place of a blank one
+pub record AnswersBoth (q : Query) (old : Seen) (text : List ℕ) : Type 0 where
+  pub here : AnswersIn q old text
+  pub aside : IsBlank old.system → AnswersIn q (beside old) text
 
 abbrev pub course_after : Option Failure → Course
 course_after None = course.Goes
@@ -80,9 +86,17 @@ module _ {F U : Type 0} (tariffs : Shared F (Bor Usage × Unit {0}) Charge) (tar
   abbrev pub DidReply : Reply → ℕ → Seen → Option Failure → Seen → Option (List ℕ) → Option (List ℕ) → ℕ → ℕ → Type 0
   DidReply (reply.Item next timed) number old failure new before after faults faults' = DidTake tariffs tariff rules rule timed next old failure new before after faults faults'
   DidReply reply.Rest number old failure new before after faults faults' = DidRestAndTell tariffs tariff rules rule old failure new before after faults faults'
-  DidReply (reply.Asked q) number old failure new before after faults faults' = (new ≡ old) × ((text : List ℕ) × AnswersIn q old text × Puts failure text before after faults faults')
+  DidReply (reply.Asked q) number old failure new before after faults faults' = (new ≡ old) × ((text : List ℕ) × AnswersBoth q old text × Puts failure text before after faults faults')
   DidReply reply.Refused number old failure new before after faults faults' = (new ≡ old) × Puts failure (refusal_line number) before after faults faults'
   DidReply other number old failure new before after faults faults' = (failure ≡ None) × (new ≡ old) × (after ≡ before) × (faults' ≡ faults)
+
+  -- the moves and the text of that
+  abbrev pub ReplyGoes : Reply → ℕ → Seen → Option Failure → Seen → Option (List ℕ) → Option (List ℕ) → Type 0
+  ReplyGoes (reply.Item next timed) number old failure new before after = TakesItem tariffs tariff rules rule timed next old failure new before after
+  ReplyGoes reply.Rest number old failure new before after = RestsAndTells tariffs tariff rules rule old failure new before after
+  ReplyGoes (reply.Asked q) number old failure new before after = (new ≡ old) × ((text : List ℕ) × AnswersIn q old text × PutsBy failure text before after)
+  ReplyGoes reply.Refused number old failure new before after = (new ≡ old) × PutsBy failure (refusal_line number) before after
+  ReplyGoes other number old failure new before after = (failure ≡ None) × (new ≡ old) × (after ≡ before)
 
   pub record DidAnswer (reply : Reply) (number : ℕ) (old : Seen) (c : Course) (new : Seen) (before after : Option (List ℕ)) (faults faults' : ℕ) : Type 0 where
     pub failure : Option Failure

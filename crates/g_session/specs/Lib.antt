@@ -1,3 +1,4 @@
+pub mod Anew
 pub mod Asking
 pub mod Ending
 pub mod Exchanging

@@ -7,17 +7,23 @@ use Rattle.g_rules.specs.declared.tariff.Usage.{Usage}
 use Rattle.g_rules.specs.declared.rule.Standing.{Standing}
 use Rattle.g_io.specs.Streams.{HasPutPart, with_more}
 use Rattle.g_script.specs.declared.operator.Timed.{Timed}
+use Rattle.g_laws_runs.specs.BeginningAnew.{is_first}
 use Rattle.g_laws_sessions.specs.Session.{tick_line}
 use Rattle.g_day.specs.declared.progress.Failure.{Failure}
+use Rattle.g_day.specs.BeginningAnew.{IsBlank, beside}
 use Rattle.g_day.specs.Parts.{Seen}
+use Rattle.g_day.specs.Puts.{HasGrown}
 use Rattle.g_run.specs.NextLine.{HoldsGo}
-use Rattle.g_ticks.specs.Parts.{IsAtRest, Keeps, PartGoes}
+use Rattle.g_ticks.specs.Parts.{BeginsBy, IsAtRest, Keeps, PartGoes}
 
 module _ {F U : Type 0} (tariffs : Shared F (Bor Usage × Unit {0}) Charge) (tariff : F) (rules : Shared U (Bor Standing × Unit {0}) ℕ) (rule : U) where
   -- THE SYSTEM RUNS until nothing can step
   pub record DidRest (old : Seen) (failure : Option Failure) (new : Seen) (before after : Option (List ℕ)) (faults faults' : ℕ) : Type 0 where
     pub goes : PartGoes tariffs tariff rules rule IsAtRest [] [] old failure new before after
     pub keeps : Keeps [] old failure new faults faults'
+    pub grows : HasGrown before after
+    -- with a new disc in place of a blank one
+    pub aside : IsBlank old.system → IsBlank new.system × PartGoes tariffs tariff rules rule IsAtRest [] [] (beside old) failure (beside new) before after
 
   -- it does, and the count of ticks is printed
   abbrev pub RestsAndTells : Seen → Option Failure → Seen → Option (List ℕ) → Option (List ℕ) → Type 0
@@ -29,6 +35,8 @@ module _ {F U : Type 0} (tariffs : Shared F (Bor Usage × Unit {0}) Charge) (tar
   pub record DidRestAndTell (old : Seen) (failure : Option Failure) (new : Seen) (before after : Option (List ℕ)) (faults faults' : ℕ) : Type 0 where
     pub goes : RestsAndTells old failure new before after
     pub keeps : Keeps [] old failure new faults faults'
+    pub grows : HasGrown before after
+    pub aside : IsBlank old.system → IsBlank new.system × RestsAndTells (beside old) failure (beside new) before after
 
   -- AN ITEM IS TAKEN: with a time as a line of a script; without one everything runs after it until nothing can step
   abbrev pub TakesItem : Bool → Timed → Seen → Option Failure → Seen → Option (List ℕ) → Option (List ℕ) → Type 0
@@ -38,3 +46,6 @@ module _ {F U : Type 0} (tariffs : Shared F (Bor Usage × Unit {0}) Charge) (tar
   pub record DidTake (timed : Bool) (next : Timed) (old : Seen) (failure : Option Failure) (new : Seen) (before after : Option (List ℕ)) (faults faults' : ℕ) : Type 0 where
     pub goes : TakesItem timed next old failure new before after
     pub keeps : Keeps (next ∷ []) old failure new faults faults'
+    pub grows : HasGrown before after
+    -- on blank devices: a FORMAT, or a line that doesn't use the filestore
+    pub first : is_first next.what ≡ true → IsBlank old.system → BeginsBy (λ s. TakesItem timed next (beside old) failure s before after) (next ∷ []) old failure new

@@ -4,7 +4,7 @@ ghost use Rattle.g_day.specs.Parts.{IsReady};
 ghost use Rattle.g_day.specs.Puts.{Puts};
 ghost use Rattle.g_day.specs.System.{facts_of};
 ghost use Rattle.g_ticks.specs.Tick.{may_step};
-ghost use Rattle.g_session.specs.Exchanging.{AnswersIn};
+ghost use Rattle.g_session.specs.Exchanging.{AnswersBoth};
 ghost use Rattle.g_session.specs.Standing.{jobs_on, jobs_text, rack_serials, reels_text, seen_text, serials_in, system_text};
 
 use arrayvec::ArrayVec;
@@ -36,7 +36,7 @@ pub(crate) fn answer_query<K: Sink, D: Disc, T: Tapes>(
 ) -> Option<Failure>
     requires ready { IsReady day.now.system day.now.crew }
     requires reels { serials.now ≡ serials_in day.now.system }
-    ensures { (text : List ℕ) × AnswersIn query day.now text
+    ensures { (text : List ℕ) × AnswersBoth query day.now text
         × Puts result text (K.written out.old) (K.written out.new) (K.faults out.old) (K.faults out.new) }
 {
     match query {

@@ -11,6 +11,7 @@ ghost use Rattle.g_rules.specs.Rule.{IsWeighRule};
 ghost use Rattle.g_script.specs.declared.operator.Timed.{Timed};
 ghost use Rattle.g_store_model.specs.State.{State};
 ghost use Rattle.g_typing.specs.Reader.{Holds};
+ghost use Rattle.g_session.specs.Anew.{AfterExchangeAnew, StandsAnew};
 ghost use Rattle.g_session.specs.Exchanging as parts;
 ghost use Rattle.g_session.specs.Exchanging.{AfterExchange, CourseCause, DidAnswer, IsReplyWithin, KeepsOne, LogsReply, bad_after};
 ghost use Rattle.g_session.specs.Parts.{Stands};
@@ -86,6 +87,9 @@ pub(crate) fn exchange<
     ensures said { (s : State) (old : Devices) (done : List Timed) (from : Option Transcript) (log0 : Option (List ℕ))
         → Stands F.Fn rules.now.tariff.now U.Fn rules.now.weigh.now s old done talk.bad talk.day talk.reader talk.number [] from (C.transcript console.old) log0 (L.written log.old)
         → AfterExchange F.Fn rules.now.tariff.now U.Fn rules.now.weigh.now s old from log0 result.course result.bad result.day result.reader talk.number (C.transcript console.new) (L.written log.new) }
+    ensures anew { (s : State) (old : Devices) (from : Option Transcript) (log0 : Option (List ℕ))
+        → StandsAnew F.Fn rules.now.tariff.now U.Fn rules.now.weigh.now s old talk.bad talk.day talk.reader talk.number from (C.transcript console.old) log0 (L.written log.old)
+        → AfterExchangeAnew F.Fn rules.now.tariff.now U.Fn rules.now.weigh.now s old from log0 result.course result.bad result.day result.reader talk.number (C.transcript console.new) (L.written log.new) }
 {
     let Talk {
         day,

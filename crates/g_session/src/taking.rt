@@ -26,7 +26,6 @@ use std::alloc::Global;
 const MOST_COUNT: u64 = 1_000_000_000_000_000_000;
 
 /// Takes an item: one with a time of its own as a line of a script; any other at once, and then the system runs until nothing can step.
-#[tactic(auto, using(crate::proofs::TakeLemmas::take_held, crate::proofs::TakeLemmas::take_short))]
 pub(crate) fn take<K: Sink, D: Disc, T: Tapes, F: Fn(&Usage) -> Charge, U: Fn(&Standing) -> u64>(
     alloc: Global,
     next: Timed,

@@ -12,15 +12,17 @@ ghost use Rattle.g_store_model.specs.State.{State};
 ghost use Rattle.g_laws_store.specs.Moving.{DumpsMove};
 ghost use Rattle.g_run_model.specs.Devices.{Devices, StandFor};
 ghost use Rattle.g_run_model.specs.Top.{AreFused};
+ghost use Rattle.g_laws_runs.specs.BeginningAnew.{AreBlank, with_new_disc};
 ghost use Rattle.g_laws_runs.specs.Filestores.{HasFilestore};
 ghost use Rattle.g_laws_sessions.specs.Session.{AlwaysAnswers};
 ghost use Rattle.g_run.specs.ScriptEnd.{both};
 ghost use Rattle.g_typing.specs.Reader.{Holds};
+ghost use Rattle.g_session.specs.Anew.{AfterLinesAnew, RestsAnew, StandsAnew};
 ghost use Rattle.g_session.specs.Ending as ending;
 ghost use Rattle.g_session.specs.Ending.{AfterLines, DidOpen, DidSession, EndCause, KeepsMany, RestsAtEnd, first_seen};
 ghost use Rattle.g_session.specs.Exchanging.{CourseCause, failure_of};
 ghost use Rattle.g_session.specs.Parts.{Stands};
-ghost use Rattle.g_session.specs.Session.{EndsSession, IsOfSession, SessionCause};
+ghost use Rattle.g_session.specs.Session.{EndsAnew, EndsSession, IsOfSession, SessionCause};
 ghost use Rattle.g_session.specs.Standing.{rack_serials, serials_in};
 
 use crate::answering::serials_of;
@@ -74,6 +76,12 @@ pub fn session<
     // All that was printed, what both devices are then, and what the log has.
     ensures ends { C.transcript console.old ≡ Some blank → (t : Transcript) → C.transcript console.new ≡ Some t → (s : State) → StandFor (both (D.state disc) (T.rack tapes)) s
         → EndsSession F.Fn tariff.now U.Fn weigh.now result.status s (both (D.state disc) (T.rack tapes)) (both (D.state result.disc) (T.rack result.tapes)) t (L.written log.old) (L.written log.new) }
+
+    // Starting over, on a disc that may name copies which no reel has, so that disc and rack don't belong together: with every status, if a FORMAT took
+    // effect, the session is one from the state of a new disc with the same reels.
+    ensures anew { C.transcript console.old ≡ Some blank → (t : Transcript) → C.transcript console.new ≡ Some t → AreBlank (both (D.state disc) (T.rack tapes))
+        → (s : State) → StandFor (with_new_disc (both (D.state disc) (T.rack tapes))) s
+        → EndsAnew F.Fn tariff.now U.Fn weigh.now result.status s (both (D.state disc) (T.rack tapes)) (both (D.state result.disc) (T.rack result.tapes)) t (L.written log.old) (L.written log.new) }
 
     // Each fault has its cause.
     ensures causes { SessionCause result.status (C.faults console.old) (C.faults console.new) (L.faults log.old) (L.faults log.new) }
@@ -237,6 +245,9 @@ fn answer_lines<
     ensures said { (s : State) (old : Devices) (done : List Timed) (from : Option Transcript) (log0 : Option (List ℕ))
         → Stands F.Fn rules.now.tariff.now U.Fn rules.now.weigh.now s old done talk.bad talk.day talk.reader talk.number [] from (C.transcript console.old) log0 (L.written log.old)
         → AfterLines F.Fn rules.now.tariff.now U.Fn rules.now.weigh.now s old from log0 result.course result.bad result.day result.reader result.number (C.transcript console.new) (L.written log.new) }
+    ensures anew { (s : State) (old : Devices) (from : Option Transcript) (log0 : Option (List ℕ))
+        → StandsAnew F.Fn rules.now.tariff.now U.Fn rules.now.weigh.now s old talk.bad talk.day talk.reader talk.number from (C.transcript console.old) log0 (L.written log.old)
+        → AfterLinesAnew F.Fn rules.now.tariff.now U.Fn rules.now.weigh.now s old from log0 result.course result.bad result.day result.reader result.number (C.transcript console.new) (L.written log.new) }
 {
     let mut talk = talk;
     'lines: while talk.number < u64::MAX {
@@ -265,6 +276,9 @@ fn end_session<C: Console, D: Disc, T: Tapes, F: Fn(&Usage) -> Charge, U: Fn(&St
     ensures said { (s : State) (old : Devices) (from : Option Transcript) (log0 log : Option (List ℕ))
         → AfterLines F.Fn rules.now.tariff.now U.Fn rules.now.weigh.now s old from log0 talk.course talk.bad talk.day talk.reader talk.number (C.transcript console.old) log
         → RestsAtEnd F.Fn rules.now.tariff.now U.Fn rules.now.weigh.now s old from log0 result.course result.bad result.day (C.transcript console.new) log }
+    ensures anew { (s : State) (old : Devices) (from : Option Transcript) (log0 log : Option (List ℕ))
+        → AfterLinesAnew F.Fn rules.now.tariff.now U.Fn rules.now.weigh.now s old from log0 talk.course talk.bad talk.day talk.reader talk.number (C.transcript console.old) log
+        → RestsAnew F.Fn rules.now.tariff.now U.Fn rules.now.weigh.now s old from log0 result.course result.bad result.day (C.transcript console.new) log }
 {
     let talk = refuse_open(alloc, talk, console);
     if let Course::Breaks(_) = talk.course {

@@ -9,6 +9,8 @@ use Rattle.g_session.specs.Exchanging.{AfterExchange, LogsReply, bad_after, cour
 use Rattle.g_session.specs.Parts.{Broken, Stands}
 use Rattle.g_session.specs.declared.exchange.Course.{Course}
 use Rattle.g_session.specs.declared.exchange.Course.TheVariants as course
+use Rattle.g_laws_runs.specs.BeginningAnew.{with_new_disc}
+use Rattle.g_session.proofs.AnewLemmas.{ends_anew, fails_anew, reply_anew, unheard_anew, unlogged_anew}
 use Rattle.g_session.proofs.AnswerLemmas.{last_asked, stands_ask}
 use Rattle.g_session.proofs.KeepLemmas.{one_by, one_short, one_still}
 use Rattle.g_session.proofs.ReplyLemmas.{has_log, keeps_count, replied, replies_at, reply_holds, reply_within, unheard, unlogged_by}
@@ -99,3 +101,41 @@ pub returns-in-NoMemory-clause-said : goal.returns-in-NoMemory-clause-said
 returns-in-NoMemory-clause-said g c = λ s old done from log0 st.
     unheard g.F.Fn c.args.rules.now.tariff.now g.U.Fn c.args.rules.now.weigh.now s old from log0 done c.args.talk.bad c.args.talk.day c.args.talk.reader c.args.talk.number
     (g.C.Console.transcript c.args.console.now) (g.C.Console.transcript c.hear.new.console) (g.L.Sink.written c.args.log.now) st c.in-NoMemory.ensures.heard
+
+-- ON BLANK DEVICES
+pub returns-in-None-clause-anew : goal.returns-in-None-clause-anew
+returns-in-None-clause-anew g c = λ s old from log0.
+    let (line, continues, heard) = c.in-Reply.ensures.heard in
+    let replies = replies_at c.day.inside.count c.args.talk.day.count c.args.talk.number (ap (λ (x : Seen). x.count) c.day.view_is) c.args.talk.reader line c.in-Reply.reply c.hear.new.reader heard in
+    let did = c.answer.ensures.did refl in
+    reply_anew g.F.Fn c.args.rules.now.tariff.now g.U.Fn c.args.rules.now.weigh.now s old from log0 c.answer.result.course c.args.talk.bad c.answer.result.bad c.args.talk.day c.answer.result.day c.args.talk.reader c.hear.new.reader c.answer.result.reader c.args.talk.number line
+    (g.C.Console.transcript c.args.console.now) (g.C.Console.transcript c.hear.new.console) (g.C.Console.transcript c.answer.new.console) (g.L.Sink.written c.args.log.now) (g.L.Sink.written c.log_reply.new.log) _ _ c.in-Reply.reply did.failure _ _
+    (g.L.Sink.faults c.args.log.now) (g.L.Sink.faults c.log_reply.new.log) (g.met.C.Console.exposed c.hear.new.console) (g.met.C.Console.exposed c.answer.new.console) continues replies
+    (subst (λ (x : List ℕ). LogsReply c.in-Reply.reply x None (g.L.Sink.written c.args.log.now) (g.L.Sink.written c.log_reply.new.log) (g.L.Sink.faults c.args.log.now) (g.L.Sink.faults c.log_reply.new.log)) c.as_slice.ensures c.in-None.ensures)
+    did.did (returns-in-None-clause-keeps g c).keeps.same did.goes_on c.answer.ensures.bad c.answer.ensures.reader (λ done st. returns-in-None-clause-said g c s (with_new_disc old) done from log0 st)
+
+pub returns-in-Some-clause-anew : goal.returns-in-Some-clause-anew
+returns-in-Some-clause-anew g c = λ s old from log0.
+    let (line, continues, heard) = c.in-Reply.ensures.heard in
+    let replies = replies_at c.day.inside.count c.args.talk.day.count c.args.talk.number (ap (λ (x : Seen). x.count) c.day.view_is) c.args.talk.reader line c.in-Reply.reply c.hear.new.reader heard in
+    unlogged_anew g.F.Fn c.args.rules.now.tariff.now g.U.Fn c.args.rules.now.weigh.now s old from log0 c.args.talk.bad c.args.talk.day c.args.talk.reader c.hear.new.reader c.args.talk.number line (g.C.Console.transcript c.args.console.now) (g.C.Console.transcript c.hear.new.console)
+    (g.L.Sink.written c.args.log.now) (g.L.Sink.written c.log_reply.new.log) c.in-Reply.reply c.in-Some.failure (g.L.Sink.faults c.args.log.now) (g.L.Sink.faults c.log_reply.new.log) continues replies
+    (subst (λ (x : List ℕ). LogsReply c.in-Reply.reply x (Some c.in-Some.failure) (g.L.Sink.written c.args.log.now) (g.L.Sink.written c.log_reply.new.log) (g.L.Sink.faults c.args.log.now) (g.L.Sink.faults c.log_reply.new.log)) c.as_slice.ensures c.in-Some.ensures)
+    (λ done st. returns-in-Some-clause-said g c s (with_new_disc old) done from log0 st)
+
+pub returns-in-End-clause-anew : goal.returns-in-End-clause-anew
+returns-in-End-clause-anew g c = λ s old from log0.
+    let (continues, same) = c.in-End.ensures.heard in
+    ends_anew g.F.Fn c.args.rules.now.tariff.now g.U.Fn c.args.rules.now.weigh.now s old from log0 c.args.talk.bad c.args.talk.day c.args.talk.reader c.hear.new.reader c.args.talk.number (g.C.Console.transcript c.args.console.now) (g.C.Console.transcript c.hear.new.console) (g.L.Sink.written c.args.log.now)
+    continues same (λ done st. returns-in-End-clause-said g c s (with_new_disc old) done from log0 st)
+
+pub returns-in-Failed-clause-anew : goal.returns-in-Failed-clause-anew
+returns-in-Failed-clause-anew g c = λ s old from log0.
+    let (continues, same) = c.in-Failed.ensures.heard in
+    fails_anew g.F.Fn c.args.rules.now.tariff.now g.U.Fn c.args.rules.now.weigh.now s old from log0 c.args.talk.bad c.args.talk.day c.args.talk.reader c.hear.new.reader c.args.talk.number (g.C.Console.transcript c.args.console.now) (g.C.Console.transcript c.hear.new.console) (g.L.Sink.written c.args.log.now)
+    continues same (λ done st. returns-in-Failed-clause-said g c s (with_new_disc old) done from log0 st)
+
+pub returns-in-NoMemory-clause-anew : goal.returns-in-NoMemory-clause-anew
+returns-in-NoMemory-clause-anew g c = λ s old from log0.
+    unheard_anew g.F.Fn c.args.rules.now.tariff.now g.U.Fn c.args.rules.now.weigh.now s old from log0 c.args.talk.bad c.args.talk.day c.args.talk.reader c.hear.new.reader c.args.talk.number (g.C.Console.transcript c.args.console.now) (g.C.Console.transcript c.hear.new.console) (g.L.Sink.written c.args.log.now)
+    failures.Memory c.in-NoMemory.ensures.heard (λ done st. returns-in-NoMemory-clause-said g c s (with_new_disc old) done from log0 st)

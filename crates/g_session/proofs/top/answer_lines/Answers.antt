@@ -2,11 +2,14 @@ use Rattle.std.proofs.Common.{rules, ◌≡◌, ◌+◌, ◌≤◌, ◌++◌, �
 use Rattle.g_console.specs.Transcript.{Transcript}
 use Rattle.g_day.specs.Parts.{Seen}
 use Rattle.g_script.specs.declared.operator.Timed.{Timed}
+use Rattle.g_day.specs.declared.progress.Failure.TheVariants as failures
+use Rattle.g_session.specs.Anew.{AfterExchangeAnew, StandsAnew}
 use Rattle.g_session.specs.Ending.{KeepsMany}
 use Rattle.g_session.specs.Exchanging.{AfterExchange, CourseCause, failure_of}
 use Rattle.g_session.specs.Parts.{Stands}
 use Rattle.g_session.specs.declared.exchange.Course.{Course}
 use Rattle.g_session.specs.declared.exchange.Course.TheVariants as course
+use Rattle.g_session.proofs.AnewLemmas.{goes_on_anew, short_anew, stop_anew}
 use Rattle.g_session.proofs.BrokenLemmas.{broken_short}
 use Rattle.g_session.proofs.KeepLemmas.{many_more, many_none}
 use Rattle.g_session.proofs.LinesLemmas.{lines_stop}
@@ -25,6 +28,7 @@ lines-init g c = record {
   faults = refl;
   log_faults = refl;
   said = λ s old done from log0 st. (done, st);
+  anew = λ s old from log0 st. st;
 }
 
 pub exchange-talk-requires-clause-reels : goal.exchange-talk-requires-clause-reels
@@ -67,9 +71,24 @@ lines-preserved g c =
             subst (λ (n : ℕ). Stands g.F.Fn c.args.rules.now.tariff.now g.U.Fn c.args.rules.now.weigh.now s old all c.exchange-talk.result.bad c.exchange-talk.result.day c.exchange-talk.result.reader (n + 1) [] from
                 (g.C.Console.transcript c.exchange-talk.new.console) log0 (g.L.Sink.written c.exchange-talk.new.log)) (sym c.exchange-talk.ensures.number) st2,
           );
+      anew = λ s old from log0 st.
+          let after = subst (λ (k : Course). AfterExchangeAnew g.F.Fn c.args.rules.now.tariff.now g.U.Fn c.args.rules.now.weigh.now s old from log0 k c.exchange-talk.result.bad c.exchange-talk.result.day c.exchange-talk.result.reader c.lines.talk.number
+          (g.C.Console.transcript c.exchange-talk.new.console) (g.L.Sink.written c.exchange-talk.new.log)) goes (c.exchange-talk.ensures.anew s old from log0 (c.lines.invariant.anew s old from log0 st)) in
+          subst (λ (n : ℕ). StandsAnew g.F.Fn c.args.rules.now.tariff.now g.U.Fn c.args.rules.now.weigh.now s old c.exchange-talk.result.bad c.exchange-talk.result.day c.exchange-talk.result.reader (n + 1) from
+          (g.C.Console.transcript c.exchange-talk.new.console) log0 (g.L.Sink.written c.exchange-talk.new.log)) (sym c.exchange-talk.ensures.number) (goes_on_anew g.F.Fn c.args.rules.now.tariff.now g.U.Fn c.args.rules.now.weigh.now s old from log0 c.exchange-talk.result.bad c.exchange-talk.result.day c.exchange-talk.result.reader c.lines.talk.number
+          (g.C.Console.transcript c.exchange-talk.new.console) (g.L.Sink.written c.exchange-talk.new.log) after);
     }
 
 pub returns-clause-said : goal.returns-clause-said
 returns-clause-said g c = λ s old done from log0 st.
     let (more, st1) = c.lines.invariant.said s old done from log0 st in
     broken_short g.F.Fn c.args.rules.now.tariff.now g.U.Fn c.args.rules.now.weigh.now s old more c.lines.talk.bad c.lines.talk.day c.lines.talk.reader c.lines.talk.number [] from (g.C.Console.transcript c.lines.console) log0 (g.L.Sink.written c.lines.log) st1
+
+pub returns-clause-anew : goal.returns-clause-anew
+returns-clause-anew g c = λ s old from log0 st.
+    short_anew g.F.Fn c.args.rules.now.tariff.now g.U.Fn c.args.rules.now.weigh.now s old from log0 c.lines.talk.bad c.lines.talk.day c.lines.talk.reader c.lines.talk.number (g.C.Console.transcript c.lines.console) (g.L.Sink.written c.lines.log) (c.lines.invariant.anew s old from log0 st) failures.Memory
+
+pub returns-in_default-clause-anew : goal.returns-in_default-clause-anew
+returns-in_default-clause-anew g c = λ s old from log0 st.
+    stop_anew g.F.Fn c.args.rules.now.tariff.now g.U.Fn c.args.rules.now.weigh.now s old from log0 c.exchange-talk.result.course c.exchange-talk.result.bad c.exchange-talk.result.day c.exchange-talk.result.reader c.lines.talk.number c.exchange-talk.result.number
+    (g.C.Console.transcript c.exchange-talk.new.console) (g.L.Sink.written c.exchange-talk.new.log) c.in_default.not-Goes c.exchange-talk.ensures.number (c.exchange-talk.ensures.anew s old from log0 (c.lines.invariant.anew s old from log0 st))

@@ -7,6 +7,7 @@ use Rattle.g_run_model.specs.Devices.{Devices}
 use Rattle.g_script.specs.declared.operator.Timed.{Timed}
 use Rattle.g_store_model.specs.State.{State}
 use Rattle.g_typing.specs.Reader.{Holds}
+use Rattle.g_session.specs.Anew.{StandsAnew}
 use Rattle.g_session.specs.Ending.{KeepsMany}
 use Rattle.g_session.specs.Parts.{Stands}
 use Rattle.g_session.specs.declared.exchange.Course.TheVariants as course
@@ -26,6 +27,9 @@ invariant-lines g l = record {
   said : (s : State) (old : Devices) (done : List Timed) (from : Option Transcript) (log0 : Option (List ℕ))
       → Stands g.F.Fn l.rules.tariff.now g.U.Fn l.rules.weigh.now s old done l.fn.talk.bad l.fn.talk.day l.fn.talk.reader l.fn.talk.number [] from (g.C.Console.transcript l.fn.console) log0 (g.L.Sink.written l.fn.log)
       → (more : List Timed) × Stands g.F.Fn l.rules.tariff.now g.U.Fn l.rules.weigh.now s old more l.talk.bad l.talk.day l.talk.reader l.talk.number [] from (g.C.Console.transcript l.console) log0 (g.L.Sink.written l.log);
+  anew : (s : State) (old : Devices) (from : Option Transcript) (log0 : Option (List ℕ))
+      → StandsAnew g.F.Fn l.rules.tariff.now g.U.Fn l.rules.weigh.now s old l.fn.talk.bad l.fn.talk.day l.fn.talk.reader l.fn.talk.number from (g.C.Console.transcript l.fn.console) log0 (g.L.Sink.written l.fn.log)
+      → StandsAnew g.F.Fn l.rules.tariff.now g.U.Fn l.rules.weigh.now s old l.talk.bad l.talk.day l.talk.reader l.talk.number from (g.C.Console.transcript l.console) log0 (g.L.Sink.written l.log);
 }
 
 abbrev pub decreases-lines : goal.decreases-lines

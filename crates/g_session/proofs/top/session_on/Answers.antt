@@ -7,6 +7,7 @@ use Rattle.g_run_model.specs.Texts.{closing, waiting_files}
 use Rattle.g_session.specs.Ending.{DidSession, KeepsMany, first_seen}
 use Rattle.g_session.specs.Exchanging.{failure_of}
 use Rattle.g_session.specs.Standing.{serials_in}
+use Rattle.g_session.proofs.AnewLemmas.{anew_start}
 use Rattle.g_session.proofs.LinesLemmas.{stands_start}
 use Rattle.g_session.proofs.OverallLemmas.{did_session}
 use Rattle.g_session.proofs.top.session_on.Goals as goal
@@ -24,6 +25,10 @@ returns g c =
     (λ s stand. c.end_session-talk.ensures.said s old (g.C.Console.transcript c.args.console.now) (g.L.Sink.written c.args.log.now) (g.L.Sink.written c.answer_lines-talk.new.log)
     (c.answer_lines-talk.ensures.said s old [] (g.C.Console.transcript c.args.console.now) (g.L.Sink.written c.args.log.now)
     (stands_start g.F.Fn c.args.rules.now.tariff.now g.U.Fn c.args.rules.now.weigh.now s old (g.C.Console.transcript c.args.console.now) (g.L.Sink.written c.args.log.now) c.first_talk.result.bad c.first_talk.result.day c.first_talk.result.reader c.first_talk.result.number stand
+    c.first_talk.ensures.bad c.first_talk.ensures.day c.first_talk.ensures.reader c.first_talk.ensures.number)))
+    (λ s stand blank. c.end_session-talk.ensures.anew s old (g.C.Console.transcript c.args.console.now) (g.L.Sink.written c.args.log.now) (g.L.Sink.written c.answer_lines-talk.new.log)
+    (c.answer_lines-talk.ensures.anew s old (g.C.Console.transcript c.args.console.now) (g.L.Sink.written c.args.log.now)
+    (anew_start g.F.Fn c.args.rules.now.tariff.now g.U.Fn c.args.rules.now.weigh.now s old (g.C.Console.transcript c.args.console.now) (g.L.Sink.written c.args.log.now) c.first_talk.result.bad c.first_talk.result.day c.first_talk.result.reader c.first_talk.result.number stand blank
     c.first_talk.ensures.bad c.first_talk.ensures.day c.first_talk.ensures.reader c.first_talk.ensures.number)))
     (c.end_session-talk.ensures.keeps (first_seen old)
     (subst (λ (d : Seen). KeepsMany d c.answer_lines-talk.result.course c.answer_lines-talk.result.day) c.first_talk.ensures.day c.answer_lines-talk.ensures.keeps))
