@@ -1,11 +1,11 @@
 //! Histories: an event is interrupted, and what is left is started and restored.
 use crate::lines::{Outcome, Said, Words};
 use crate::operating::migrate;
-use crate::power::{Fault, Shared};
 use crate::rows::{Row, Wanted, Wrong};
 use crate::system::System;
 use crate::trees::{NAMES, tree_of};
 use g_plain::StoreFault;
+use g_power::{Fault, Shared};
 use std::alloc::Global;
 
 /// How an event ends.

@@ -2,16 +2,9 @@
 //! restored. The data file contains the events.
 #![tactic(auto)]
 
-mod cut_blocks;
-mod cut_disc;
-mod cut_reel;
-mod cut_tapes;
 mod histories;
 mod lines;
-mod losing;
-mod medium;
 mod operating;
-mod power;
 mod rows;
 mod system;
 mod trees;

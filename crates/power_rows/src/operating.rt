@@ -1,12 +1,11 @@
 //! What an operator does to a store.
-use crate::cut_disc::CutDisc;
-use crate::cut_tapes::CutTapes;
 use crate::lines::{Outcome, Said, Words};
 use crate::system::Devices;
 use g_disc::Disc;
 use g_dumper::DumpStep;
 use g_name::parse_path;
 use g_plain::StoreFault;
+use g_power::{CutDisc, CutTapes};
 use g_store::{Refused, Store, format, restore, start};
 use std::alloc::Global;
 

@@ -1,14 +1,12 @@
 //! Rows, separated by blank lines: devices, the events before, and the event that is interrupted.
-use crate::cut_disc::CutDisc;
-use crate::cut_tapes::CutTapes;
 use crate::lines::{Outcome, Said, Words, ask, call_of};
-use crate::power::{Fault, Shared};
 use crate::system::System;
 use crate::trees::tree_of;
 use g_base::NoMemory;
 use g_known::KnownReels;
 use g_plain::StoreFault;
 use g_plain_store::PlainStore;
+use g_power::{CutDisc, CutTapes, Fault, Shared};
 use std::alloc::{AllocError, AllocFailed, Global};
 use std::io;
 use std::num::ParseIntError;
@@ -91,11 +89,6 @@ impl<'a> Row<'a> {
         })
     }
 
-    /// The events before, without comments.
-    fn lines(&self) -> impl Iterator<Item = &'a str> {
-        self.before.lines().filter(|line| !line.starts_with('#'))
-    }
-
     /// Whether there is a filestore before the event.
     fn has_filestore(&self) -> bool {
         self.before.lines().any(|line| line == "format")
@@ -114,7 +107,7 @@ impl<'a> Row<'a> {
     pub(crate) fn system(&self, alloc: Global, power: &Shared) -> Result<System, Wrong> {
         power.choose(Fault::Off, 0);
         let mut system = self.devices(alloc, power)?;
-        for line in self.lines() {
+        for line in self.before.lines() {
             system.run(alloc, &Words::of(line))?;
         }
         Ok(system)
@@ -126,7 +119,7 @@ impl<'a> Row<'a> {
         let mut wanted = Wanted::new(alloc);
         power.choose(Fault::Off, 0);
         let mut system = self.devices(alloc, power)?;
-        for line in self.lines() {
+        for line in self.before.lines() {
             wanted.run(alloc, &mut system, &mut plain, line)?;
         }
         if self.has_filestore() {

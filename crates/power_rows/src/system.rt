@@ -1,12 +1,10 @@
 //! A system on devices that lose power, up or down.
-use crate::cut_disc::CutDisc;
-use crate::cut_tapes::CutTapes;
 use crate::lines::{Outcome, Said, Words, ask, call_of};
-use crate::losing::losses;
 use crate::operating::{bring_up, operate};
 use g_base::NoMemory;
 use g_known::KnownReels;
 use g_plain::StoreFault;
+use g_power::{CutDisc, CutTapes, losses};
 use g_store::{Refused, Store};
 use g_tape::Tapes;
 use std::alloc::{AllocFailed, Global};

@@ -1,7 +1,7 @@
 //! The histories of a row, and what is printed of them.
 use crate::histories::{End, History, run as run_history};
-use crate::power::{Power, Shared};
 use crate::rows::{Row, Wanted, Wrong};
+use g_power::{Power, Shared};
 use std::alloc::Global;
 
 /// How many seeds each call is tried with.

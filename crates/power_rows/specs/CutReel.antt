@@ -1,8 +1,0 @@
--- A reel that loses power.
-use Rattle.std.specs.Prelude.{None}
-use Rattle.g_tape.specs.Reel.{Reel}
-use Rattle.power_rows.specs.declared.cut_reel.CutReel.{CutReel}
-
--- the reel, whose blocks aren't observable
-abbrev pub reel_of : CutReel → Reel
-reel_of r = record r.state { blocks = None; times_read = None }
