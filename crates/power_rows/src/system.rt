@@ -85,11 +85,10 @@ impl System {
         }
     }
 
-    /// All reels of a system that is down are mounted.
+    /// All reels of a system that is down are mounted. A rack has at most 16, with serials from 1 on.
     pub(crate) fn mount(&mut self) {
         if let Some(devices) = &mut *self.down {
-            for i in 0..devices.tapes.reels() {
-                let serial = devices.tapes.serial(i);
+            for serial in 1..=16 {
                 let _mounted = devices.tapes.mount(serial);
             }
         }
