@@ -1,6 +1,7 @@
 -- The calls of a rack that loses power, by what was done to the reel of the serial.
+-- serves: mount, read, secure, unmount, write
 use Rattle.std.proofs.Common.{◌≡◌, ℕ, ◌<◌, List, [], Option, Some, None, is_some, Ok, Err, true, false, length, map, get_or, refl, ap, sym, ◌∙◌, arith}
-use Rattle.std.specs.Prelude.{Bool}
+use Rattle.std.specs.Prelude.{Bool, OnOk, Result, is_err}
 use Rattle.std.proofs.Math.ListN.{set}
 use Rattle.std.proofs.Math.Seq.{map-set_same}
 use Rattle.std.proofs.lemmas.List.{get_or-map, length-map, map-set}
@@ -95,3 +96,8 @@ module _ (s k i : ℕ) (items : List CutReel) (was now : CutReel) (place : IsPla
       record { more = omega (arith, more) },
       ap (rack faults writes fuse arms) (same_at value),
     )
+
+-- an answer that is no error
+pub ok_holds : {T E P : Type 0} (r : Result T E) → is_err r ≡ false → OnOk r P → P
+ok_holds (Ok x) ok p = p
+ok_holds (Err e) ok p = absurd (cc)

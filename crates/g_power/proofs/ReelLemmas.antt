@@ -1,4 +1,5 @@
 -- A reel that loses power is a reel.
+-- serves: mount, push_reel, read, secure, unmount, write
 use Rattle.std.proofs.lemmas.Option.{none-some}
 use Rattle.g_tape.specs.Reel.{IsReel}
 use Rattle.g_power.specs.CutReel.{reel_of}

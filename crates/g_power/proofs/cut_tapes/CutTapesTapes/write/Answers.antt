@@ -1,6 +1,5 @@
 use Rattle.std.proofs.Common.{◌≡◌, Some, Ok, Err, true, map, refl, subst, sym, ap, ◌∙◌}
 use Rattle.g_base.proofs.FuseLemmas.{fused_failed, fused_well}
-use Rattle.g_files.proofs.CallLemmas.{on_ok_at}
 use Rattle.g_files.proofs.FileRackLemmas.{free_at, left_any, reels_set, refused_at, serial_left, write_refused}
 use Rattle.g_tape.specs.Place.{IsPlaceOf}
 use Rattle.g_tape.specs.Rack.{refuses_write}
@@ -9,7 +8,7 @@ use Rattle.g_tape.specs.declared.fault.TapeFault.TheVariants.{WriteFailed}
 use Rattle.g_tape.proofs.DurableLemmas.{writes_durably}
 use Rattle.g_power.specs.CutReel.{reel_of}
 use Rattle.g_power.specs.CutTapes.{rack_of}
-use Rattle.g_power.proofs.RackLemmas.{write_done, write_failed}
+use Rattle.g_power.proofs.RackLemmas.{ok_holds, write_done, write_failed}
 use Rattle.g_power.proofs.ReelLemmas.{is_reel}
 use Rattle.g_power.proofs.cut_tapes.CutTapesTapes.write.Goals as goal
 
@@ -39,7 +38,7 @@ invariant_of-self-else-is_err c =
       well_formed = reels_set reel_of c.args.serial 0 i t.reels.items was now place c.index_mut.ensures.value t.well_formed (is_reel now)
           (serial_left k (reel_of was) (reel_of now) (left_any k c.args.from.now (reel_of was) (reel_of now) c.end_with.result c.end_with.ensures.done c.end_with.ensures.left));
       fused = fused_well t.write_faults t.arms t.fuse c.burn-fires.new.self c.burn-fires.ensures.left
-          (λ one. on_ok_at c.end_with.result (sym c.is_err.ensures.value ∙ c.if-is_err.false) (c.end_with.ensures.fired (c.burn-fires.ensures.fires.1 one))) t.fused;
+          (λ one. ok_holds c.end_with.result (sym c.is_err.ensures.value ∙ c.if-is_err.false) (c.end_with.ensures.fired (c.burn-fires.ensures.fires.1 one))) t.fused;
     }
 
 pub returns-then-is_err : goal.returns-then-is_err
@@ -71,8 +70,8 @@ returns c =
     c.refuses_write.result c.index.ensures (c.refuses_write.ensures ∙ ap (λ (r : Reel). refuses_write k (Some r)) c.state.ensures.value)
     c.in_default-refuses_write.is in
     let written = write_done c.args.serial k i t.reels.items was c.end_with.new.self place c.index_mut.ensures.value t.read_faults t.write_faults t.fuse t.arms
-    c.args.from.now c.burn-fires.new.self free (on_ok_at c.end_with.result (sym c.is_err.ensures.value ∙ c.if-is_err.false) c.end_with.ensures.done)
-    c.burn-fires.ensures.left (λ armed. on_ok_at c.end_with.result (sym c.is_err.ensures.value ∙ c.if-is_err.false) (c.end_with.ensures.fired (c.burn-fires.ensures.fires.1 armed))) in record {
+    c.args.from.now c.burn-fires.new.self free (ok_holds c.end_with.result (sym c.is_err.ensures.value ∙ c.if-is_err.false) c.end_with.ensures.done)
+    c.burn-fires.ensures.left (λ armed. ok_holds c.end_with.result (sym c.is_err.ensures.value ∙ c.if-is_err.false) (c.end_with.ensures.fired (c.burn-fires.ensures.fires.1 armed))) in record {
       written = written;
       durable = writes_durably c.args.serial k c.args.from.now (rack_of t) _ refl refl t.well_formed (Ok tt) written;
     }
