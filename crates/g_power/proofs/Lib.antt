@@ -1,0 +1,2 @@
+mod RackLemmas
+mod ReelLemmas

@@ -1,0 +1,2 @@
+pub mod CutReel
+pub mod CutTapes
