@@ -1,32 +1,31 @@
 -- How an opening is answered, from what was read of the reel and what became of the filestore.
 -- serves: begin_dump (ok, refused, stopped), OpeningLemmas, SafeLemmas, ShelfLemmas, crates above
-use Rattle.std.proofs.Common.{◌≡◌, ◌≢◌, ℕ, zero, suc, ◌+◌, ◌-◌, ◌^◌, ◌<◌, ◌≤◌, Bool, true, false, List, [], Option, Some, None, Ok, Err, refl, sym, ◌∙◌, ap, arith, subst}
+use Rattle.std.proofs.Common.{◌≡◌, ◌≢◌, ℕ, ◌+◌, ◌-◌, ◌^◌, ◌<◌, ◌≤◌, Bool, true, false, List, [], Option, Some, None, Ok, Err, refl, sym, ◌∙◌, ap, arith, subst}
 use Rattle.std.specs.Prelude.{IfOk, Result, if◌then◌else◌, is_some, option_map}
 use Rattle.std.specs.Option.{ForSome}
 use Rattle.std.proofs.lemmas.Option.{none-some, same_Some}
 use Rattle.g_entry.specs.HeadFields.{IsSerial}
-use Rattle.g_tape.specs.declared.fault.TapeFault.{TapeFault}
 use Rattle.g_tape.specs.declared.fault.TapeFault.TheVariants as tape
 use Rattle.g_tape.specs.Rack.{AreReels, Rack, reel, refuses_unmount}
-use Rattle.g_tape.specs.Reads.{OnlyReads, blocks_of, unread}
-use Rattle.g_tape.specs.Reel.{IsReel, Reel}
+use Rattle.g_tape.specs.Reads.{unread}
+use Rattle.g_tape.specs.Reel.{Reel}
 use Rattle.g_tape.proofs.ReadLemmas.{is_reel, reel_after_reads}
 use Rattle.g_tape.proofs.PlaceLemmas.{reel-found}
 use Rattle.g_plain.specs.declared.faults.StoreFault.{StoreFault}
-use Rattle.g_plain.specs.declared.faults.StoreFault.TheVariants.{CountersSpent, NoTape, NotMounted, Stopped, TapeFull, TapeReadFault}
+use Rattle.g_plain.specs.declared.faults.StoreFault.TheVariants.{NotMounted, TapeFull}
 use Rattle.g_disc_contents.specs.Contents.{Contents}
 use Rattle.g_disc_contents.specs.Facts.{IsTied, OnlineFacts}
 use Rattle.g_incr.specs.declared.fault.ShelfFault.{ShelfFault}
 use Rattle.g_incr.specs.declared.fault.ShelfFault.TheVariants as shelf
 use Rattle.g_incr.specs.Layout.{Dump}
-use Rattle.g_incr.specs.Plan.{IsPlan, Plan, first_content, needs}
+use Rattle.g_incr.specs.Plan.{IsPlan, first_content, needs}
 use Rattle.g_incr.specs.Reading.{ReadsReel}
-use Rattle.g_shelf.specs.CompletedDumps.{AreCompleted, end_of}
+use Rattle.g_shelf.specs.CompletedDumps.{end_of}
 use Rattle.g_known.specs.ReelNotes.{AreFound}
 use Rattle.g_shelf.proofs.OneLemmas.{completed_are_one}
-use Rattle.g_shelf.proofs.ReadLemmas.{end_low, there}
+use Rattle.g_shelf.proofs.ReadLemmas.{there}
 use Rattle.g_store_meaning.specs.StoreInvariant.{DumpFacts, IsOpen}
-use Rattle.g_dumper.specs.Beginning.{Begins, HasOpened, IsEnd, IsKeptBack, IsSpent, IsTooLong, RefusesOpening, StoppedAtIntent, StoppedOpening, intent_of, plan_of}
+use Rattle.g_dumper.specs.Beginning.{Begins, HasOpened, IsEnd, IsTooLong, RefusesOpening, StoppedAtIntent, StoppedOpening, plan_of}
 use Rattle.g_dumper.proofs.PlanLemmas.{plan_keeps, plan_pinned}
 
 -- the reel of a serial has it

@@ -1,8 +1,7 @@
 -- The commit that notes the intent of a dump, after its versions are pinned.
 -- serves: open (ok, stopped), OpeningLemmas, PlanLemmas, crates above
-use Rattle.std.proofs.Common.{◌≡◌, ℕ, ◌+◌, ◌^◌, ◌<◌, Bool, true, false, List, [], Option, Some, None, refl, sym, ◌∙◌, ap, arith, subst, inl, inr, if◌then◌else◌}
+use Rattle.std.proofs.Common.{◌≡◌, ℕ, ◌+◌, ◌^◌, ◌<◌, Bool, true, false, List, [], Option, Some, refl, sym, ◌∙◌, ap, arith, subst, inl, inr, if◌then◌else◌}
 use Rattle.std.specs.Prelude.{◌⊎◌, is_some}
-use Rattle.std.specs.Option.{ForSome}
 use Rattle.g_entry.specs.declared.head.Head.{Head}
 use Rattle.g_entry.specs.declared.head.Intent.{Intent}
 use Rattle.g_entry.specs.HeadFields.{IsIntent, IsSerial}
@@ -15,7 +14,7 @@ use Rattle.g_incr.specs.Plan.{IsPlan, Plan, first_content}
 use Rattle.g_online.specs.declared.change.Change.TheVariants.{SetIntent}
 use Rattle.g_online.specs.AllowedChanges.{IsAllowed, KeepsRules}
 use Rattle.g_online.specs.Change.{changed, unjammed}
-use Rattle.g_online.specs.Outcomes.{AfterStop, HasChanged, HasStopped}
+use Rattle.g_online.specs.Outcomes.{HasChanged, HasStopped}
 use Rattle.g_online.specs.Pins.{HasPinned}
 use Rattle.g_online.proofs.KeepLemmas.{rules_of}
 use Rattle.g_dumper.specs.Beginning.{HasOpened, StoppedAtIntent, intent_of, plan_of}

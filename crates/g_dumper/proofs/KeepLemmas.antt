@@ -1,28 +1,25 @@
 -- A store preserves its invariant in a step of its open dump.
 -- serves: step (dumped, keeps, left), OpeningLemmas, crates above
-use Rattle.std.proofs.Common.{◌≡◌, ◌≢◌, ℕ, zero, suc, ◌+◌, ◌<◌, ◌≤◌, Bool, true, false, List, [], ◌∷◌, ◌++◌, length, map, Option, Some, None, Ok, Err, refl, sym, ◌∙◌, ap, arith, subst, inl, inr, true≢false}
-use Rattle.std.specs.Prelude.{◌⊎◌, All, Contains, IfSome, Result, is_some, slice_get}
-use Rattle.std.specs.Option.{ForSome}
+use Rattle.std.proofs.Common.{◌≡◌, ◌≢◌, ℕ, ◌+◌, ◌<◌, ◌≤◌, Bool, true, false, List, [], ◌∷◌, ◌++◌, map, Option, Some, None, Ok, Err, refl, sym, ◌∙◌, ap, arith, subst, inl, inr, true≢false}
+use Rattle.std.specs.Prelude.{◌⊎◌, All, Contains, IfSome, Result, is_some}
 use Rattle.std.proofs.lemmas.Bool.{cases_order}
 use Rattle.std.proofs.lemmas.List.Elements.{All-head, All-tail}
 use Rattle.std.proofs.lemmas.Option.{none-some, same_Some}
 use Rattle.g_base.specs.Fuse.{burnt}
 use Rattle.g_tape.specs.Rack.{AreReels, Rack, changed, with_reel}
 use Rattle.g_tape.specs.Reads.{unread}
-use Rattle.g_tape.specs.Reel.{Reel, Remains, Torn, ending, left_by}
+use Rattle.g_tape.specs.Reel.{Reel, Remains, Torn, left_by}
 use Rattle.g_plain.specs.declared.faults.StoreFault.{StoreFault}
 use Rattle.g_plain.specs.declared.faults.StoreFault.TheVariants.{DiscReadFault, Stopped}
 use Rattle.g_store_model.specs.DumpSteps.{Stepped, Going, Completed}
-use Rattle.g_disc_contents.specs.Contents.{Contents, File, Holds, contents_of}
-use Rattle.g_disc_contents.specs.Facts.{IsPinOf, IsTied, OnlineFacts, Pin, noted}
+use Rattle.g_disc_contents.specs.Contents.{Contents, File, Holds}
+use Rattle.g_disc_contents.specs.Facts.{IsPinOf, IsTied, OnlineFacts, Pin}
 use Rattle.g_disc_contents.proofs.HoldLemmas.{holds_one}
-use Rattle.g_incr.specs.Layout.{Dump, dump_blocks}
+use Rattle.g_incr.specs.Layout.{Dump}
 use Rattle.g_incr.specs.Plan.{dump_of, needs}
-use Rattle.g_online.specs.declared.fault.OnlineFault.{OnlineFault}
 use Rattle.g_online.specs.declared.fault.OnlineFault.TheVariants as online
 use Rattle.g_online.specs.Change.{closed as closed_by}
 use Rattle.g_online.specs.Outcomes.{HasClosed, StoppedClosing}
-use Rattle.g_online.specs.Pins.{IsClosing}
 use Rattle.g_shelf.specs.CompletedDumps.{AreShelved, all_dumps}
 use Rattle.g_shelf.specs.Surviving.{CanSurvive, DumpsSurvive}
 use Rattle.g_store_meaning.specs.Answers.{Belongs, IsStore, Told}
@@ -37,10 +34,10 @@ use Rattle.g_laws_store.proofs.DumpingLemmas.{events_stay_up}
 use Rattle.g_laws_store.proofs.PinLemmas.{both_told}
 use Rattle.g_laws_store.proofs.TiedLemmas.{devices_belong}
 use Rattle.g_dumper.specs.Invariant.{CompletesOpening, KeepsStore, LeavesDumps, StoppedStepLeaves, StopsAtClosing, StopsAtMark, StopsBeforeMark, SurviveAs, behind_step, spent_with, up_with}
-use Rattle.g_dumper.specs.Steps.{Abandoned, FailedWrite, IsNextBlock, Stepping, WroteBlock}
+use Rattle.g_dumper.specs.Steps.{Abandoned, FailedWrite, Stepping, WroteBlock}
 use Rattle.g_dumper.proofs.ReelLemmas.{same_serials, still_told}
 use Rattle.g_dumper.proofs.SafeLemmas.{begun_going, can_survive, dumps_failed, dumps_going, dumps_marked, has_block, left_at_mark, left_shelved}
-use Rattle.g_dumper.proofs.ShelfLemmas.{cut_shelf, left_serial, left_told, marked_shelf, quiet_shelf, ready}
+use Rattle.g_dumper.proofs.ShelfLemmas.{cut_shelf, left_serial, left_told, marked_shelf, quiet_shelf}
 
 -- the invariant of a store that is up depends only on contents, pins and the marked users
 pub without_dump : (text : ℕ → List ℕ) (shelf : ℕ → List Dump) (rack : Rack) (p q : OnlineFacts) → q.contents ≡ p.contents → q.changed ≡ p.changed

@@ -3,15 +3,14 @@
 use Rattle.std.proofs.Common.{◌≡◌, ℕ, zero, suc, ◌+◌, ◌^◌, ◌<◌, ◌≤◌, List, [], ◌∷◌, ◌++◌, length, take, drop, slice_get, Option, Some, None, Ok, Err, refl, sym, ◌∙◌, ap, arith, subst, inl, inr}
 use Rattle.std.specs.Prelude.{Result, option_map}
 use Rattle.std.proofs.lemmas.Bool.{cases_lt}
-use Rattle.std.specs.Option.{ForSome}
 use Rattle.std.proofs.Math.Seq.{take-suc}
 use Rattle.std.proofs.lemmas.List.{drop_at, drop-append-le, length-take-le, take_all}
 use Rattle.std.proofs.lemmas.Option.{get_or_from_slice_get, none-some, same_Some, slice_get_within}
 use Rattle.g_tape.specs.declared.fault.TapeFault.TheVariants.{WriteFailed}
 use Rattle.g_tape.specs.Durable.{WritesDurably}
-use Rattle.g_tape.specs.Reel.{Reel, ending, IsReel, left_by}
+use Rattle.g_tape.specs.Reel.{ending, IsReel, left_by}
 use Rattle.g_base.specs.Fuse.{burnt}
-use Rattle.g_tape.specs.Rack.{AreReels, Rack, Writing, changed, reel, refuses_write, with_reel}
+use Rattle.g_tape.specs.Rack.{AreReels, Rack, Writing, changed, reel, refuses_write}
 use Rattle.g_tape.proofs.ReadLemmas.{is_reel, reel-with_reel}
 use Rattle.g_disc_contents.specs.Facts.{OnlineFacts, Pin}
 use Rattle.g_incr.specs.Layout.{dump_blocks}

@@ -1,23 +1,20 @@
 -- The plan of a dump that is opened now satisfies the rules of a plan, and its versions that wait are those that are
 -- pinned.
 -- serves: BeginLemmas, crates above
-use Rattle.std.proofs.Common.{◌≡◌, ◌≢◌, ℕ, ◌+◌, ◌-◌, ◌^◌, ◌<◌, ◌≤◌, Bool, true, false, List, [], ◌∷◌, get_or, length, map, Option, Some, None, refl, sym, ◌∙◌, ap, arith, subst, inl, inr}
-use Rattle.std.specs.Prelude.{◌⊎◌, ◌&&◌, All, AllPairs, Contains, IfSome, filter, is_none, is_some, nat_lt}
-use Rattle.std.specs.Option.{ForSome}
+use Rattle.std.proofs.Common.{◌≡◌, ◌≢◌, ℕ, ◌+◌, ◌-◌, ◌^◌, ◌<◌, ◌≤◌, Bool, true, List, [], ◌∷◌, get_or, length, map, Option, Some, None, refl, sym, ◌∙◌, ap, arith, subst, inl, inr}
+use Rattle.std.specs.Prelude.{◌⊎◌, ◌&&◌, All, Contains, IfSome, is_none, nat_lt}
 use Rattle.std.proofs.lemmas.Bool.{lt-ltb, ltb-true}
-use Rattle.std.proofs.lemmas.List.{length-map}
-use Rattle.std.proofs.lemmas.List.Elements.{All-contains, All-filter, All-head, All-map, All-tail, Contains-get_or, filter_passes}
+use Rattle.std.proofs.lemmas.List.Elements.{All-contains, All-head, All-tail, Contains-get_or, filter_passes}
 use Rattle.std.proofs.lemmas.List.Kept.{AllPairs-filter}
 use Rattle.g_base.specs.Block.{blocks_for}
 use Rattle.g_entry.specs.declared.file_rec.FileRec.{FileRec}
 use Rattle.g_entry.specs.declared.file_rec.TapeCopy.{TapeCopy}
 use Rattle.g_entry.specs.FileFields.{IsFile}
 use Rattle.g_entry.specs.HeadFields.{IsSerial}
-use Rattle.g_entry.specs.Rules.{AreFiles, SameName, StampsBelow}
+use Rattle.g_entry.specs.Rules.{SameName}
 use Rattle.g_tree.proofs.ListLemmas.{both_true}
-use Rattle.g_disc_contents.specs.Contents.{Contents, File, recs_in}
+use Rattle.g_disc_contents.specs.Contents.{File, recs_in}
 use Rattle.g_disc_contents.specs.Facts.{IsPinOf, IsTied, OnlineFacts, Pin, WaitsByUser}
-use Rattle.g_incr.specs.Layout.{holds}
 use Rattle.g_incr.specs.Plan.{ComesBefore, IsPlan, waiting, waits}
 use Rattle.g_online.specs.Pins.{ArePinnedFrom, AreWaiting, HasPinned, IsWaiting, ComesBefore as FileBefore}
 use Rattle.g_online.proofs.CloseNoteLemmas.{pairs_map}

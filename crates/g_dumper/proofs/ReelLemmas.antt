@@ -1,18 +1,16 @@
 -- A write of one reel, and the completed dumps of the rack after it.
 -- serves: KeepLemmas, ShelfLemmas
-use Rattle.std.proofs.Common.{◌≡◌, ℕ, zero, suc, ◌+◌, ◌<◌, ◌≤◌, ◌==◌, Bool, true, false, List, [], ◌∷◌, ◌++◌, length, map, take, Option, Some, None, refl, sym, ◌∙◌, ap, arith, subst, inl, inr, true≢false}
-use Rattle.std.specs.Prelude.{◌⊎◌, All, AllPairs, Contains, is_some, option_map}
+use Rattle.std.proofs.Common.{◌≡◌, ℕ, zero, suc, ◌+◌, ◌<◌, ◌≤◌, ◌==◌, true, false, List, [], ◌∷◌, ◌++◌, map, Some, refl, sym, ◌∙◌, ap, arith, subst, inl, inr, true≢false}
+use Rattle.std.specs.Prelude.{◌⊎◌, All, AllPairs, Contains, is_some}
 use Rattle.std.specs.Option.{ForSome}
 use Rattle.std.proofs.lemmas.Bool.{cases_Bool, cond-false, cond-true, eq-eqb, eqb-true}
 use Rattle.std.proofs.lemmas.List.Elements.{All-cons, All-contains, All-head, All-tail, Contains-append_right}
 use Rattle.std.proofs.lemmas.List.Kept.{AllPairs-from_increasing}
-use Rattle.std.proofs.lemmas.Option.{none-some, same_Some}
-use Rattle.g_tape.specs.Rack.{AreReels, Rack, reel, with_reel}
+use Rattle.g_tape.specs.Rack.{AreReels, reel, with_reel}
 use Rattle.g_tape.specs.Reads.{unread}
 use Rattle.g_tape.specs.Reel.{Reel}
 use Rattle.g_incr.specs.Layout.{Dump}
 use Rattle.g_shelf.specs.CompletedDumps.{AreCompleted, AreShelved}
-use Rattle.g_store_meaning.specs.Reading.{ReelsTold}
 use Rattle.g_laws_store.proofs.RecordLemmas.{pairs_head, pairs_tail}
 
 abbrev serials : List Reel → List ℕ

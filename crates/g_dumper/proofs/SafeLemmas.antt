@@ -1,24 +1,23 @@
 -- The completed dumps survive a step of the open dump.
 -- serves: KeepLemmas
-use Rattle.std.proofs.Common.{◌≡◌, ◌≢◌, ℕ, zero, suc, ◌+◌, ◌<◌, ◌≤◌, ◌==◌, Bool, true, false, List, [], ◌∷◌, ◌++◌, length, map, take, Option, Some, None, Ok, Err, refl, sym, ◌∙◌, ap, arith, subst, inl, inr, true≢false}
-use Rattle.std.specs.Prelude.{◌⊎◌, Contains, option_map, slice_get}
-use Rattle.std.specs.Option.{ForSome}
+use Rattle.std.proofs.Common.{◌≡◌, ◌≢◌, ℕ, ◌+◌, ◌<◌, ◌≤◌, ◌==◌, true, List, [], ◌∷◌, ◌++◌, length, take, Option, Some, None, refl, sym, ◌∙◌, ap, arith, subst, inl, inr, true≢false}
+use Rattle.std.specs.Prelude.{◌⊎◌, option_map, slice_get}
 use Rattle.std.proofs.lemmas.Bool.{cases_eq}
 use Rattle.std.proofs.lemmas.Option.{same_Some}
 use Rattle.g_tape.specs.Durable.{AfterPowerLoss}
-use Rattle.g_tape.specs.Rack.{AreReels, Rack, changed, reel, with_reel}
+use Rattle.g_tape.specs.Rack.{AreReels, Rack, reel, with_reel}
 use Rattle.g_tape.specs.Reads.{blocks_in, blocks_of, is_syncable, unread}
 use Rattle.g_tape.specs.Reel.{Reel, Remains, Shortened, Torn, Unchanged, ending, left_by}
 use Rattle.g_tape.specs.Risk.{risk}
 use Rattle.g_tape.proofs.ReadLemmas.{is_reel, reel-with_reel, reel-with_reel_other}
 use Rattle.g_disc_contents.specs.Facts.{OnlineFacts}
-use Rattle.g_incr.specs.Layout.{Dump, count_of, dump_blocks, header_block, mark_block}
+use Rattle.g_incr.specs.Layout.{Dump, dump_blocks, header_block, mark_block}
 use Rattle.g_incr.specs.Plan.{dump_of, needs}
 use Rattle.g_incr.proofs.PieceLemmas.{at_mark}
 use Rattle.g_shelf.specs.CompletedDumps.{AreCompleted, AreShelved}
 use Rattle.g_shelf.specs.QuietWrites.{left_in}
 use Rattle.g_shelf.specs.Surviving.{CanSurvive, DumpsSurvive, IsBegunDurably, LeavesWithOrWithout}
-use Rattle.g_shelf.proofs.SurvivalLemmas.{begun_block, failed_mark, other_can, other_survives, survive_block, survive_failed, survive_mark}
+use Rattle.g_shelf.proofs.SurvivalLemmas.{begun_block, failed_mark, other_survives, survive_block, survive_failed, survive_mark}
 use Rattle.g_store_meaning.specs.Meaning.{told_reels}
 use Rattle.g_store_meaning.specs.Reading.{ReelsTold}
 use Rattle.g_store_meaning.specs.StoreInvariant.{DumpFacts, IsOpen, IsUp, content_in, with_dump}

@@ -1,14 +1,14 @@
 -- The completed dumps of the rack after a write of the next block of an open dump.
 -- serves: KeepLemmas, OpeningLemmas, SafeLemmas, crates above
-use Rattle.std.proofs.Common.{◌≡◌, ◌≢◌, ℕ, zero, suc, ◌+◌, ◌<◌, ◌≤◌, ◌==◌, Bool, true, List, [], ◌∷◌, ◌++◌, get_or, length, map, take, Option, Some, None, refl, sym, ◌∙◌, ap, arith, subst, inl, inr}
+use Rattle.std.proofs.Common.{◌≡◌, ◌≢◌, ℕ, ◌+◌, ◌<◌, ◌≤◌, ◌==◌, true, List, [], ◌∷◌, ◌++◌, get_or, length, map, take, Option, Some, None, refl, sym, ◌∙◌, ap, arith, subst, inl, inr}
 use Rattle.std.specs.Prelude.{◌⊎◌, All, Contains, is_some, option_map, slice_get}
 use Rattle.std.specs.Option.{ForSome}
-use Rattle.std.proofs.lemmas.Bool.{cond-false, cond-true, eq-eqb, eqb-true, ne_eqb}
+use Rattle.std.proofs.lemmas.Bool.{cond-false, cond-true, eq-eqb, ne_eqb}
 use Rattle.std.proofs.lemmas.List.Elements.{All-contains, All-head, All-tail, Contains-get_or}
 use Rattle.std.proofs.lemmas.Option.{same_Some}
 use Rattle.g_tape.specs.Rack.{AreReels, Rack, reel, with_reel}
 use Rattle.g_tape.specs.Reads.{unread}
-use Rattle.g_tape.specs.Reel.{IsReel, Reel, Remains, Shortened, Torn, Unchanged, ending, left_by}
+use Rattle.g_tape.specs.Reel.{Reel, Remains, Shortened, Torn, Unchanged, left_by}
 use Rattle.g_tape.proofs.ReadLemmas.{is_reel}
 use Rattle.g_tape.proofs.PlaceLemmas.{reel-found}
 use Rattle.g_disc_contents.specs.Facts.{OnlineFacts}
@@ -16,7 +16,7 @@ use Rattle.g_incr.specs.Layout.{Dump, count_of, dump_blocks, mark_block}
 use Rattle.g_incr.specs.Plan.{dump_of, first_content, needs, waiting}
 use Rattle.g_incr.proofs.PieceLemmas.{at_mark}
 use Rattle.g_incr.proofs.PlanLemmas.{length-made}
-use Rattle.g_shelf.specs.CompletedDumps.{AreCompleted, AreShelved, end_of, number_behind}
+use Rattle.g_shelf.specs.CompletedDumps.{AreCompleted, AreShelved, number_behind}
 use Rattle.g_shelf.specs.QuietWrites.{IsBegun, left_in}
 use Rattle.g_shelf.proofs.MarkLemmas.{completed_by_mark, mark_completes}
 use Rattle.g_shelf.proofs.QuietLemmas.{quiet_blocks}
@@ -26,7 +26,6 @@ use Rattle.g_store_meaning.specs.StoreInvariant.{DumpFacts, IsOpen, IsReady, IsU
 use Rattle.g_laws_store.proofs.UpOneLemmas.{on_all, placed_at_end}
 use Rattle.g_laws_store.proofs.WaitingLemmas.{mapped_there}
 use Rattle.g_dumper.specs.Invariant.{up_with}
-use Rattle.g_dumper.specs.Steps.{WroteBlock}
 use Rattle.g_dumper.proofs.BeginLemmas.{reel_named}
 use Rattle.g_dumper.proofs.NextLemmas.{content_long}
 use Rattle.g_dumper.proofs.ReelLemmas.{shelf_after}

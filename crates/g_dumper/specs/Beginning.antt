@@ -1,5 +1,5 @@
 -- The opening of a dump: its plan, when it is refused, and what it leaves.
-use Rattle.std.specs.Prelude.{◌≡◌, ◌≢◌, ◌⊎◌, ◌↔◌, ℕ, ◌+◌, ◌-◌, ◌^◌, ◌<◌, ◌≤◌, true, false, List, [], Option, Some, None, is_some, Result, Err, IfErr}
+use Rattle.std.specs.Prelude.{◌≡◌, ◌≢◌, ◌⊎◌, ◌↔◌, ℕ, ◌+◌, ◌-◌, ◌^◌, ◌<◌, ◌≤◌, true, false, List, [], Some, is_some, Result, Err, IfErr}
 use Rattle.std.specs.Option.{ForSome}
 use Rattle.std.specs.List.{flat_map}
 use Rattle.g_base.specs.Counts.{Rose, RoseBy}
@@ -9,7 +9,6 @@ use Rattle.g_tape.specs.declared.fault.TapeFault.{TapeFault}
 use Rattle.g_tape.specs.declared.fault.TapeFault.TheVariants as tape
 use Rattle.g_tape.specs.Rack.{Rack, reel, refuses_unmount}
 use Rattle.g_tape.specs.Reads.{blocks_of}
-use Rattle.g_tape.specs.Reel.{Reel}
 use Rattle.g_plain.specs.declared.faults.StoreFault.{StoreFault}
 use Rattle.g_plain.specs.declared.faults.StoreFault.TheVariants.{CountersSpent, NoMemory, NoTape, NotMounted, Stopped, TapeFull, TapeReadFault}
 use Rattle.g_disc_contents.specs.Commits.{Commits}

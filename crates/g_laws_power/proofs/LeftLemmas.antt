@@ -1,5 +1,5 @@
 -- Reels after a power loss have the dumps that survive it, and belong to the same states.
--- serves: DeviceLemmas, EventLemmas, ProcessLossLemmas, StepLemmas, StepStateLemmas, SurvivalLemmas
+-- serves: DeviceLemmas, EventLemmas, ProcessLossLemmas, ProcessStateLemmas, StepLemmas, StepStateLemmas, SurvivalLemmas
 use Rattle.std.proofs.Common.{◌≡◌, ℕ, zero, suc, Bool, true, false, List, [], ◌∷◌, map, Option, Some, None, is_some, refl, sym, ◌∙◌, ap, arith, subst, inl, inr, if◌then◌else◌}
 use Rattle.std.specs.Prelude.{◌⊎◌, ◌==◌, All, Contains, IfSome}
 use Rattle.std.specs.List.{AllZip}
@@ -85,6 +85,18 @@ seen_left old [] [] zip = tt
 seen_left old [] (y ∷ ys) zip = absurd zip
 seen_left old (x ∷ xs) [] zip = absurd zip
 seen_left old (x ∷ xs) (y ∷ ys) (one, zip) = ((one.serial, one.capacity, one.mounted), seen_left old xs ys zip)
+
+abbrev pub Same : Reel → Reel → Type 0
+Same o n = (n.serial ≡ o.serial) × (n.capacity ≡ o.capacity) × (n.mounted ≡ o.mounted)
+
+-- the same reels, by way of another rack
+pub same_seen : (xs ys zs : List Reel) → AllZip Same xs ys → AllZip IsSeen ys zs → AllZip IsSeen xs zs
+same_seen [] [] [] one other = tt
+same_seen [] [] (z ∷ zs) one other = absurd other
+same_seen [] (y ∷ ys) zs one other = absurd one
+same_seen (x ∷ xs) [] zs one other = absurd one
+same_seen (x ∷ xs) (y ∷ ys) [] one other = absurd other
+same_seen (x ∷ xs) (y ∷ ys) (z ∷ zs) (a, one) (b, other) = ((b.0 ∙ a.0, b.1 ∙ a.1, b.2), same_seen xs ys zs one other)
 
 pub rows_like : (shelf : ℕ → List Dump) (xs ys : List Reel) → AllZip IsSeen xs ys → AllZip IsRowLike (map (row_of shelf) (map unread xs)) (map (row_of shelf) (map unread ys))
 rows_like shelf [] [] zip = tt

@@ -1,11 +1,10 @@
 -- What a power loss leaves after a stopped PROCESS can be safe again.
--- serves: DeviceLemmas, EventLemmas
+-- serves: DeviceLemmas, EventLemmas, ProcessStateLemmas
 use Rattle.std.proofs.Common.{◌≡◌, ◌≢◌, ℕ, zero, suc, ◌+◌, ◌<◌, ◌==◌, Bool, true, false, List, [], ◌∷◌, ◌++◌, map, Option, Some, None, Err, is_some, refl, sym, ◌∙◌, ap, arith, subst, inl, inr, if◌then◌else◌}
 use Rattle.std.specs.Prelude.{◌⊎◌, ◌||◌, All, Contains, Result}
 use Rattle.std.specs.List.{AllZip}
 use Rattle.std.specs.List.Sorted.{IsStrictlyIncreasing}
 use Rattle.std.specs.Option.{ForSome}
-use Rattle.std.proofs.lemmas.Bool.{cases_Bool, eqb-true}
 use Rattle.std.proofs.lemmas.Bool.Decides.{eqb_tells}
 use Rattle.std.proofs.lemmas.List.Elements.{All-contains}
 use Rattle.std.proofs.lemmas.Option.{same_Some}
@@ -36,7 +35,6 @@ use Rattle.g_dumper.proofs.SafeLemmas.{shelved_at}
 use Rattle.g_process.specs.Exits.{IsBesideDump, IsClearedBy, IsContentOf, MayFill, Stops, StopsBefore, StopsCopies, StopsIntent, StopsMark, StopsRelease, StopsUnmarked, cleared, new_dump}
 use Rattle.g_process.specs.NamedCopies.{intended_by, moved_by}
 use Rattle.g_process.specs.PowerLosses.{LeavesOnDisc, StaysDurable}
-use Rattle.g_process.specs.ProcessPlan.{process_plan}
 use Rattle.g_process.specs.Processing.{Processes}
 use Rattle.g_process.proofs.BecomeLemmas.{apart_of}
 use Rattle.g_process.proofs.BelongLemmas.{disc_intended, disc_marked, ready, up_released, without_all}
@@ -199,6 +197,16 @@ cleared_is serial m shelf n =
     sym (cleared_same (below_but serial m) serial m shelf n (has_below serial m n)
     (λ less apart isnt. let is = below_has serial m n less apart in absurd (let no : ⊥ = cc in no)))
 
+-- WHAT IS LEFT after a stopped PROCESS: the dumps as they were with the old contents or the intent, the new dump too, or the new copies with
+-- some reels released
+pub data LeftBy (text : ℕ → List ℕ) (shelf : ℕ → List Dump) (serial : ℕ) (old : StoreFacts) (blocks : List (List ℕ)) (after : Rack) : Type 0 where
+  LeftOld : AreShelved shelf (told_reels after) → Holds blocks old.online.contents → LeftBy text shelf serial old blocks after
+  LeftIntended : AreShelved shelf (told_reels after) → Holds blocks (intended_by serial old.online) → LeftBy text shelf serial old blocks after
+  LeftMarked : (content : List (List ℕ)) → IsContentOf text serial old.online content → AreShelved (with_dump (new_dump serial old.online content) shelf) (told_reels after)
+      → Holds blocks (intended_by serial old.online) → LeftBy text shelf serial old blocks after
+  LeftMoved : (content : List (List ℕ)) → IsContentOf text serial old.online content → (m : ℕ) → AreShelved (cleared serial m (with_dump (new_dump serial old.online content) shelf)) (told_reels after)
+      → Holds blocks (moved_by serial old.online) → LeftBy text shelf serial old blocks after
+
 -- A STOPPED PROCESS
 module _ (serial : ℕ) (old new : StoreFacts) (safe : IsSafe old) (it : (let r : Result ℕ StoreFault = Err Stopped in Processes serial old r new)) (text : ℕ → List ℕ) (shelf : ℕ → List Dump)
     (shelved : AreShelved shelf (told_reels old.rack)) (up : IsUp text shelf old) where
@@ -267,58 +275,31 @@ module _ (serial : ℕ) (old new : StoreFacts) (safe : IsSafe old) (it : (let r 
       by (x ∷ xs) (y ∷ ys) (one, zip) = ap (λ (n : ℕ). n ∷ names ys) one.0 ∙ ap (λ (ns : List ℕ). x.serial ∷ ns) (by xs ys zip)
 
   module _ (blocks : List (List ℕ)) (after : Rack) (left : IsLeft new.online.disc new.rack blocks after) where
+    -- what the disc holds then
+    on_disc : (P : List (List ℕ) → Type 0) → LeavesOnDisc P old new → P blocks
+    on_disc P disc = let (before, at) = some_of o.disc.held safe.told.disc in (disc.survives safe.disc).1 before at blocks left.on_disc
+
+    on_intended : new.online.live ≡ true → new.online.contents ≡ intended_by serial o → StaysDurable old new → Holds blocks (intended_by serial o)
+    on_intended live are durable = on_disc (λ bs. Holds bs (intended_by serial o)) (stays_on_disc (intended_by serial o) live are durable)
+
+    by_shelf : (next : ℕ → List Dump) → ((n : ℕ) → PowerLossLeavesDumps n new.rack (next n)) → AreShelved next (told_reels after)
+    by_shelf next leaves = shelved_as new.rack after left.reels told_new.each next leaves
+
+    -- what is left of both
+    abbrev Left : Type 0
+    Left = LeftBy text shelf serial old blocks after
+
     module _ (may : MayFill serial old) where
       rising : IsStrictlyIncreasing (names new.rack.reels)
       rising = subst IsStrictlyIncreasing (sym names_new) may.rising
 
-      same_names : names (told_reels after) ≡ names (told_reels old.rack)
-      same_names =
-          names_left new.rack after left.reels told_new.each ∙ unread_names new.rack.reels ∙ names_new ∙ sym (unread_names old.rack.reels)
+      intent_left : AreShelved shelf (told_reels after) → Holds blocks o.contents ⊎ Holds blocks (intended_by serial o) → Left
+      intent_left on_reels (inl holds) = LeftOld on_reels holds
+      intent_left on_reels (inr holds) = LeftIntended on_reels holds
 
-      -- a shelf and contents that belong to the reels as they were
-      belong_of : (c : Contents) (next : ℕ → List Dump) → Holds blocks c → AreShelved next (told_reels after) → RackBelongs text (all_dumps next (told_reels old.rack))
-          → DiscBelongs text next (told_reels old.rack) c → BelongWith (Some blocks) (told_reels after)
-      belong_of c next holds on_reels rack disc = record {
-        text = text;
-        shelf = next;
-        shelved = on_reels;
-        rack = moved_rack (told_reels old.rack) (told_reels after) same_names text next rack;
-        disc = λ bs e at held.
-            subst (DiscBelongs text next (told_reels after)) (holds_one blocks c e holds (subst (λ (x : List (List ℕ)). Holds x e) (sym (same_Some blocks bs at)) held))
-            (moved_disc (told_reels old.rack) (told_reels after) same_names text next c disc);
-      }
-
-      by_shelf : ((n : ℕ) → PowerLossLeavesDumps n new.rack (shelf n)) → AreShelved shelf (told_reels after)
-      by_shelf leaves = shelved_as new.rack after left.reels told_new.each shelf leaves
-
-      intended_old : AreShelved shelf (told_reels after) → Holds blocks (intended_by serial o) → BelongWith (Some blocks) (told_reels after)
-      intended_old on_reels holds =
-          belong_of (intended_by serial o) shelf holds on_reels up.rack
-          (disc_intended serial o old.rack (safe.store.live safe.up) safe.store.tied may.rules may.on may.reel_is may.free safe.told text shelf shelved quiet old.rack refl)
-
-      -- with the new dump
       module _ (content : List (List ℕ)) (its : IsContentOf text serial o content) where
         abbrev more : ℕ → List Dump
         more = with_dump (new_dump serial o content) shelf
-
-        rack_more : RackBelongs text (all_dumps more (told_reels old.rack))
-        rack_more =
-            (ready serial o old.rack (safe.store.live safe.up) safe.store.tied may.rules may.on may.reel_is may.free safe.told text shelf shelved quiet content its.long its.blocks its.lens its.parts old.rack refl may.room may.mounted).rack
-
-        intended_more : AreShelved more (told_reels after) → Holds blocks (intended_by serial o) → BelongWith (Some blocks) (told_reels after)
-        intended_more on_reels holds =
-            belong_of (intended_by serial o) more holds on_reels rack_more
-            (disc_marked serial o old.rack (safe.store.live safe.up) safe.store.tied may.rules may.on may.reel_is may.free safe.told text shelf shelved quiet content its.long its.blocks its.lens its.parts old.rack refl may.room may.mounted)
-
-        moved_without : (ns : List ℕ) → (has ns serial ≡ true → ⊥) → AreShelved (without_all ns more) (told_reels after) → Holds blocks (moved_by serial o) → BelongWith (Some blocks) (told_reels after)
-        moved_without ns never on_reels holds =
-            let is = up_released serial o old.rack (safe.store.live safe.up) safe.store.tied may.rules may.on may.reel_is may.free safe.told text shelf shelved quiet content its.long its.blocks its.lens its.parts old.rack refl may.room may.mounted ns never in
-            belong_of (moved_by serial o) (without_all ns more) holds on_reels is.rack is.disc
-
-        moved_cleared : (m : ℕ) → AreShelved (cleared serial m more) (told_reels after) → Holds blocks (moved_by serial o) → BelongWith (Some blocks) (told_reels after)
-        moved_cleared m on_reels holds =
-            moved_without (below_but serial m) (λ is. (has_below serial m serial is).1 refl)
-            (shelved_same after after (cleared serial m more) (without_all (below_but serial m) more) refl (λ r there. cleared_is serial m more r.serial) on_reels) holds
 
         beside_serial : (n : ℕ) → n ≢ serial → shelf n ≡ more n
         beside_serial n apart = by (eqb_tells n serial)
@@ -327,52 +308,86 @@ module _ (serial : ℕ) (old new : StoreFacts) (safe : IsSafe old) (it : (let r 
             by (inl h) = absurd (apart h.1)
             by (inr h) = sym (ap (λ (b : Bool). if b then shelf n ++ new_dump serial o content ∷ [] else shelf n) h.0)
 
-        mark_left : ((n : ℕ) → PowerLossLeavesEither n new.rack (shelf n) (more n)) → Holds blocks (intended_by serial o) → BelongWith (Some blocks) (told_reels after)
+        mark_left : ((n : ℕ) → PowerLossLeavesEither n new.rack (shelf n) (more n)) → Holds blocks (intended_by serial o) → Left
         mark_left leaves holds = by (shelved_either new.rack after left.reels told_new.each rising serial shelf more beside_serial leaves)
           where
-            by : AreShelved shelf (told_reels after) ⊎ AreShelved more (told_reels after) → BelongWith (Some blocks) (told_reels after)
-            by (inl on_reels) = intended_old on_reels holds
-            by (inr on_reels) = intended_more on_reels holds
+            by : AreShelved shelf (told_reels after) ⊎ AreShelved more (told_reels after) → Left
+            by (inl on_reels) = LeftIntended on_reels holds
+            by (inr on_reels) = LeftMarked content its on_reels holds
 
-        copies_left : AreShelved more (told_reels after) → Holds blocks (intended_by serial o) ⊎ Holds blocks (moved_by serial o) → BelongWith (Some blocks) (told_reels after)
-        copies_left on_reels (inl holds) = intended_more on_reels holds
-        copies_left on_reels (inr holds) = moved_without [] (λ is. let no : ⊥ = cc in no) on_reels holds
+        copies_left : AreShelved more (told_reels after) → Holds blocks (intended_by serial o) ⊎ Holds blocks (moved_by serial o) → Left
+        copies_left on_reels (inl holds) = LeftMarked content its on_reels holds
+        copies_left on_reels (inr holds) =
+            LeftMoved content its 0 (shelved_same after after more (cleared serial 0 more) refl (λ r there. sym (cleared_is serial 0 more r.serial)) on_reels) holds
 
-        release_left : (last : ℕ) → ((n : ℕ) → PowerLossLeavesEither n new.rack (cleared serial last more n) (cleared serial (last + 1) more n)) → Holds blocks (moved_by serial o)
-            → BelongWith (Some blocks) (told_reels after)
+        release_left : (last : ℕ) → ((n : ℕ) → PowerLossLeavesEither n new.rack (cleared serial last more n) (cleared serial (last + 1) more n)) → Holds blocks (moved_by serial o) → Left
         release_left last leaves holds =
             by (shelved_either new.rack after left.reels told_new.each rising last (cleared serial last more) (cleared serial (last + 1) more) (λ n apart. sym (cleared_beside serial last n more apart)) leaves)
           where
-            by : AreShelved (cleared serial last more) (told_reels after) ⊎ AreShelved (cleared serial (last + 1) more) (told_reels after) → BelongWith (Some blocks) (told_reels after)
-            by (inl on_reels) = moved_cleared last on_reels holds
-            by (inr on_reels) = moved_cleared (last + 1) on_reels holds
+            by : AreShelved (cleared serial last more) (told_reels after) ⊎ AreShelved (cleared serial (last + 1) more) (told_reels after) → Left
+            by (inl on_reels) = LeftMoved content its last on_reels holds
+            by (inr on_reels) = LeftMoved content its (last + 1) on_reels holds
 
-      intent_left : AreShelved shelf (told_reels after) → Holds blocks o.contents ⊎ Holds blocks (intended_by serial o) → BelongWith (Some blocks) (told_reels after)
-      intent_left on_reels (inl holds) = belong_of o.contents shelf holds on_reels up.rack up.disc
-      intent_left on_reels (inr holds) = intended_old on_reels holds
-
-    -- what the disc holds then
-    on_disc : (P : List (List ℕ) → Type 0) → LeavesOnDisc P old new → P blocks
-    on_disc P disc = let (before, at) = some_of o.disc.held safe.told.disc in (disc.survives safe.disc).1 before at blocks left.on_disc
-
-    on_intended : new.online.live ≡ true → new.online.contents ≡ intended_by serial o → StaysDurable old new → Holds blocks (intended_by serial o)
-    on_intended live are durable = on_disc (λ bs. Holds bs (intended_by serial o)) (stays_on_disc (intended_by serial o) live are durable)
-
-    belongs : Stops text shelf serial old new → BelongWith (Some blocks) (told_reels after)
-    belongs (StopsIntent may either same loss) = intent_left may (by_shelf may (loss safe.dumps)) (on_disc (λ bs. Holds bs o.contents ⊎ Holds bs (intended_by serial o)) either)
-    belongs (StopsBefore is durable loss) = intended_old is.may (by_shelf is.may (loss safe.dumps)) (on_intended is.live is.contents durable)
-    belongs (StopsUnmarked is beside durable content its loss) = mark_left is.may content its (loss safe.dumps) (on_intended is.live is.contents durable)
-    belongs (StopsMark is live contents durable loss) = mark_left is.may is.content is.has (loss safe.dumps) (on_intended live contents durable)
-    belongs (StopsCopies is either loss) =
-        copies_left is.may is.content is.has (shelved_as new.rack after left.reels told_new.each (with_dump (new_dump serial o is.content) shelf) (loss safe.dumps))
-        (on_disc (λ bs. Holds bs (intended_by serial o) ⊎ Holds bs (moved_by serial o)) either)
-    belongs (StopsRelease is durable last interrupted loss) =
+    leaves_by : Stops text shelf serial old new → Left
+    leaves_by (StopsIntent may either same loss) = intent_left may (by_shelf shelf (loss safe.dumps)) (on_disc (λ bs. Holds bs o.contents ⊎ Holds bs (intended_by serial o)) either)
+    leaves_by (StopsBefore is durable loss) = LeftIntended (by_shelf shelf (loss safe.dumps)) (on_intended is.live is.contents durable)
+    leaves_by (StopsUnmarked is beside durable content its loss) = mark_left is.may content its (loss safe.dumps) (on_intended is.live is.contents durable)
+    leaves_by (StopsMark is live contents durable loss) = mark_left is.may is.content is.has (loss safe.dumps) (on_intended live contents durable)
+    leaves_by (StopsCopies is either loss) =
+        copies_left is.may is.content is.has (by_shelf (with_dump (new_dump serial o is.content) shelf) (loss safe.dumps)) (on_disc (λ bs. Holds bs (intended_by serial o) ⊎ Holds bs (moved_by serial o)) either)
+    leaves_by (StopsRelease is durable last interrupted loss) =
         release_left is.may is.content is.has last (loss safe.dumps) (on_disc (λ bs. Holds bs (moved_by serial o)) (stays_on_disc (moved_by serial o) is.live is.contents durable))
+
+    may_of : Stops text shelf serial old new → MayFill serial old
+    may_of (StopsIntent may either same loss) = may
+    may_of (StopsBefore is durable loss) = is.may
+    may_of (StopsUnmarked is beside durable content its loss) = is.may
+    may_of (StopsMark is live contents durable loss) = is.may
+    may_of (StopsCopies is either loss) = is.may
+    may_of (StopsRelease is durable last interrupted loss) = is.may
+
+    pub process_leaves : MayFill serial old × LeftBy text shelf serial old blocks after
+    process_leaves = (may_of stops, leaves_by stops)
+
+    pub same_names : names (told_reels after) ≡ names (told_reels old.rack)
+    same_names = names_left new.rack after left.reels told_new.each ∙ unread_names new.rack.reels ∙ names_new ∙ sym (unread_names old.rack.reels)
+
+    -- a shelf and contents that belong to the reels as they were
+    belong_of : (c : Contents) (next : ℕ → List Dump) → Holds blocks c → AreShelved next (told_reels after) → RackBelongs text (all_dumps next (told_reels old.rack))
+        → DiscBelongs text next (told_reels old.rack) c → BelongWith (Some blocks) (told_reels after)
+    belong_of c next holds on_reels rack disc = record {
+      text = text;
+      shelf = next;
+      shelved = on_reels;
+      rack = moved_rack (told_reels old.rack) (told_reels after) same_names text next rack;
+      disc = λ bs e at held.
+          subst (DiscBelongs text next (told_reels after)) (holds_one blocks c e holds (subst (λ (x : List (List ℕ)). Holds x e) (sym (same_Some blocks bs at)) held))
+          (moved_disc (told_reels old.rack) (told_reels after) same_names text next c disc);
+    }
+
+    belongs : (may : MayFill serial old) → LeftBy text shelf serial old blocks after → BelongWith (Some blocks) (told_reels after)
+    belongs may (LeftOld on_reels holds) = belong_of o.contents shelf holds on_reels up.rack up.disc
+    belongs may (LeftIntended on_reels holds) =
+        belong_of (intended_by serial o) shelf holds on_reels up.rack
+        (disc_intended serial o old.rack (safe.store.live safe.up) safe.store.tied may.rules may.on may.reel_is may.free safe.told text shelf shelved quiet old.rack refl)
+    belongs may (LeftMarked content its on_reels holds) =
+        belong_of (intended_by serial o) (with_dump (new_dump serial o content) shelf) holds on_reels
+        (ready serial o old.rack (safe.store.live safe.up) safe.store.tied may.rules may.on may.reel_is may.free safe.told text shelf shelved quiet content its.long its.blocks its.lens its.parts old.rack refl may.room may.mounted).rack
+        (disc_marked serial o old.rack (safe.store.live safe.up) safe.store.tied may.rules may.on may.reel_is may.free safe.told text shelf shelved quiet content its.long its.blocks its.lens its.parts old.rack refl may.room may.mounted)
+    belongs may (LeftMoved content its m on_reels holds) =
+        let made : ℕ → List Dump = with_dump (new_dump serial o content) shelf in
+        let is = up_released serial o old.rack (safe.store.live safe.up) safe.store.tied may.rules may.on may.reel_is may.free safe.told text shelf shelved quiet content its.long its.blocks its.lens its.parts old.rack refl may.room may.mounted
+        (below_but serial m) (λ there. (has_below serial m serial there).1 refl) in
+        belong_of (moved_by serial o) (without_all (below_but serial m) made) holds
+        (shelved_same after after (cleared serial m made) (without_all (below_but serial m) made) refl (λ r there. cleared_is serial m made r.serial) on_reels) is.rack is.disc
+
+    pub left_belongs : BelongWith (Some blocks) (told_reels after)
+    left_belongs = belongs process_leaves.0 process_leaves.1
 
     left_can : CanBeSafe (disc_left blocks new.online.disc) after
     left_can = let durable = left_is_durable new blocks after left in record {
       told = record { disc = refl; each = told_after new.rack after left.reels told_new.each };
-      belong = belongs stops;
+      belong = left_belongs;
       disc_safe = durable.0;
       dumps = λ n. inl (durable.1 n);
       blank = λ none. durable.1;

@@ -1,13 +1,13 @@
 -- Which state a power loss leaves after a step of an open dump that was stopped.
 -- serves: step_losses (stopped)
-use Rattle.std.proofs.Common.{◌≡◌, ℕ, ◌+◌, true, false, List, [], ◌∷◌, map, Some, None, Err, refl, sym, ◌∙◌, ap, arith, subst, inl, inr, true≢false}
+use Rattle.std.proofs.Common.{◌≡◌, ℕ, ◌+◌, true, false, List, [], map, Some, None, Err, refl, sym, ◌∙◌, ap, arith, subst, inl, inr, true≢false}
 use Rattle.std.specs.Prelude.{◌⊎◌}
 use Rattle.std.specs.List.{AllZip}
 use Rattle.std.proofs.lemmas.Bool.{lt-ltb}
 use Rattle.std.proofs.lemmas.Option.{same_Some}
 use Rattle.g_base.specs.Fuse.{burnt}
 use Rattle.g_tape.specs.Rack.{Rack, changed}
-use Rattle.g_tape.specs.Reel.{Reel, Torn, left_by}
+use Rattle.g_tape.specs.Reel.{Torn, left_by}
 use Rattle.g_plain.specs.declared.faults.StoreFault.TheVariants.{Stopped}
 use Rattle.g_disc_contents.specs.Contents.{Holds}
 use Rattle.g_disc_contents.specs.Facts.{OnlineFacts, Pin}
@@ -30,21 +30,9 @@ use Rattle.g_store.specs.Dumping.{KeepsDumpsSafe, LeavesAfterStep}
 use Rattle.g_store.specs.Events.{IsStepOfDump, StepsDump}
 use Rattle.g_store.proofs.SteppedLemmas as stepped
 use Rattle.g_laws_power.specs.Events.{StoppedStepsSurvive, StopsLikeBy}
-use Rattle.g_laws_power.proofs.LeftLemmas.{IsSeen, rows_like, seen_left, stand_left}
+use Rattle.g_laws_power.proofs.LeftLemmas.{IsSeen, rows_like, same_seen, seen_left, stand_left}
 use Rattle.g_laws_power.proofs.StepLemmas.{answered, either_shelf, left_serials, stopped_belong}
 use Rattle.g_laws_power.proofs.SurvivalLemmas.{holds_left, spent_view}
-
-abbrev Same : Reel → Reel → Type 0
-Same o n = (n.serial ≡ o.serial) × (n.capacity ≡ o.capacity) × (n.mounted ≡ o.mounted)
-
--- the same reels, by way of another rack
-same_seen : (xs ys zs : List Reel) → AllZip Same xs ys → AllZip IsSeen ys zs → AllZip IsSeen xs zs
-same_seen [] [] [] one other = tt
-same_seen [] [] (z ∷ zs) one other = absurd other
-same_seen [] (y ∷ ys) zs one other = absurd one
-same_seen (x ∷ xs) [] zs one other = absurd one
-same_seen (x ∷ xs) (y ∷ ys) [] one other = absurd other
-same_seen (x ∷ xs) (y ∷ ys) (z ∷ zs) (a, one) (b, other) = ((b.0 ∙ a.0, b.1 ∙ a.1, b.2), same_seen xs ys zs one other)
 
 -- A STOP AT THE MARK
 module _ (d : DumpFacts) (o : OnlineFacts) (old : Rack) (new : StoreFacts) (safe : IsSafe (up_with o old (Some d))) (keeps : KeepsDumpsSafe (up_with o old (Some d)) (Err Stopped) new)

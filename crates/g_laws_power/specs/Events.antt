@@ -3,13 +3,14 @@
 use Rattle.std.specs.Prelude.{◌≡◌, ℕ, List, [], Result, Some, Err}
 use Rattle.g_name.specs.declared.full.Full.{Full}
 use Rattle.g_name.specs.declared.path.Path.{Path}
-use Rattle.g_tape.specs.Rack.{Rack}
+use Rattle.g_tape.specs.Rack.{AreReels, Rack}
 use Rattle.g_plain.specs.declared.faults.StoreFault.{StoreFault}
 use Rattle.g_plain.specs.declared.faults.StoreFault.TheVariants.{Stopped}
 use Rattle.g_plain.specs.PlainTree.{input_name}
 use Rattle.g_store_model.specs.State.{Holding, State}
 use Rattle.g_store_model.specs.CallStep.{Outcome}
 use Rattle.g_store_model.specs.DumpSteps.{MigrateStep, OpenStep}
+use Rattle.g_store_model.specs.Process.{ProcessStep}
 use Rattle.g_store_meaning.specs.Belonging.{BelongWith}
 use Rattle.g_store_meaning.specs.Meaning.{told_reels}
 use Rattle.g_store_meaning.specs.Reading.{StandsForState}
@@ -48,6 +49,12 @@ pub record StoppedEventsSurvive : Type 0 where
 abbrev pub StoppedStepsSurvive : Type 0
 StoppedStepsSurvive = (old new : StoreFacts) (blocks : List (List ℕ)) (rack : Rack) → IsSafe old → StepsDump old (Err Stopped) new → KeepsDumpsSafe old (Err Stopped) new → IsLeft new.online.disc new.rack blocks rack
     → BelongWith (Some blocks) (told_reels rack) × ((s : State) → StandsForState old s → StopsLikeBy IsStepOfDump s new.online.disc.size blocks rack)
+
+-- THE SAME AFTER A PROCESS that was stopped: before the intent or with it, with the new dump completed, or with the new copies on the disc and
+-- some reels released.
+abbrev pub StoppedProcessSurvives : Type 0
+StoppedProcessSurvives = (serial : ℕ) (old new : StoreFacts) (blocks : List (List ℕ)) (rack : Rack) → AreReels old.rack.reels → IsSafe old → Processes serial old (Err Stopped) new → IsLeft new.online.disc new.rack blocks rack
+    → BelongWith (Some blocks) (told_reels rack) × ((s : State) → StandsForState old s → StopsLikeBy (λ s k o a n. ProcessStep s k serial o a n) s new.online.disc.size blocks rack)
 
 -- WHAT IS LEFT after one that was stopped can be safe again, with a power loss or without one.
 pub record StoppedCanBeSafe : Type 0 where

@@ -2,7 +2,7 @@
 #![tactic(auto)]
 
 ghost use Rattle.g_laws_power.specs.Devices.{DurableAreSafe, FormatIsSafe, LeftIsSafe, RefusalsKeepSafe, StepsKeepSafe, StopsLeaveSafe};
-ghost use Rattle.g_laws_power.specs.Events.{EventsKeepSafe, ProcessKeepsSafe, StoppedCanBeSafe, StoppedEventsSurvive, StoppedStepsSurvive};
+ghost use Rattle.g_laws_power.specs.Events.{EventsKeepSafe, ProcessKeepsSafe, StoppedCanBeSafe, StoppedEventsSurvive, StoppedProcessSurvives, StoppedStepsSurvive};
 ghost use Rattle.g_laws_power.specs.Losses.{CallsKeepSafe, LeftCanBeSafe, LeftIsDurable, MakingIsSafe, StoppedCallsSurvive, StoreSurvives};
 
 /// A power loss between two calls of a safe store leaves disc and rack with what the store would leave by going down. After a call
@@ -31,6 +31,11 @@ pub fn event_losses()
 pub fn step_losses()
     ensures safe { StepsKeepSafe }
     ensures stopped { StoppedStepsSurvive }
+{}
+
+/// After a power loss the devices of a stopped PROCESS belong together, and represent a state that it may leave.
+pub fn process_losses()
+    ensures { StoppedProcessSurvives }
 {}
 
 /// The devices of a safe store are safe when it goes down, and after a call or an event that a failed write stopped: as they are and

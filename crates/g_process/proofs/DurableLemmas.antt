@@ -1,14 +1,13 @@
 -- What a power loss may leave while PROCESS writes its dump and releases the other reels.
 -- serves: AnswerLemmas, LossLemmas, ReleaseLemmas, SafeLemmas, WriteLemmas
-use Rattle.std.proofs.Common.{◌≡◌, ◌≢◌, ℕ, zero, suc, ◌+◌, ◌<◌, ◌≤◌, Bool, true, false, List, [], ◌∷◌, ◌++◌, length, take, Option, Some, None, Ok, Err, refl, sym, ◌∙◌, ap, arith, subst, inl, inr, option_map, slice_get, true≢false}
+use Rattle.std.proofs.Common.{◌≡◌, ℕ, zero, suc, ◌+◌, ◌<◌, Bool, true, false, List, [], ◌∷◌, ◌++◌, length, take, Option, Some, None, Ok, refl, sym, ◌∙◌, ap, arith, subst, inl, inr, slice_get, true≢false}
 use Rattle.std.specs.Prelude.{◌⊎◌, ◌||◌, ◌==◌}
-use Rattle.std.specs.Option.{ForSome}
 use Rattle.std.proofs.lemmas.Bool.{cases_Bool, cases_eq, eq-eqb, ne_eqb}
 use Rattle.std.proofs.lemmas.List.{length-append}
 use Rattle.std.proofs.lemmas.Option.{same_Some}
 use Rattle.g_tape.specs.Durable.{IsDurable, IsDurableTo, WritesDurably}
 use Rattle.g_tape.specs.Rack.{Rack, changed, reel, refuses_write}
-use Rattle.g_tape.specs.Reads.{LeavesNoMore, MayLeave, OnlyReads, blocks_in, blocks_of, is_syncable, unread}
+use Rattle.g_tape.specs.Reads.{LeavesNoMore, MayLeave, OnlyReads, blocks_in, blocks_of, is_syncable}
 use Rattle.g_tape.specs.Reel.{Reel, ending}
 use Rattle.g_tape.specs.Risk.{IsSynced, Leaves, Risk, risk, syncs}
 use Rattle.g_tape.proofs.ReadLemmas.{blocks_after_reads, reel-with_reel_other}

@@ -1,7 +1,7 @@
 -- What a power loss leaves of the reels when PROCESS stops at a write of tape.
 -- serves: AnswerLemmas, crates above
-use Rattle.std.proofs.Common.{◌≡◌, ◌≢◌, ℕ, zero, suc, ◌+◌, ◌<◌, ◌≤◌, ◌==◌, Bool, true, false, List, [], ◌∷◌, ◌++◌, length, take, Option, Some, None, Ok, Err, refl, sym, ◌∙◌, ap, arith, subst, inl, inr, option_map, slice_get, if◌then◌else◌}
-use Rattle.std.specs.Prelude.{◌⊎◌, ◌&&◌, All, Contains, is_some, map, nat_lt, not}
+use Rattle.std.proofs.Common.{◌≡◌, ◌≢◌, ℕ, ◌+◌, ◌<◌, ◌≤◌, ◌==◌, Bool, true, false, List, [], ◌∷◌, ◌++◌, length, take, Option, Some, None, Err, refl, sym, ◌∙◌, ap, arith, subst, inl, inr, option_map, slice_get, if◌then◌else◌}
+use Rattle.std.specs.Prelude.{◌⊎◌, ◌&&◌, All, is_some, map, nat_lt, not}
 use Rattle.std.specs.Option.{ForSome}
 use Rattle.std.proofs.lemmas.Bool.{cases_Bool, cases_order, lt-ltb, ltb-true, ne_eqb}
 use Rattle.std.proofs.lemmas.Option.{none-some, same_Some}
@@ -12,13 +12,13 @@ use Rattle.g_tape.specs.Durable.{MayBeBegun, WritesDurably}
 use Rattle.g_tape.specs.Rack.{AreReels, Rack, changed, reel}
 use Rattle.g_tape.specs.Reads.{MayLeave, OnlyReads, blocks_in, blocks_of, unread}
 use Rattle.g_tape.specs.Reel.{Reel, Remains, Shortened, Torn, Unchanged, left_by}
-use Rattle.g_tape.specs.Risk.{IsSynced, Leaves, risk}
+use Rattle.g_tape.specs.Risk.{IsSynced}
 use Rattle.g_tape.proofs.ReadLemmas.{blocks_after_reads, reel-with_reel}
 use Rattle.g_plain.proofs.Found.{some_of}
 use Rattle.g_disc_contents.specs.Contents.{Contents, Holds}
 use Rattle.g_disc_contents.specs.Facts.{IsTied, OnlineFacts}
 use Rattle.g_incr.specs.Layout.{Dump, count_of, dump_blocks, mark_block}
-use Rattle.g_incr.specs.Plan.{IsAway, IsPlan, IsReadyAt, Plan, blocks_of as size_in, content_blocks, dump_of, first_content, needs, waiting}
+use Rattle.g_incr.specs.Plan.{IsAway, IsPlan, IsReadyAt, Plan, content_blocks, dump_of, first_content, needs, waiting}
 use Rattle.g_incr.proofs.PieceLemmas.{at_mark}
 use Rattle.g_incr.proofs.PlanLemmas.{length-made}
 use Rattle.g_known.specs.ReelNotes.{AreListed}

@@ -19,9 +19,9 @@ mod OffLemmas
 pub mod OpenedLemmas
 mod OwnPlaceLemmas
 mod ProcessCompleteLemmas
-mod ProcessedLemmas
-mod ProcessedRowsLemmas
-mod ProcessedStepLemmas
+pub mod ProcessedLemmas
+pub mod ProcessedRowsLemmas
+pub mod ProcessedStepLemmas
 mod ProcessedTreeLemmas
 mod ProcessingLemmas
 mod RestoreLemmas

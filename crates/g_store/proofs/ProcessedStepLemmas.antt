@@ -277,16 +277,16 @@ module _ (serial : ℕ) (o : OnlineFacts) (old : Rack) (reels : AreReels old.ree
   abbrev rs : List Reel
   rs = told_reels old
 
-  abbrev v : View
+  abbrev pub v : View
   v = view_by text shelf rs up.rack None
 
-  abbrev s : state.State
+  abbrev pub s : state.State
   s = state_up v rs o None
 
-  abbrev k : state.Holding
+  abbrev pub k : state.Holding
   k = held_in v o
 
-  live : o.live ≡ true
+  pub live : o.live ≡ true
   live = keeps.live refl
 
   view_is : IsView o.disc.held rs c v
@@ -295,7 +295,7 @@ module _ (serial : ℕ) (o : OnlineFacts) (old : Rack) (reels : AreReels old.ree
   own : Seen before s
   own = record { view = v; is = view_is; opens = record { is = λ all qs some. tt }; state_is = refl }
 
-  state_of : (u : state.State) → StandsForState before u → u ≡ s
+  pub state_of : (u : state.State) → StandsForState before u → u ≡ s
   state_of u here = store_is_one before u s told was keeps here (stands before s refl own)
 
   recs : IsRecords c.users (recs_in c)
@@ -314,7 +314,7 @@ module _ (serial : ℕ) (o : OnlineFacts) (old : Rack) (reels : AreReels old.ree
   none_at : (r : Reel) → Contains old.reels r → IsFree r.serial old → shelf r.serial ≡ []
   none_at r there free = free_none o old reels told shelf shelved_as r there free
 
-  some_at : (r : Reel) → Contains old.reels r → IsTaken r.serial old → (shelf r.serial ≡ [] → ⊥) × (0 < r.len)
+  pub some_at : (r : Reel) → Contains old.reels r → IsTaken r.serial old → (shelf r.serial ≡ [] → ⊥) × (0 < r.len)
   some_at r there taken = taken_some o old reels told shelf shelved_as r there taken
 
   row_at : (n : ℕ) (r : Reel) → reel n old.reels ≡ Some r → state.reel_at n s.reels ≡ Some (row_of shelf (unread r))
@@ -353,7 +353,7 @@ module _ (serial : ℕ) (o : OnlineFacts) (old : Rack) (reels : AreReels old.ree
   late_step out answer end is =
       subst (λ (x : Option StoreFault). MatchOption x (Late out answer end (process_refuses_late s k serial)) (λ fault. (answer ≡ Err fault) × (end ≡ s))) (sym refuses_none) is
 
-  done_step : MayFill serial before → (out : Outcome) (answer : Result ℕ StoreFault) (end : state.State) → ProcessesBy s k serial out answer end → ProcessStep s k serial out answer end
+  pub done_step : MayFill serial before → (out : Outcome) (answer : Result ℕ StoreFault) (end : state.State) → ProcessesBy s k serial out answer end → ProcessStep s k serial out answer end
   done_step may out answer end is = late_step out answer end (subst (Late out answer end) (sym (late_none may)) is)
 
   leads : (answer : Result ℕ StoreFault) (after : StoreFacts) (end : state.State) (out : Outcome) → StandsForState after end → Raised out before after → ProcessStep s k serial out answer end
@@ -386,23 +386,23 @@ module _ (serial : ℕ) (o : OnlineFacts) (old : Rack) (reels : AreReels old.ree
     rising = AllPairs-from_increasing (serials old.reels) reels.rising
 
     -- no dump was completed
-    view_then : (held : Option (List (List ℕ))) (x : Contents) → x.files ≡ c.files → AreShelved shelf (told_reels new) → IsView held (told_reels new) x v
-    view_then held x files shelved_new = record {
+    pub view_then : (qs : List Reel) → ((sh : ℕ → List Dump) → all_dumps sh rs ≡ all_dumps sh qs) → (held : Option (List (List ℕ))) (x : Contents) → x.files ≡ c.files → AreShelved shelf qs → IsView held qs x v
+    view_then qs same_dumps held x files shelved_new = record {
       rack = record {
         shelved = shelved_new;
-        all = dumps_new shelf;
+        all = same_dumps shelf;
         dumped = λ _. view_is.rack.dumped told;
         none = λ _. view_is.rack.none told;
       };
-      files = subst (All (λ (f : File). HasText (AllTold held (told_reels new)) (text f.rec.stamp) (all_dumps shelf rs) f)) (sym files)
-          (All-weaker (λ (f : File). HasText (AllTold o.disc.held rs) (text f.rec.stamp) (all_dumps shelf rs) f) (λ (f : File). HasText (AllTold held (told_reels new)) (text f.rec.stamp) (all_dumps shelf rs) f)
+      files = subst (All (λ (f : File). HasText (AllTold held qs) (text f.rec.stamp) (all_dumps shelf rs) f)) (sym files)
+          (All-weaker (λ (f : File). HasText (AllTold o.disc.held rs) (text f.rec.stamp) (all_dumps shelf rs) f) (λ (f : File). HasText (AllTold held qs) (text f.rec.stamp) (all_dumps shelf rs) f)
           (λ f it. record { len = it.len; bytes = it.bytes; tape = λ _. it.tape told }) c.files view_is.files);
     }
 
-    abbrev begun : state.State
+    abbrev pub begun : state.State
     begun = record s { reels = state.with_reel serial (with_used (used_in (reel serial new.reels))) s.reels; holding = Some (with_intent s serial k) }
 
-    rows_begun : AllZip (IsReadBy serial) old.reels new.reels → map (row_of shelf) (told_reels new) ≡ state.with_reel serial (with_used (used_in (reel serial new.reels))) s.reels
+    pub rows_begun : AllZip (IsReadBy serial) old.reels new.reels → map (row_of shelf) (told_reels new) ≡ state.with_reel serial (with_used (used_in (reel serial new.reels))) s.reels
     rows_begun zip = rows_read serial old new rising apart_new labels shelf zip
 
     -- A READ FAILED
@@ -411,7 +411,7 @@ module _ (serial : ℕ) (o : OnlineFacts) (old : Rack) (reels : AreReels old.ree
         let held : holding_of text (users_not_in o'.changed o'.contents.users) o'.contents ≡ with_intent s serial k = λ j. holding_of text (users_not_in (changed j) (contents j).users) (contents j) in
         stands (up_with o' new None) begun refl (record {
           view = v;
-          is = view_then o'.disc.held o'.contents (ap (λ (x : Contents). x.files) contents) shelved_new;
+          is = view_then (told_reels new) dumps_new o'.disc.held o'.contents (ap (λ (x : Contents). x.files) contents) shelved_new;
           opens = record { is = λ all qs some. tt };
           state_is = λ i.
               let u : state.State = record {
@@ -427,7 +427,7 @@ module _ (serial : ℕ) (o : OnlineFacts) (old : Rack) (reels : AreReels old.ree
     -- STOPPED: the disc holds what it held
     cut_stands : (blocks : List (List ℕ)) → o'.disc.held ≡ Some blocks → Holds blocks c → map unread new.reels ≡ map unread old.reels → StandsForState (spent_with o' new) (down s)
     cut_stands blocks held holds same =
-        let seen_then = view_then o'.disc.held c refl (subst (AreShelved shelf) (sym same) shelved_as) in
+        let seen_then = view_then (told_reels new) dumps_new o'.disc.held c refl (subst (AreShelved shelf) (sym same) shelved_as) in
         spent_holding o' new (down s) v c blocks held holds seen_then refl refl
         (sym size) refl (ap (map (row_of shelf)) (sym same)) refl
 
@@ -435,7 +435,7 @@ module _ (serial : ℕ) (o : OnlineFacts) (old : Rack) (reels : AreReels old.ree
     intent_stands : (blocks : List (List ℕ)) → o'.disc.held ≡ Some blocks → Holds blocks (intended_by serial o) → AllZip (IsReadBy serial) old.reels new.reels → AreShelved shelf (told_reels new)
         → StandsForState (spent_with o' new) (down begun)
     intent_stands blocks held holds zip shelved_new =
-        let seen_then = view_then o'.disc.held (intended_by serial o) refl shelved_new in
+        let seen_then = view_then (told_reels new) dumps_new o'.disc.held (intended_by serial o) refl shelved_new in
         spent_holding o' new (down begun) v (intended_by serial o) blocks held holds seen_then refl refl
         (sym size) refl (sym (rows_begun zip)) refl
 
@@ -453,25 +453,25 @@ module _ (serial : ℕ) (o : OnlineFacts) (old : Rack) (reels : AreReels old.ree
       made_in : Contains (all_dumps with_made rs) made
       made_in = made_there serial o old live keeps.tied may.rules may.on may.reel_is may.free told text shelf shelved_as up content its
 
-      abbrev tree : DumpedDirectory (all_dumps (with_dump (new_dump serial o content) shelf) (told_reels old))
+      abbrev pub tree : DumpedDirectory (all_dumps (with_dump (new_dump serial o content) shelf) (told_reels old))
       tree = dumped_tree serial o old live keeps.tied may.rules may.on may.reel_is may.free told text shelf shelved_as up content its
 
-      abbrev d : state.Dumped
+      abbrev pub d : state.Dumped
       d = dumped_of text tree
 
       abbrev kept_users : List UserRec
       kept_users = users_not_in o.changed c.users
 
-      processed : step.IsProcessed serial k d
+      pub processed : step.IsProcessed serial k d
       processed = is_processed serial o old live keeps.tied may.rules may.on may.reel_is may.free told text shelf shelved_as up content its kept_users
 
-      abbrev places : FinMap nat_cmp state.Place
+      abbrev pub places : FinMap nat_cmp state.Place
       places = places_of (with_copies (process_copies serial o) c.files)
 
-      moved_are : step.AreMoved serial k places
+      pub moved_are : step.AreMoved serial k places
       moved_are = are_moved serial o old live keeps.tied may.rules may.on may.reel_is may.free told text shelf shelved_as up content its kept_users
 
-      copies_same : step.HasCopiesOf d places
+      pub copies_same : step.HasCopiesOf d places
       copies_same = same_copies serial o old live keeps.tied may.rules may.on may.reel_is may.free told text shelf shelved_as up content its kept_users
 
       -- its place on the reel
@@ -487,21 +487,22 @@ module _ (serial : ℕ) (o : OnlineFacts) (old : Rack) (reels : AreReels old.ree
           let ends_is : ends made ≡ process_needs k = omega (arith, long, files, all) in
           ap shelved_by ends_is
 
-      rows_now : AllZip (IsBesideDump serial) old.reels new.reels → map (row_of with_made) (told_reels new) ≡ state.with_reel serial (λ r. with_used true (with_shelved (process_dump k) r)) s.reels
+      pub rows_now : AllZip (IsBesideDump serial) old.reels new.reels → map (row_of with_made) (told_reels new) ≡ state.with_reel serial (λ r. with_used true (with_shelved (process_dump k) r)) s.reels
       rows_now zip = rows_marked serial old new rising apart_new labels shelf made refl (process_dump k) shelved_is zip
 
-      abbrev v_marked : View
+      abbrev pub v_marked : View
       v_marked = record { text = text; shelf = with_made; dumps = all_dumps with_made rs; dumped = Some tree; opened = None }
 
-      view_marked : (held : Option (List (List ℕ))) (x : Contents) → AreShelved with_made (told_reels new) → All (λ (f : File). KeepsFile (text f.rec.stamp) (all_dumps with_made rs) f) x.files → IsView held (told_reels new) x v_marked
-      view_marked held x shelved_new files = record {
+      pub view_marked : (qs : List Reel) → ((sh : ℕ → List Dump) → all_dumps sh rs ≡ all_dumps sh qs) → (held : Option (List (List ℕ))) (x : Contents) → AreShelved with_made qs
+          → All (λ (f : File). KeepsFile (text f.rec.stamp) (all_dumps with_made rs) f) x.files → IsView held qs x v_marked
+      view_marked qs same_dumps held x shelved_new files = record {
         rack = record {
           shelved = shelved_new;
-          all = dumps_new with_made;
+          all = same_dumps with_made;
           dumped = λ _. ready_rack.records tree;
           none = λ _ no. absurd (none-some tree (sym no));
         };
-        files = All-weaker (λ (f : File). KeepsFile (text f.rec.stamp) (all_dumps with_made rs) f) (λ (f : File). HasText (AllTold held (told_reels new)) (text f.rec.stamp) (all_dumps with_made rs) f)
+        files = All-weaker (λ (f : File). KeepsFile (text f.rec.stamp) (all_dumps with_made rs) f) (λ (f : File). HasText (AllTold held qs) (text f.rec.stamp) (all_dumps with_made rs) f)
             (λ f it. record { len = it.rec.len; bytes = it.bytes; tape = λ _ _. it.rec.copy }) x.files files;
       }
 
@@ -509,7 +510,7 @@ module _ (serial : ℕ) (o : OnlineFacts) (old : Rack) (reels : AreReels old.ree
           → StandsForState (spent_with o' new) (down (record (marked_by s k serial d) { holding = Some (with_intent s serial k) }))
       marked_stands blocks held holds zip shelved_new =
           let disc = disc_marked serial o old live keeps.tied may.rules may.on may.reel_is may.free told text shelf shelved_as up content its.long its.blocks its.lens its.parts old refl may.room may.mounted in
-          let seen_then = view_marked o'.disc.held (intended_by serial o) shelved_new disc.files in
+          let seen_then = view_marked (told_reels new) dumps_new o'.disc.held (intended_by serial o) shelved_new disc.files in
           spent_holding o' new (down (record (marked_by s k serial d) { holding = Some (with_intent s serial k) })) v_marked (intended_by serial o) blocks held holds seen_then refl refl
           (sym size) refl (sym (rows_now zip)) refl
 
@@ -517,7 +518,7 @@ module _ (serial : ℕ) (o : OnlineFacts) (old : Rack) (reels : AreReels old.ree
       tree_moved : tree_by text c.users (recs_in (moved_by serial o)) c.head.next_stamp ≡ k.tree
       tree_moved = tree_copied text c.users (process_copies serial o) c.files c.head.next_stamp
 
-      held_moved : (kept : List UserRec) → holding_of text kept (moved_by serial o) ≡ record k { places = places; last = k.last + 1; intent = None; kept = names_of kept }
+      pub held_moved : (kept : List UserRec) → holding_of text kept (moved_by serial o) ≡ record k { places = places; last = k.last + 1; intent = None; kept = names_of kept }
       held_moved kept = λ i. let h : state.Holding = record { tree = tree_moved i; places = places; last = k.last + 1; intent = None; kept = names_of kept } in h
 
       up_copied : IsUp text with_made (up_with (record o { contents = moved_by serial o; changed = [] }) old None)
@@ -527,7 +528,7 @@ module _ (serial : ℕ) (o : OnlineFacts) (old : Rack) (reels : AreReels old.ree
       copies_stand : (blocks : List (List ℕ)) → o'.disc.held ≡ Some blocks → Holds blocks (moved_by serial o) → AllZip (IsBesideDump serial) old.reels new.reels → AreShelved with_made (told_reels new)
           → StandsForState (spent_with o' new) (down (moved s k serial places d 0))
       copies_stand blocks held holds zip shelved_new =
-          let seen_then = view_marked o'.disc.held (moved_by serial o) shelved_new up_copied.disc.files in
+          let seen_then = view_marked (told_reels new) dumps_new o'.disc.held (moved_by serial o) shelved_new up_copied.disc.files in
           spent_holding o' new (down (moved s k serial places d 0)) v_marked (moved_by serial o) blocks held holds seen_then refl refl
           (sym size) (ap Some (sym (held_moved []))) (sym (rows_now zip ∙ sym (none_released serial (state.with_reel serial (λ r. with_used true (with_shelved (process_dump k) r)) s.reels)))) refl
 
@@ -555,13 +556,13 @@ module _ (serial : ℕ) (o : OnlineFacts) (old : Rack) (reels : AreReels old.ree
             by_test r there (inl is) = gone_all gone with_made r.serial (passes below (serials rs) r.serial (mapped_there (λ (x : Reel). x.serial) rs r there) is) ∙ sym (cond-true (below r.serial) [] (with_made r.serial) is)
             by_test r there (inr isnt) = stays_all gone with_made r.serial (fails below (serials rs) r.serial isnt) ∙ sym (cond-false (below r.serial) [] (with_made r.serial) isnt)
 
-        rack_c : RackBelongs text (all_dumps shelf_c rs)
+        pub rack_c : RackBelongs text (all_dumps shelf_c rs)
         rack_c = subst (RackBelongs text) same_c up_gone.rack
 
         files_c : All (λ (f : File). KeepsFile (text f.rec.stamp) (all_dumps shelf_c rs) f) (moved_by serial o).files
         files_c = subst (λ (ds : List Dump). All (λ (f : File). KeepsFile (text f.rec.stamp) ds f) (moved_by serial o).files) same_c up_gone.disc.files
 
-        there_c : Contains (all_dumps shelf_c rs) made
+        pub there_c : Contains (all_dumps shelf_c rs) made
         there_c =
             on_all shelf_c rs (unread may.on) made (reel_there serial old.reels may.on may.reel_is)
             (subst (λ (n : ℕ). Contains (shelf_c n) made) (sym (reel_named serial old.reels may.on may.reel_is))
@@ -572,7 +573,7 @@ module _ (serial : ℕ) (o : OnlineFacts) (old : Rack) (reels : AreReels old.ree
         low_c : (e : Dump) → Contains (all_dumps shelf_c rs) e → e.number ≤ made.number
         low_c e there = up_gone.quiet e (subst (λ (ds : List Dump). Contains ds e) (sym same_c) there)
 
-        abbrev tree_c : DumpedDirectory (all_dumps (cleared serial until (with_dump (new_dump serial o content) shelf)) (told_reels old))
+        abbrev pub tree_c : DumpedDirectory (all_dumps (cleared serial until (with_dump (new_dump serial o content) shelf)) (told_reels old))
         tree_c = rack_c.tree made there_c
 
         all_held : All (λ (u : UserRec). holds made.held u.number ≡ true) made.users
@@ -581,24 +582,24 @@ module _ (serial : ℕ) (o : OnlineFacts) (old : Rack) (reels : AreReels old.ree
         low_m : (e : Dump) → Contains (all_dumps with_made rs) e → e.number ≤ made.number
         low_m e there = up_copied.quiet e there
 
-        dumped_c : dumped_of text tree_c ≡ d
+        pub dumped_c : dumped_of text tree_c ≡ d
         dumped_c =
             dumped_one text (all_dumps shelf_c rs) (all_dumps with_made rs) tree_c tree
             (last_made (all_dumps shelf_c rs) tree_c made there_c low_c rack_c.apart all_held ∙ sym (last_made (all_dumps with_made rs) tree made made_in low_m ready_rack.apart all_held))
             (gathered_made (all_dumps shelf_c rs) tree_c made there_c low_c rack_c.apart all_held ∙ sym (gathered_made (all_dumps with_made rs) tree made made_in low_m ready_rack.apart all_held))
 
-        abbrev v_c : View
+        abbrev pub v_c : View
         v_c = record { text = text; shelf = shelf_c; dumps = all_dumps shelf_c rs; dumped = Some tree_c; opened = None }
 
-        view_c : (held : Option (List (List ℕ))) (x : Contents) → x ≡ moved_by serial o → AreShelved shelf_c (told_reels new) → IsView held (told_reels new) x v_c
-        view_c held x is shelved_new = subst (λ (y : Contents). IsView held (told_reels new) y v_c) (sym is) (record {
+        pub view_c : (qs : List Reel) → ((sh : ℕ → List Dump) → all_dumps sh rs ≡ all_dumps sh qs) → (held : Option (List (List ℕ))) (x : Contents) → x ≡ moved_by serial o → AreShelved shelf_c qs → IsView held qs x v_c
+        view_c qs same_dumps held x is shelved_new = subst (λ (y : Contents). IsView held qs y v_c) (sym is) (record {
           rack = record {
             shelved = shelved_new;
-            all = dumps_new shelf_c;
+            all = same_dumps shelf_c;
             dumped = λ _. rack_c.records tree_c;
             none = λ _ no. absurd (none-some tree_c (sym no));
           };
-          files = All-weaker (λ (f : File). KeepsFile (text f.rec.stamp) (all_dumps shelf_c rs) f) (λ (f : File). HasText (AllTold held (told_reels new)) (text f.rec.stamp) (all_dumps shelf_c rs) f)
+          files = All-weaker (λ (f : File). KeepsFile (text f.rec.stamp) (all_dumps shelf_c rs) f) (λ (f : File). HasText (AllTold held qs) (text f.rec.stamp) (all_dumps shelf_c rs) f)
               (λ f it. record { len = it.rec.len; bytes = it.bytes; tape = λ _ _. it.rec.copy }) (moved_by serial o).files files_c;
         })
 
@@ -610,16 +611,19 @@ module _ (serial : ℕ) (o : OnlineFacts) (old : Rack) (reels : AreReels old.ree
             ≡ record k { places = places; last = k.last + 1; intent = None; kept = from_entries (map (λ e. (e.0, tt)) (entries k.tree.users)) }
         held_done = λ i. let h : state.Holding = record { tree = tree_moved i; places = places; last = k.last + 1; intent = None; kept = kept_now i } in h
 
+        pub rows_gone : AllZip (IsClearedBy serial until None old) old.reels new.reels → map (row_of shelf_c) (told_reels new) ≡ (moved s k serial places d until).reels
+        rows_gone zip = rows_cleared serial old new rising apart_new labels shelf made refl (process_dump k) shelved_is until None none_at some_at refl zip
+
         done_stands : o'.contents ≡ moved_by serial o → o'.changed ≡ [] → AllZip (IsClearedBy serial until None old) old.reels new.reels → AreShelved shelf_c (told_reels new)
             → StandsForState (up_with o' new None) (moved s k serial places d until)
         done_stands contents changed zip shelved_new =
             let held : holding_of text (users_not_in o'.changed o'.contents.users) o'.contents
             ≡ record k { places = places; last = k.last + 1; intent = None; kept = from_entries (map (λ e. (e.0, tt)) (entries k.tree.users)) } =
             (λ j. holding_of text (users_not_in (changed j) (contents j).users) (contents j)) ∙ held_done in
-            let rows_c = rows_cleared serial old new rising apart_new labels shelf made refl (process_dump k) shelved_is until None none_at some_at refl zip in
+            let rows_c = rows_gone zip in
             stands (up_with o' new None) (moved s k serial places d until) refl (record {
               view = v_c;
-              is = view_c o'.disc.held o'.contents contents shelved_new;
+              is = view_c (told_reels new) dumps_new o'.disc.held o'.contents contents shelved_new;
               opens = record { is = λ all qs some. tt };
               state_is = λ i.
                   let u : state.State = record {
@@ -636,8 +640,8 @@ module _ (serial : ℕ) (o : OnlineFacts) (old : Rack) (reels : AreReels old.ree
         released_stand : (blocks : List (List ℕ)) → o'.disc.held ≡ Some blocks → Holds blocks (moved_by serial o) → AllZip (IsClearedBy serial until None old) old.reels new.reels → AreShelved shelf_c (told_reels new)
             → StandsForState (spent_with o' new) (down (moved s k serial places d until))
         released_stand blocks held holds zip shelved_new =
-            let seen_then = view_c o'.disc.held (moved_by serial o) refl shelved_new in
-            let rows_c = rows_cleared serial old new rising apart_new labels shelf made refl (process_dump k) shelved_is until None none_at some_at refl zip in
+            let seen_then = view_c (told_reels new) dumps_new o'.disc.held (moved_by serial o) refl shelved_new in
+            let rows_c = rows_gone zip in
             spent_holding o' new (down (moved s k serial places d until)) v_c (moved_by serial o) blocks held holds seen_then refl refl
             (sym size) (ap Some (sym (held_moved []))) (sym rows_c) (ap Some (sym dumped_c))
 
@@ -645,7 +649,7 @@ module _ (serial : ℕ) (o : OnlineFacts) (old : Rack) (reels : AreReels old.ree
             → AllZip (IsClearedBy serial until (Some n) old) old.reels new.reels → AreShelved shelf_c (told_reels new)
             → StandsForState (spent_with o' new) (down (with_cut (Some (n, used_in (reel n new.reels))) (moved s k serial places d until)))
         cut_release_stands n until_is apart_n taken_n blocks held holds zip shelved_new =
-            let seen_then = view_c o'.disc.held (moved_by serial o) refl shelved_new in
+            let seen_then = view_c (told_reels new) dumps_new o'.disc.held (moved_by serial o) refl shelved_new in
             let rows_c = rows_cut serial old new rising apart_new labels shelf made refl (process_dump k) shelved_is until (Some n) none_at some_at n refl until_is apart_n taken_n zip in
             spent_holding o' new (down (with_cut (Some (n, used_in (reel n new.reels))) (moved s k serial places d until))) v_c (moved_by serial o) blocks held holds seen_then refl refl
             (sym size) (ap Some (sym (held_moved []))) (sym rows_c) (ap Some (sym dumped_c))

@@ -1,4 +1,4 @@
-use Rattle.std.proofs.Common.{◌∙◌, ◌+◌, ◌≤◌, List, arith, subst, sym, take}
+use Rattle.std.proofs.Common.{◌∙◌, ◌+◌, List, arith, subst, sym, take}
 use Rattle.std.proofs.lemmas.List.{take_all}
 use Rattle.g_shelf.specs.declared.rack.Listed.{Listed}
 use Rattle.g_process.specs.Releases.{AreReleased, AreReleasedDurably, taken, zeros}

@@ -1,0 +1,41 @@
+-- Which state a power loss leaves after a run.
+use Rattle.std.specs.Prelude.{◌≡◌, ◌⊎◌, ℕ, Bool, false, List, [], ◌∷◌, ◌++◌, Option}
+use Rattle.std.specs.Fn.{Shared}
+use denote.Ref.{Bor}
+use Rattle.g_rules.specs.declared.tariff.Usage.{Usage}
+use Rattle.g_rules.specs.declared.tariff.Charge.{Charge}
+use Rattle.g_rules.specs.declared.rule.Standing.{Standing}
+use Rattle.g_store_model.specs.CallStep.{down}
+use Rattle.g_store_model.specs.State.{State}
+use Rattle.g_tape.specs.Rack.{Rack}
+use Rattle.g_store_meaning.specs.Safety.{IsLeft, StandLike}
+use Rattle.g_run_model.specs.Devices.{Devices}
+use Rattle.g_run_model.specs.Moves.{Move, Run, Step}
+use Rattle.g_run_model.specs.World.{World}
+
+module _ {F U : Type 0} (tariffs : Shared F (Bor Usage × Unit {0}) Charge) (tariff : F) (rules : Shared U (Bor Standing × Unit {0}) ℕ) (rule : U) where
+  -- These moves lead from one world to the other, and the system is down before each of them and after it.
+  abbrev pub RunDown : World → List Move → World → Type 0
+  RunDown w [] new = new ≡ w
+  RunDown w (move ∷ moves) new = (mid : World) × Step tariffs tariff rules rule w move mid × (w.store.up ≡ false) × (mid.store.up ≡ false) × RunDown mid moves new
+
+  -- A moment of a run since which the system has been down: these moves led to it, and those followed.
+  pub record IsLastUp (first : World) (moves : List Move) (last : World) (before after : List Move) (mid : World) : Type 0 where
+    pub split : moves ≡ before ++ after
+    pub led : Run tariffs tariff rules rule first before mid
+    pub rest : RunDown mid after last
+
+  -- A STATE THAT A POWER LOSS MAY LEAVE after these moves: that of a moment since which the system has been down; or, if a failed write stopped
+  -- the event that led to this moment, another one that the event may leave then.
+  pub data MayBeLeft (first : World) (moves : List Move) (last : World) (u : State) : Type 0 where
+    AsItWas : (before after : List Move) (mid : World) → IsLastUp first moves last before after mid → u ≡ down mid.store → MayBeLeft first moves last u
+    OtherEnd : (before after : List Move) (stop : Move) (was mid other : World) → Run tariffs tariff rules rule first before was
+        → IsLastUp first moves last (before ++ stop ∷ []) after mid → Step tariffs tariff rules rule was stop mid → Step tariffs tariff rules rule was stop other
+        → u ≡ down other.store → MayBeLeft first moves last u
+
+  -- Whatever a power loss leaves of the devices after these moves represents such a state, or one like it. If the system wasn't up during
+  -- them, it may also leave what it could have left before.
+  abbrev pub SurvivesLoss : World → List Move → World → Devices → Devices → Type 0
+  SurvivesLoss first moves last old new = (blocks : List (List ℕ)) (rack : Rack) → IsLeft new.disc new.rack blocks rack
+      → ((u : State) × MayBeLeft first moves last u × StandLike new.disc.size blocks rack u)
+      ⊎ (RunDown first moves last × IsLeft old.disc old.rack blocks rack)
