@@ -39,12 +39,12 @@ module _ {F U : Type 0} (tariffs : Shared F (Bor Usage × Unit {0}) Charge) (tar
         led = run_append tariffs tariff rules rule w a before mid at one last.led;
         rest = last.rest;
       }) same
-  left_behind w mid new a b u one (OtherEnd before after stop was at other ran last step step' same) =
+  left_behind w mid new a b u one (OtherEnd before after stop was at other ran last cut step step' same) =
       OtherEnd (a ++ before) after stop was at other (run_append tariffs tariff rules rule w a before mid was one ran) (record {
         split = ap (λ (ms : List Move). a ++ ms) last.split ∙ sym (append_assoc a (before ++ stop ∷ []) after) ∙ ap (λ (ms : List Move). ms ++ after) (sym (append_assoc a before (stop ∷ [])));
         led = subst (λ (ms : List Move). Runs w ms at) (sym (append_assoc a before (stop ∷ []))) (run_append tariffs tariff rules rule w a (before ++ stop ∷ []) mid at one last.led);
         rest = last.rest;
-      }) step step' same
+      }) cut step step' same
 
   -- what may be left after the first moves may be left after all, if the system stays down
   pub left_before : (w mid new : World) (a b : List Move) (u : State) → Left w a mid u → Down mid b new → Left w (a ++ b) new u
@@ -54,12 +54,12 @@ module _ {F U : Type 0} (tariffs : Shared F (Bor Usage × Unit {0}) Charge) (tar
         led = last.led;
         rest = down_then at mid new after b last.rest two;
       }) same
-  left_before w mid new a b u (OtherEnd before after stop was at other ran last step step' same) two =
+  left_before w mid new a b u (OtherEnd before after stop was at other ran last cut step step' same) two =
       OtherEnd before (after ++ b) stop was at other ran (record {
         split = ap (λ (ms : List Move). ms ++ b) last.split ∙ append_assoc (before ++ stop ∷ []) after b;
         led = last.led;
         rest = down_then at mid new after b last.rest two;
-      }) step step' same
+      }) cut step step' same
 
   -- SURVIVING BOTH PARTS
   pub survives_then : (w mid new : World) (a b : List Move) (old now last : Devices) → Runs w a mid → SurvivesLoss tariffs tariff rules rule w a mid old now

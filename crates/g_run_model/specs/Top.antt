@@ -15,6 +15,7 @@ use Rattle.g_io.specs.Streams.{with_more, HasPutPart}
 use Rattle.g_store_model.specs.State.{State}
 use Rattle.g_run_model.specs.Devices.{Devices}
 use Rattle.g_run_model.specs.Devices.{StandFor}
+use Rattle.g_run_model.specs.Losses.{SurvivesLoss}
 use Rattle.g_store_model.specs.CallStep.{down}
 use Rattle.g_script.specs.declared.operator.Timed.{Timed}
 use Rattle.g_run_model.specs.World.{World, start}
@@ -58,6 +59,23 @@ module _ {F U : Type 0} (tariffs : Shared F (Bor Usage × Unit {0}) Charge) (tar
   abbrev pub IsCut : List ℕ → Devices → Devices → Option (List ℕ) → Option (List ℕ) → Type 0
   IsCut left old new before after = ((new ≡ old) × (after ≡ before))
       ⊎ ((lines : List Timed) × (bad : Option ℕ) × IsParsed (lines_of left) lines bad × EndsShort lines bad old new before after)
+
+module _ {F U : Type 0} (tariffs : Shared F (Bor Usage × Unit {0}) Charge) (tariff : F) (rules : Shared U (Bor Standing × Unit {0}) ℕ) (rule : U) where
+  -- Some events of a run were done, and a prefix of their text was written. Whatever a power loss leaves then is a state that it may leave
+  -- after these events.
+  pub record SurvivesCut (lines : List Timed) (bad : Option ℕ) (s : State) (old new : Devices) (before after : Option (List ℕ)) : Type 0 where
+    pub moves : List Move
+    pub last : World
+    pub run_of : RunOf tariffs tariff rules rule lines bad s old new moves last
+    pub text : HasPutPart before last.text after
+    pub left : SurvivesLoss tariffs tariff rules rule (start lines bad s) moves last old new
+
+  -- WHAT A POWER LOSS LEAVES after the word `run`, with every status: nothing was done and nothing written; or, for every state that the devices
+  -- represented, the text is that of events of a run, all of them or the first ones, and whatever is left is a state that may be left after them.
+  abbrev pub Survives : List ℕ → Devices → Devices → Option (List ℕ) → Option (List ℕ) → Type 0
+  Survives left old new before after = ((new ≡ old) × (after ≡ before))
+      ⊎ ((lines : List Timed) × (bad : Option ℕ) × IsParsed (lines_of left) lines bad
+      × ((s : State) → StandFor old s → SurvivesCut lines bad s old new before after))
 
 -- The line that is printed if the words of the command line aren't known.
 abbrev pub words_line : List ℕ
