@@ -6,7 +6,8 @@ use Rattle.g_script.specs.declared.operator.Operator.{Operator}
 use Rattle.g_script.specs.declared.operator.Operator.TheVariants as line
 use Rattle.g_laws_runs.specs.BeginningAnew.{AreBlank, NoDiscFault, with_new_disc}
 use Rattle.g_day.specs.declared.progress.Failure.{Failure}
-use Rattle.g_day.specs.Parts.{DidLine, DidLineBy, Seen, seen}
+use Rattle.g_day.specs.Losses.{Never}
+use Rattle.g_day.specs.Parts.{DidLine, DidLineFrom, Seen, seen}
 use Rattle.g_day.specs.System.{Down, SystemFacts, Up, devices_in}
 
 -- The same system, with a new disc in place of its own if it is down.
@@ -28,21 +29,18 @@ pub record WentAside (what : Operator) (old : Seen) (failure : Option Failure) (
   pub line : DidLine what (beside old) failure (beside new) before after faults faults'
   pub blank : IsBlank old.system → IsBlank new.system
 
--- Nothing is specified about the safety of a system with a new disc: what a power loss leaves depends on the disc that is there.
-abbrev pub NoClaim : SystemFacts → SystemFacts → Type 0
-NoClaim old new = Unit {0}
-
--- No filestore came up by the line. It leads from and to what is at hand with a new disc. A FORMAT that was processed
+-- No filestore came up by the line. It leads from and to what is at hand with a new disc; nothing is specified about what a power loss leaves
+-- of that. A FORMAT that was processed
 -- without a failure of the run has failed at the disc, which counted it.
 pub record IsUntaken (what : Operator) (old : Seen) (failure : Option Failure) (new : Seen) (before after : Option (List ℕ)) (faults faults' : ℕ) : Type 0 where
-  pub went : DidLineBy NoClaim what (beside old) failure (beside new) before after faults faults'
+  pub went : DidLineFrom Never what (beside old) failure (beside new) before after faults faults'
   pub blank : IsBlank new.system
   pub unwell : failure ≡ None → what ≡ line.Format → NoDiscFault (devices_in old.system) (devices_in new.system) → ⊥
 
 -- A line on devices for starting over, for any outcome: no filestore came up by it, or one did, as from a new disc.
 abbrev pub GoesFirst : Operator → Seen → Option Failure → Seen → Option (List ℕ) → Option (List ℕ) → ℕ → ℕ → Type 0
 GoesFirst what old failure new before after faults faults' =
-    IsBlank old.system → IsUntaken what old failure new before after faults faults' ⊎ DidLineBy NoClaim what (beside old) failure new before after faults faults'
+    IsBlank old.system → IsUntaken what old failure new before after faults faults' ⊎ DidLineFrom Never what (beside old) failure new before after faults faults'
 
 -- What each line does when starting over. Other lines are not specified.
 abbrev pub AnewLine : Operator → Seen → Option Failure → Seen → Option (List ℕ) → Option (List ℕ) → ℕ → ℕ → Type 0

@@ -1,6 +1,7 @@
 pub mod BeginningAnew
 pub mod Box
 pub mod Jobs
+pub mod Losses
 pub mod Opening
 pub mod Parts
 pub mod Puts

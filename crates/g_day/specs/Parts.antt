@@ -17,6 +17,7 @@ use Rattle.g_run_model.specs.World.{World}
 use Rattle.g_job_table.specs.Crew.{CrewState, IsCrewOf}
 use Rattle.g_job_table.specs.Numbers.{AreOpen}
 use Rattle.g_day.specs.declared.progress.Failure.{Failure}
+use Rattle.g_day.specs.Losses.{LineLeft, SystemLeaves}
 use Rattle.g_day.specs.Puts.{FaultCause, HasGrown}
 use Rattle.g_day.specs.System.{Down, DumpsGrow, SameDevices, StandsAs, SystemBelongs, SystemFacts, SystemSafe, Up, devices_in}
 
@@ -63,28 +64,41 @@ DumpsBy true old new = DumpsMove old new
 DumpsBy false old new = DumpsGrow old new
 
 -- The line was done. With an outcome that the counters show it leads to the next world. The system represents the store of
--- that world, and its text is longer.
-pub record DoesLine (what : Operator) (w : World) (old new : SystemFacts) (added : List ℕ) : Type 0 where
+-- that world, and its text is longer. From a safe system, whatever a power loss leaves is a state that it may leave after this line.
+pub record DoesLineFrom (Safe : SystemFacts → Type 0) (what : Operator) (w : World) (old new : SystemFacts) (added : List ℕ) : Type 0 where
   pub outcome : Outcome
   pub next : World
   pub gives : LineGives outcome what w next
   pub counted : CountedBy what outcome (devices_in old) (devices_in new)
   pub stands : StandsAs new next.store
+  pub left : Safe old → LineLeft what outcome w next old new
   pub text : next.text ≡ w.text ++ added
 
--- Nothing was done, because memory ran out.
-pub record DoesNothing (w : World) (old new : SystemFacts) (before after : Option (List ℕ)) : Type 0 where
+-- Nothing was done, because memory ran out. A power loss leaves no more than before.
+pub record DoesNothingFrom (Safe : SystemFacts → Type 0) (w : World) (old new : SystemFacts) (before after : Option (List ℕ)) : Type 0 where
   pub counted : EventCounted Plain [] [] (devices_in old) (devices_in new)
   pub stands : StandsAs new w.store
+  pub left : Safe old → SystemLeaves (λ u. ⊥) (w.store.up ≡ false) old new
   pub text : after ≡ before
+
+-- From a system of which all is claimed.
+abbrev pub DoesLine : Operator → World → SystemFacts → SystemFacts → List ℕ → Type 0
+DoesLine what w old new added = DoesLineFrom SystemSafe what w old new added
+
+abbrev pub DoesNothing : World → SystemFacts → SystemFacts → Option (List ℕ) → Option (List ℕ) → Type 0
+DoesNothing w old new before after = DoesNothingFrom SystemSafe w old new before after
 
 -- For each world that matches what is at hand: if nothing failed, the line was done, its text was written, and the next
 -- world matches what is at hand then. Otherwise it was done and a prefix of its text was written, or nothing was done.
+abbrev pub LineGoesFrom : (SystemFacts → Type 0) → Operator → Seen → Option Failure → Seen → Option (List ℕ) → Option (List ℕ) → Type 0
+LineGoesFrom Safe what old None new before after = (w : World) → Matches w old
+    → (added : List ℕ) × (d : DoesLineFrom Safe what w old.system new.system added) × Matches d.next new × (after ≡ with_more before added)
+LineGoesFrom Safe what old (Some failure) new before after = (w : World) → Matches w old
+    → DoesNothingFrom Safe w old.system new.system before after
+    ⊎ ((added : List ℕ) × DoesLineFrom Safe what w old.system new.system added × HasPutPart before added after)
+
 abbrev pub LineGoes : Operator → Seen → Option Failure → Seen → Option (List ℕ) → Option (List ℕ) → Type 0
-LineGoes what old None new before after = (w : World) → Matches w old
-    → (added : List ℕ) × (d : DoesLine what w old.system new.system added) × Matches d.next new × (after ≡ with_more before added)
-LineGoes what old (Some failure) new before after = (w : World) → Matches w old
-    → DoesNothing w old.system new.system before after ⊎ ((added : List ℕ) × DoesLine what w old.system new.system added × HasPutPart before added after)
+LineGoes what old failure new before after = LineGoesFrom SystemSafe what old failure new before after
 
 -- Whether or not the devices expose their contents, a line arms a device with its number; a line that isn't completed may
 -- not arm it. It was armed within this line.
@@ -106,13 +120,9 @@ FusesBy (line.StopDisc k) d = d.disc.fuse ≡ Some k
 FusesBy (line.StopTape k) d = d.rack.fuse ≡ Some k
 FusesBy what d = Unit {0}
 
--- A safe system stays safe: whatever a power loss leaves of it later, a safe store can be made of that.
-abbrev pub KeepsSafe : SystemFacts → SystemFacts → Type 0
-KeepsSafe old new = SystemSafe old → SystemSafe new
-
--- A part of a run that does a line. `Keeps` is what holds of the system before and after it besides.
-pub record DidLineBy (Keeps : SystemFacts → SystemFacts → Type 0) (what : Operator) (old : Seen) (failure : Option Failure) (new : Seen) (before after : Option (List ℕ)) (faults faults' : ℕ) : Type 0 where
-  pub goes : LineGoes what old failure new before after
+-- A part of a run that does a line. A safe system stays safe: whatever a power loss leaves of it later, a safe store can be made of that.
+pub record DidLineFrom (Safe : SystemFacts → Type 0) (what : Operator) (old : Seen) (failure : Option Failure) (new : Seen) (before after : Option (List ℕ)) (faults faults' : ℕ) : Type 0 where
+  pub goes : LineGoesFrom Safe what old failure new before after
   pub ready : IsReady new.system new.crew
   pub crew : failure ≡ None → LeavesCrew old.crew new.crew
   pub arms : ArmsBy what failure (devices_in old.system) (devices_in new.system)
@@ -120,11 +130,11 @@ pub record DidLineBy (Keeps : SystemFacts → SystemFacts → Type 0) (what : Op
   pub fuses : FusesBy what (devices_in new.system)
   pub same : SameDevices (devices_in old.system) (devices_in new.system)
   pub belongs : SystemBelongs old.system → SystemBelongs new.system
-  pub safe : Keeps old.system new.system
+  pub safe : Safe old.system → Safe new.system
   pub dumps : SystemBelongs old.system → DumpsBy (is_process what) (devices_in old.system).rack (devices_in new.system).rack
   pub cause : FaultCause failure faults faults'
   pub grows : HasGrown before after
 
--- A part of a run that does a line, and keeps a safe system safe.
+-- A part of a run that does a line, from a system of which all is claimed.
 abbrev pub DidLine : Operator → Seen → Option Failure → Seen → Option (List ℕ) → Option (List ℕ) → ℕ → ℕ → Type 0
-DidLine what old failure new before after faults faults' = DidLineBy KeepsSafe what old failure new before after faults faults'
+DidLine what old failure new before after faults faults' = DidLineFrom SystemSafe what old failure new before after faults faults'

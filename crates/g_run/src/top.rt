@@ -13,7 +13,7 @@ ghost use Rattle.g_script.specs.Script.{IsParsed};
 ghost use Rattle.g_script.specs.declared.operator.Timed.{Timed};
 ghost use Rattle.g_store_meaning.specs.Safety.{AreSafe};
 ghost use Rattle.g_laws_store.specs.Moving.{DumpsMove};
-ghost use Rattle.g_run_model.specs.Top.{AreArmings, AreFused, IsCutWords, words_line};
+ghost use Rattle.g_run_model.specs.Top.{AreArmings, AreFused, IsCutWords, Survives, words_line};
 ghost use Rattle.g_laws_runs.specs.Filestores.{HasFilestore};
 ghost use Rattle.g_run.specs.Input.{IsRun};
 ghost use Rattle.g_run.specs.ScriptEnd.{both};
@@ -126,6 +126,11 @@ pub fn george<
     // or RESTORE can make a safe store of them as they are, and of whatever a power loss leaves of them. A power loss within a run is the end of
     // a run on devices that fail from that moment on.
     ensures safe { AreSafe (D.state disc) (T.rack tapes) → AreSafe (D.state result.disc) (T.rack result.tapes) }
+    // And which state that is: of an event since which the system has been down, or, if a failed write stopped that event, another one that
+    // it may lead to.
+    ensures survives { IsRun words.now → AreSafe (D.state disc) (T.rack tapes) → (left : List ℕ) → S.left script.old ≡ Some left →
+        Survives F.Fn tariff.now U.Fn weigh.now left (both (D.state disc) (T.rack tapes)) (both (D.state result.disc) (T.rack result.tapes))
+        (K.written out.old) (K.written out.new) }
 {
     let rules = Rules { tariff, weigh };
     match asked_by(words) {

@@ -19,6 +19,7 @@ use Rattle.g_laws_runs.specs.BeginningAnew.{AreBlank, BeginAnew, NoDiscFault, is
 use Rattle.g_job_table.specs.Numbers.{AreOpen}
 use Rattle.g_day.specs.declared.progress.Failure.{Failure}
 use Rattle.g_day.specs.BeginningAnew.{IsBlank, beside, beside_new}
+use Rattle.g_day.specs.Losses.{LeftAfter, Never}
 use Rattle.g_day.specs.Parts.{IsReady, IsWithin, Matches, Seen}
 use Rattle.g_day.specs.Puts.{FaultCause, HasGrown}
 use Rattle.g_day.specs.System.{Down, DumpsGrow, SameDevices, StandsAs, SystemBelongs, SystemFacts, SystemSafe, devices_in}
@@ -62,13 +63,16 @@ Anything w = Unit {0}
 
 module _ {F U : Type 0} (tariffs : Shared F (Bor Usage × Unit {0}) Charge) (tariff : F) (rules : Shared U (Bor Standing × Unit {0}) ℕ) (rule : U) where
   -- Moves from one world to the next, whose store the system represents; what the devices counted, and the numbers with
-  -- which lines armed each of them. The text is longer.
-  pub record Leads (w : World) (old new : SystemFacts) (moves : List Move) (next : World) (added : List ℕ) : Type 0 where
+  -- which lines armed each of them. The text is longer. A safe system stays safe, and a power loss leaves a state that it may leave after
+  -- these moves.
+  pub record LeadsFrom (Safe : SystemFacts → Type 0) (w : World) (old new : SystemFacts) (moves : List Move) (next : World) (added : List ℕ) : Type 0 where
     pub disc_arms : List ℕ
     pub tape_arms : List ℕ
     pub run : Run tariffs tariff rules rule w moves next
     pub counted : MovesCounted moves disc_arms tape_arms (devices_in old) (devices_in new)
     pub stands : StandsAs new next.store
+    pub safe : Safe old → Safe new
+    pub left : Safe old → LeftAfter tariffs tariff rules rule w moves next old new
     pub bad : next.bad ≡ w.bad
     pub over : next.over ≡ w.over
     pub disc_stops : next.disc_stops ≡ w.disc_stops ++ disc_arms
@@ -76,11 +80,11 @@ module _ {F U : Type 0} (tariffs : Shared F (Bor Usage × Unit {0}) Charge) (tar
     pub text : next.text ≡ w.text ++ added
 
   -- everything was done, its text was written, and these lines remain
-  pub record Arrives (Rests : World → Type 0) (w : World) (rest : List Timed) (old new : Seen) (before after : Option (List ℕ)) : Type 0 where
+  pub record ArrivesFrom (Safe : SystemFacts → Type 0) (Rests : World → Type 0) (w : World) (rest : List Timed) (old new : Seen) (before after : Option (List ℕ)) : Type 0 where
     pub moves : List Move
     pub next : World
     pub added : List ℕ
-    pub leads : Leads w old.system new.system moves next added
+    pub leads : LeadsFrom Safe w old.system new.system moves next added
     pub matches : Matches next new
     pub between : IsBetween next
     pub lines : next.lines ≡ rest
@@ -88,22 +92,38 @@ module _ {F U : Type 0} (tariffs : Shared F (Bor Usage × Unit {0}) Charge) (tar
     pub put : after ≡ with_more before added
 
   -- some of it was done, and a prefix of its text was written
-  pub record Breaks (w : World) (old new : SystemFacts) (before after : Option (List ℕ)) : Type 0 where
+  pub record BreaksFrom (Safe : SystemFacts → Type 0) (w : World) (old new : SystemFacts) (before after : Option (List ℕ)) : Type 0 where
     pub moves : List Move
     pub next : World
     pub added : List ℕ
-    pub leads : Leads w old new moves next added
+    pub leads : LeadsFrom Safe w old new moves next added
     pub put : HasPutPart before added after
 
   -- as far as a failure permits
-  abbrev pub GoesBy : (World → Type 0) → World → List Timed → Seen → Option Failure → Seen → Option (List ℕ) → Option (List ℕ) → Type 0
-  GoesBy Rests w rest old None new before after = Arrives Rests w rest old new before after
-  GoesBy Rests w rest old (Some failure) new before after = Breaks w old.system new.system before after
+  abbrev pub GoesFrom : (SystemFacts → Type 0) → (World → Type 0) → World → List Timed → Seen → Option Failure → Seen → Option (List ℕ) → Option (List ℕ) → Type 0
+  GoesFrom Safe Rests w rest old None new before after = ArrivesFrom Safe Rests w rest old new before after
+  GoesFrom Safe Rests w rest old (Some failure) new before after = BreaksFrom Safe w old.system new.system before after
 
   -- from each world that matches what is at hand, and has these lines left
+  abbrev pub PartGoesFrom : (SystemFacts → Type 0) → (World → Type 0) → List Timed → List Timed → Seen → Option Failure → Seen → Option (List ℕ) → Option (List ℕ) → Type 0
+  PartGoesFrom Safe Rests lines rest old failure new before after =
+      (w : World) → Matches w old → IsBetween w → w.lines ≡ lines → GoesFrom Safe Rests w rest old failure new before after
+
+  -- the same from a system of which all is claimed
+  abbrev pub Leads : World → SystemFacts → SystemFacts → List Move → World → List ℕ → Type 0
+  Leads w old new moves next added = LeadsFrom SystemSafe w old new moves next added
+
+  abbrev pub Arrives : (World → Type 0) → World → List Timed → Seen → Seen → Option (List ℕ) → Option (List ℕ) → Type 0
+  Arrives Rests w rest old new before after = ArrivesFrom SystemSafe Rests w rest old new before after
+
+  abbrev pub Breaks : World → SystemFacts → SystemFacts → Option (List ℕ) → Option (List ℕ) → Type 0
+  Breaks w old new before after = BreaksFrom SystemSafe w old new before after
+
+  abbrev pub GoesBy : (World → Type 0) → World → List Timed → Seen → Option Failure → Seen → Option (List ℕ) → Option (List ℕ) → Type 0
+  GoesBy Rests w rest old failure new before after = GoesFrom SystemSafe Rests w rest old failure new before after
+
   abbrev pub PartGoes : (World → Type 0) → List Timed → List Timed → Seen → Option Failure → Seen → Option (List ℕ) → Option (List ℕ) → Type 0
-  PartGoes Rests lines rest old failure new before after =
-      (w : World) → Matches w old → IsBetween w → w.lines ≡ lines → GoesBy Rests w rest old failure new before after
+  PartGoes Rests lines rest old failure new before after = PartGoesFrom SystemSafe Rests lines rest old failure new before after
 
 -- None of these lines is a PROCESS.
 abbrev pub HaveNoProcess : List Timed → Type 0
@@ -155,7 +175,7 @@ BeginsBy Goes done old failure new = NoneTook Goes done old failure new ⊎ Goes
 module _ {F U : Type 0} (tariffs : Shared F (Bor Usage × Unit {0}) Charge) (tariff : F) (rules : Shared U (Bor Standing × Unit {0}) ℕ) (rule : U) where
   -- these lines, from what is at hand with a new disc
   abbrev pub LinesGo : List Timed → Seen → Option Failure → Seen → Option (List ℕ) → Option (List ℕ) → Type 0
-  LinesGo done old failure new before after = (rest : List Timed) → PartGoes tariffs tariff rules rule Anything (done ++ rest) rest (beside old) failure new before after
+  LinesGo done old failure new before after = (rest : List Timed) → PartGoesFrom tariffs tariff rules rule Never Anything (done ++ rest) rest (beside old) failure new before after
 
   -- No FORMAT succeeded, and a line of another kind was reached. Up to that line the text is that of a run with a new disc;
   -- the disc had counted a failure by then. Nothing is specified about what such a line does with the contents of the disc.
@@ -164,7 +184,7 @@ module _ {F U : Type 0} (tariffs : Shared F (Bor Usage × Unit {0}) Charge) (tar
     pub next : World
     pub added : List ℕ
     pub mid : Devices
-    pub leads : Leads tariffs tariff rules rule w (beside_new old.system) (Down (with_new_disc mid)) moves next added
+    pub leads : LeadsFrom tariffs tariff rules rule Never w (beside_new old.system) (Down (with_new_disc mid)) moves next added
     pub blank : AreBlank mid
     pub unwell : NoDiscFault (devices_in old.system) mid → ⊥
     pub same : SameDevices mid (devices_in new.system)
@@ -184,7 +204,7 @@ module _ {F U : Type 0} (tariffs : Shared F (Bor Usage × Unit {0}) Charge) (tar
     pub grows : HasGrown before after
     -- with a new disc none was done
     pub aside : IsBlank old.system
-        → IsBlank new.system × ((lines : List Timed) → turn_of lines ≡ limit → PartGoes tariffs tariff rules rule Rests lines lines (beside old) failure (beside new) before after)
+        → IsBlank new.system × ((lines : List Timed) → turn_of lines ≡ limit → PartGoesFrom tariffs tariff rules rule Never Rests lines lines (beside old) failure (beside new) before after)
 
   -- these lines, each when it is due or nothing steps; the count doesn't exceed the turns of all
   pub record DidLines (done : List Timed) (old : Seen) (failure : Option Failure) (new : Seen) (before after : Option (List ℕ)) (faults faults' : ℕ) : Type 0 where
@@ -203,5 +223,5 @@ module _ {F U : Type 0} (tariffs : Shared F (Bor Usage × Unit {0}) Charge) (tar
     pub goes : PartGoes tariffs tariff rules rule IsAtRest lines [] old failure new before after
     pub keeps : Keeps lines old failure new faults faults'
     pub anew : BeginAnew lines → IsBlank old.system
-        → BeginsBy (λ s. PartGoes tariffs tariff rules rule IsAtRest lines [] (beside old) failure s before after) lines old failure new
+        → BeginsBy (λ s. PartGoesFrom tariffs tariff rules rule Never IsAtRest lines [] (beside old) failure s before after) lines old failure new
         ⊎ PartMisses tariffs tariff rules rule lines old new before after

@@ -1,6 +1,6 @@
 -- Parts of a tick: from each world that matches what is at hand there are moves to a world that matches what is at hand
 -- then.
-use Rattle.std.specs.Prelude.{◌≡◌, ◌⊎◌, ℕ, ◌+◌, ◌-◌, ◌≤◌, ◌&&◌, ◌||◌, Bool, true, false, not, List, [], ◌++◌, filter, sum_by, Option, Some, None, Result, if◌then◌else◌}
+use Rattle.std.specs.Prelude.{◌≡◌, ◌⊎◌, ℕ, ◌+◌, ◌-◌, ◌≤◌, ◌&&◌, ◌||◌, Bool, true, false, not, List, [], ◌++◌, filter, sum_by, Option, Some, None, Result, Err, if◌then◌else◌}
 use Rattle.std.specs.Fn.{Shared}
 use denote.Ref.{Bor}
 use Rattle.g_io.specs.Streams.{with_more, HasPutPart}
@@ -8,7 +8,8 @@ use Rattle.g_rules.specs.declared.tariff.Usage.{Usage}
 use Rattle.g_rules.specs.declared.tariff.Charge.{Charge}
 use Rattle.g_rules.specs.declared.rule.Standing.{Standing}
 use Rattle.g_plain.specs.declared.faults.StoreFault.{StoreFault}
-use Rattle.g_store_model.specs.CallStep.{Outcome}
+use Rattle.g_plain.specs.declared.faults.StoreFault.TheVariants.{Stopped}
+use Rattle.g_store_model.specs.CallStep.{Cut, Outcome, down}
 use Rattle.g_store_model.specs.DumpSteps.{Stepped as DumpStepped}
 use Rattle.g_store_model.specs.State.{OpenDump, State}
 use Rattle.g_job_table.specs.Numbers.{AreOpen}
@@ -17,6 +18,7 @@ use Rattle.g_job.specs.State.{JobState}
 use Rattle.g_job.specs.Terminal.{is_ready}
 use Rattle.g_incr.specs.Plan.{needs}
 use Rattle.g_tape.specs.Rack.{Rack, is_mounted, reel}
+use Rattle.g_day.specs.Losses.{LeftAfter, SystemLeaves}
 use Rattle.g_day.specs.Parts.{IsReady, Matches, Seen}
 use Rattle.g_day.specs.Puts.{FaultCause, HasGrown}
 use Rattle.g_day.specs.System.{Down, DumpsGrow, SameDevices, StandsAs, SystemBelongs, SystemFacts, SystemSafe, Up, devices_in}
@@ -95,7 +97,13 @@ abbrev pub phase_behind : SystemFacts → Phase
 phase_behind (Up s) = Stepped
 phase_behind (Down d) = Turned
 
--- A step of the open dump from a world: its answer, what is printed for it, and what the devices counted.
+-- A state that a power loss may leave after a dump step from this state: the one that it led to; or, if a failed write stopped it, another one
+-- that it may lead to then.
+pub data StepMayLeave (s : State) (o : Outcome) (state u : State) : Type 0 where
+  AsItWas : u ≡ down state → StepMayLeave s o state u
+  OtherEnd : o ≡ Cut → (other : State) → IsDumpStep s o (Err Stopped) other → u ≡ down other → StepMayLeave s o state u
+
+-- A step of the open dump from a world: its answer, what is printed for it, what the devices counted, and what a power loss leaves.
 pub record StepsTo (w : World) (old new : SystemFacts) (next : World) (added : List ℕ) : Type 0 where
   pub outcome : Outcome
   pub answer : Result DumpStepped StoreFault
@@ -106,6 +114,7 @@ pub record StepsTo (w : World) (old new : SystemFacts) (next : World) (added : L
   pub next_is : next ≡ dump_told dump.number answer state w
   pub counted : DumpCounted outcome (devices_in old) (devices_in new)
   pub stands : StandsAs new next.store
+  pub left : SystemSafe old → SystemLeaves (λ u. StepMayLeave w.store outcome state u) ⊥ old new
   pub text : next.text ≡ w.text ++ added
   pub phase : next.phase ≡ phase_behind new
 
@@ -129,11 +138,14 @@ DumpGoes old (Some failure) new before after = (w : World) → Matches w old
     → (next : World) × (added : List ℕ) × DumpComes w old.system new.system next added × HasPutPart before added after
 
 module _ {F U : Type 0} (tariffs : Shared F (Bor Usage × Unit {0}) Charge) (tariff : F) (rules : Shared U (Bor Standing × Unit {0}) ℕ) (rule : U) where
-  -- Moves from one world to the next, whose store the system represents, with what the devices counted; the text is longer.
+  -- Moves from one world to the next, whose store the system represents, with what the devices counted; the text is longer. A safe system
+  -- stays safe, and a power loss leaves a state that it may leave after these moves.
   pub record Comes (w : World) (old new : SystemFacts) (moves : List Move) (next : World) (added : List ℕ) : Type 0 where
     pub run : Run tariffs tariff rules rule w moves next
     pub counted : MovesCounted moves [] [] (devices_in old) (devices_in new)
     pub stands : StandsAs new next.store
+    pub safe : SystemSafe old → SystemSafe new
+    pub left : SystemSafe old → LeftAfter tariffs tariff rules rule w moves next old new
     pub keeps : KeepsLines w next
     pub text : next.text ≡ w.text ++ added
 
