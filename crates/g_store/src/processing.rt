@@ -2,6 +2,7 @@
 ghost use Rattle.std.specs.Prelude.{◌≡◌, false};
 ghost use Rattle.g_process.specs.Processing.{Processes, process_refuses};
 ghost use Rattle.g_store.specs.Processing.{MovesDumps, StepsProcess};
+ghost use Rattle.g_tape.specs.Rack.{AreReels};
 
 use crate::dumping::is_stop;
 use crate::store::Store;
@@ -27,6 +28,8 @@ impl<D: Disc, T: Tapes> Store<D, T> {
         ensures processes { Processes serial self.old result self.new }
         ensures step { StepsProcess serial self.old result self.new }
         ensures dumps { MovesDumps self.old self.new }
+        // The rack was one of at most 16 reels, in the order of their serials, each within its limits.
+        ensures reels { AreReels self.old.rack.reels }
     {
         match self.process_refused(serial) {
             Some(fault) => return Err(fault),

@@ -1,4 +1,5 @@
 use Rattle.std.proofs.Common.{Err, Ok, Result, ℕ, ◌∙◌, ap, subst, sym}
+use Rattle.g_tape.specs.Rack.{AreReels}
 use Rattle.g_plain.specs.declared.faults.StoreFault.{StoreFault}
 use Rattle.g_store_meaning.specs.Answers.{IsStore}
 use Rattle.g_store_meaning.specs.StoreInvariant.{StoreFacts}
@@ -60,3 +61,12 @@ returns-in-Err-clause-dumps g c =
     (let r : Result ℕ StoreFault = Err c.in-Err.fault in r) c.process.new.online (g.T.Tapes.rack c.process.new.tapes) _
     (err_store c.args.serial c.args.self.now _ _ _ _ c.self.view_is c.requires.running (sym c.in-None.ensures) c.process.new.online (g.T.Tapes.rack c.process.new.tapes) c.in-Err.fault
     c.is_stop-self-inside.result c.is_stop-self-inside.ensures) c.in-Err.ensures
+
+pub returns-in-Some-clause-reels : goal.returns-in-Some-clause-reels
+returns-in-Some-clause-reels g c = subst (λ (x : StoreFacts). AreReels x.rack.reels) c.self.view_is (g.met.T.Tapes.well_formed _)
+
+pub returns-in-Ok-clause-reels : goal.returns-in-Ok-clause-reels
+returns-in-Ok-clause-reels g c = subst (λ (x : StoreFacts). AreReels x.rack.reels) c.self.view_is (g.met.T.Tapes.well_formed _)
+
+pub returns-in-Err-clause-reels : goal.returns-in-Err-clause-reels
+returns-in-Err-clause-reels g c = subst (λ (x : StoreFacts). AreReels x.rack.reels) c.self.view_is (g.met.T.Tapes.well_formed _)
