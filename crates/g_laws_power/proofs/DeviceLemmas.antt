@@ -1,5 +1,5 @@
 -- Safe devices: those of a store that goes down or was stopped, and those of which no store was made.
--- serves: device_losses (durable, format, left, refusals, stops)
+-- serves: device_losses (durable, format, left, refusals, stops), RefusalLemmas
 use Rattle.std.proofs.Common.{◌≡◌, ◌≢◌, ℕ, Bool, true, false, List, [], ◌∷◌, length, map, Option, Some, None, refl, sym, ◌∙◌, ap, arith, subst, inl, inr, option_map, if◌then◌else◌}
 use Rattle.std.specs.Prelude.{◌⊎◌, ◌↔◌, All, Result, find, nat_eq, nat_lt, not}
 use Rattle.std.specs.List.{AllZip, list_any}
@@ -24,10 +24,10 @@ use Rattle.g_store_model.specs.CallStep.{Outcome}
 use Rattle.g_store_meaning.specs.Belonging.{Belong, BelongWith}
 use Rattle.g_store_meaning.specs.Meaning.{told_reels}
 use Rattle.g_store_meaning.specs.Reading.{AllTold}
-use Rattle.g_store_meaning.specs.Safety.{AreSafe, IsRackLeft, IsReelLeft}
+use Rattle.g_store_meaning.specs.Safety.{AreSafe, IsLeft, IsRackLeft, IsReelLeft}
 use Rattle.g_store_meaning.specs.Surviving.{disc_left}
 use Rattle.g_laws_store.proofs.TiedLemmas.{durable_is_safe}
-use Rattle.g_store.specs.Making.{Refuses}
+use Rattle.g_store.specs.Making.{Refuses, RefusesFormat}
 use Rattle.g_store.specs.Refusing.{first_used}
 use Rattle.g_laws_power.specs.Devices.{DurableAreSafe, FormatIsSafe, LeftIsSafe, RefusalsKeepSafe, StopsLeaveSafe}
 use Rattle.g_laws_power.proofs.EventLemmas.{stopped_can_be_safe}
@@ -95,6 +95,14 @@ module _ (old new : Rack) (only : OnlyReads old new) where
   rack_before : (after : Rack) → IsRackLeft new after → IsRackLeft old after
   rack_before after left = record { reels = reels_before old.reels new.reels after.reels only.reels left.reels; durable = left.durable }
 
+-- devices of which no store was made, without a failed write
+pub unwritten : {A : Type 0} {given : Type 0} {by : State → Outcome → Result A StoreFault → State → Type 0} (disc disc' : DiscState) (rack rack' : Rack) (fault : StoreFault) → Refuses given by disc rack fault disc' rack' → fault ≢ Stopped
+    → (blocks : List (List ℕ)) (after : Rack) → IsLeft disc' rack' blocks after → IsLeft disc rack blocks after
+unwritten disc disc' rack rack' fault refuses isnt blocks after left = record {
+  on_disc = may_before disc disc' blocks (refuses.held isnt) refuses.causes.size (refuses.durable isnt) left.on_disc;
+  reels = rack_before rack rack' refuses.tapes after left.reels;
+}
+
 -- reels without blocks had none before
 blank_before : (xs ys : List Reel) → map unread ys ≡ map unread xs → All (λ r. r.len ≡ 0) ys → All (λ r. r.len ≡ 0) xs
 blank_before [] ys same blank = All-nil (λ (r : Reel). r.len ≡ 0)
@@ -141,10 +149,7 @@ module _ {A : Type 0} {given : Type 0} {by : State → Outcome → Result A Stor
           survive_reads serial rack rack' refuses.tapes.durable (same_blocks serial) (safe.now.blank (blank_before rack.reels rack'.reels refuses.tapes.reels empty) serial);
     };
     left = λ blocks after left.
-        let can = safe.left blocks after (record {
-          on_disc = may_before disc disc' blocks (refuses.held isnt) refuses.causes.size (refuses.durable isnt) left.on_disc;
-          reels = rack_before rack rack' refuses.tapes after left.reels;
-        }) in
+        let can = safe.left blocks after (unwritten disc disc' rack rack' fault refuses isnt blocks after left) in
         record { told = can.told; belong = can.belong; disc_safe = left_disc_safe blocks disc'; dumps = can.dumps; blank = can.blank };
   }
 
@@ -180,17 +185,19 @@ not_full : (first : Option ℕ) → ((serial : ℕ) → (Stopped ≡ RackNotEmpt
 not_full None full = refl
 not_full (Some n) full = absurd (let is = (full n).1 refl in let no : ⊥ = cc in no)
 
+-- on which dumps survive, if a failed write stopped it
+pub format_survives : (disc disc' : DiscState) (rack rack' : Rack) (fault : StoreFault) → AreSafe disc rack → RefusesFormat disc rack fault disc' rack' → fault ≡ Stopped → (serial : ℕ) → DumpsSurvive serial rack'
+format_survives disc disc' rack rack' fault safe refuses is serial =
+    let none = not_full (first_used rack.reels) (subst (λ (f : StoreFault). (n : ℕ) → (f ≡ RackNotEmpty n) ↔ (first_used rack.reels ≡ Some n)) is refuses.full) in
+    survive_reads serial rack rack' refuses.refuses.tapes.durable (blocks_after_reads serial rack rack' refuses.refuses.tapes) (safe.now.blank (all_blank rack.reels none) serial)
+
 pub refusals_keep_safe : RefusalsKeepSafe
 refusals_keep_safe = record {
   start = λ disc disc' rack rack' fault safe refuses made.
       keeps_devices disc disc' rack rack' fault safe refuses.refuses refuses.safe (λ is serial. made is serial (safe.now.dumps serial));
   restore = λ disc disc' rack rack' fault safe refuses made.
       keeps_devices disc disc' rack rack' fault safe refuses.refuses refuses.safe (λ is serial. made is serial (safe.now.dumps serial));
-  format = λ disc disc' rack rack' fault safe refuses.
-      keeps_devices disc disc' rack rack' fault safe refuses.refuses refuses.safe
-      (λ is serial.
-      let none = not_full (first_used rack.reels) (subst (λ (f : StoreFault). (n : ℕ) → (f ≡ RackNotEmpty n) ↔ (first_used rack.reels ≡ Some n)) is refuses.full) in
-      survive_reads serial rack rack' refuses.refuses.tapes.durable (blocks_after_reads serial rack rack' refuses.refuses.tapes) (safe.now.blank (all_blank rack.reels none) serial));
+  format = λ disc disc' rack rack' fault safe refuses. keeps_devices disc disc' rack rack' fault safe refuses.refuses refuses.safe (format_survives disc disc' rack rack' fault safe refuses);
 }
 
 -- FORMAT

@@ -1,8 +1,10 @@
 pub mod DeviceLemmas
+pub mod DownLemmas
 pub mod EventLemmas
 mod LeftLemmas
 pub mod ProcessLossLemmas
-mod ProcessStateLemmas
+pub mod ProcessStateLemmas
+pub mod RefusalLemmas
 pub mod StepLemmas
-mod StepStateLemmas
+pub mod StepStateLemmas
 pub mod SurvivalLemmas

@@ -1,3 +1,4 @@
 pub mod Devices
 pub mod Events
 pub mod Losses
+pub mod Refusals

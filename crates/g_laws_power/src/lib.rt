@@ -4,6 +4,7 @@
 ghost use Rattle.g_laws_power.specs.Devices.{DurableAreSafe, FormatIsSafe, LeftIsSafe, RefusalsKeepSafe, StepsKeepSafe, StopsLeaveSafe};
 ghost use Rattle.g_laws_power.specs.Events.{EventsKeepSafe, ProcessKeepsSafe, StoppedCanBeSafe, StoppedEventsSurvive, StoppedProcessSurvives, StoppedStepsSurvive};
 ghost use Rattle.g_laws_power.specs.Losses.{CallsKeepSafe, LeftCanBeSafe, LeftIsDurable, MakingIsSafe, StoppedCallsSurvive, StoreSurvives};
+ghost use Rattle.g_laws_power.specs.Refusals.{RefusalsSurvive};
 
 /// A power loss between two calls of a safe store leaves disc and rack with what the store would leave by going down. After a call
 /// that was stopped it leaves them with what the call may leave. Each other call leaves the store safe. Of what is left, START or
@@ -48,4 +49,10 @@ pub fn device_losses()
     ensures format { FormatIsSafe }
     ensures left { LeftIsSafe }
     ensures durable { DurableAreSafe }
+{}
+
+/// If START, RESTORE or FORMAT makes no store of safe devices, a power loss leaves what it could have left before. If a failed write
+/// stopped it, the loss leaves a state that it may lead to then.
+pub fn refusal_losses()
+    ensures { RefusalsSurvive }
 {}
