@@ -14,10 +14,10 @@ use Rattle.g_laws_power.proofs.DeviceLemmas.{stops_leave_safe}
 use Rattle.g_laws_power.proofs.EventLemmas.{process_keeps_safe}
 use Rattle.g_laws_power.proofs.ProcessStateLemmas.{stopped_process_survives}
 use Rattle.g_store_model.specs.CallStep.{Cut, DiscRead, Outcome, Plain, TapeRead, down}
-use Rattle.g_store_model.specs.DumpSteps.{open_number}
-use Rattle.g_store_model.specs.Process.{Marked, Moved, NotYet, ProcessLeft, ProcessStep, Processes as Steps, process_needs, process_refuses, process_refuses_late}
+use Rattle.g_store_model.specs.DumpSteps.{open_number, with_used}
+use Rattle.g_store_model.specs.Process.{Marked, Moved, NotYet, ProcessLeft, ProcessStep, Processes as Steps, marked_by, moved, process_needs, process_refuses, process_refuses_late, with_cut, with_intent}
 use Rattle.g_store_model.specs.Rising.{fault_from}
-use Rattle.g_store_model.specs.State.{Holding, State, capacity_in, end_of, first_reel, lacks, reel_at}
+use Rattle.g_store_model.specs.State.{Holding, State, capacity_in, end_of, first_reel, lacks, reel_at, with_reel}
 use Rattle.g_store_meaning.specs.StoreInvariant.{StoreFacts}
 use Rattle.g_script.specs.declared.operator.Operator.TheVariants as line
 use Rattle.g_run_model.specs.Devices.{Devices}
@@ -97,10 +97,10 @@ stopped = Err Stopped
 
 module _ (s : State) (k : Holding) (serial : ℕ) (u : State) where
   left_down : ProcessLeft s k serial u → down u ≡ u
-  left_down (NotYet used (inl is)) = went_down _ u is
-  left_down (NotYet used (inr is)) = went_down _ u is
-  left_down (Marked d p is) = went_down _ u is
-  left_down (Moved places d p are copies until cut released is) = went_down _ u is
+  left_down (NotYet used (inl is)) = went_down s u is
+  left_down (NotYet used (inr is)) = went_down (record s { reels = with_reel serial (with_used used) s.reels; holding = Some (with_intent s serial k) }) u is
+  left_down (Marked d p is) = went_down (record (marked_by s k serial d) { holding = Some (with_intent s serial k) }) u is
+  left_down (Moved places d p are copies until cut released is) = went_down (with_cut cut (moved s k serial places d until)) u is
 
   steps_down : (o : Outcome) → Steps s k serial o stopped u → down u ≡ u
   steps_down Plain (same, done) = absurd (let no : ⊥ = cc in no)
