@@ -2,7 +2,7 @@
 ghost use Rattle.std.specs.Prelude.{◌≡◌, ◌≤◌, None, Some, false, is_some, option_map, true, unwrap_or};
 ghost use Rattle.std.specs.FinMap as finmap;
 ghost use Rattle.g_base.specs.Fuse.{armed_with};
-ghost use Rattle.g_tape.specs.Rack.{AreReels, is_mounted, reel};
+ghost use Rattle.g_tape.specs.Rack.{is_mounted, reel};
 ghost use Rattle.g_tree.specs.Records.{users_by_name};
 ghost use Rattle.g_incr.specs.Plan.{needs};
 ghost use Rattle.g_store_model.specs.State.{State};
