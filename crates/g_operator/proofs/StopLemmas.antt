@@ -1,6 +1,6 @@
 -- A DEVICE IS ARMED by a line.
 -- serves: arm_disc (armed, aside), arm_tape (armed, aside), stop_disc_line (anew, line), stop_tape_line (anew, line)
-use Rattle.std.proofs.Common.{◌≡◌, ℕ, ◌+◌, ◌<◌, ◌≤◌, ◌++◌, List, [], ◌∷◌, Option, Some, refl, sym, ◌∙◌, ap, subst}
+use Rattle.std.proofs.Common.{◌≡◌, ℕ, ◌<◌, ◌≤◌, ◌++◌, List, [], ◌∷◌, Option, Some, refl, sym, ◌∙◌, ap, subst}
 use Rattle.std.specs.Prelude.{codes}
 use Rattle.g_base.specs.Fuse.{IsArmedBy, armed_with}
 use Rattle.g_base.proofs.FuseLemmas.{within_all, within_none}

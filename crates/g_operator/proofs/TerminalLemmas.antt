@@ -1,7 +1,7 @@
 -- The lines of terminals: a job is accepted at one, a line is typed there, and it is logged out.
 -- serves: log_out_at (left), login_line, logout_line, seat_job (seated), type_at (typed), type_line
-use Rattle.std.proofs.Common.{◌≡◌, ℕ, ◌+◌, ◌==◌, ◌++◌, All, Bool, true, false, List, [], ◌∷◌, Option, Some, None, append-nil, cond, refl, sym, ◌∙◌, ap, subst, inl, inr, arith}
-use Rattle.std.specs.Prelude.{◌⊎◌, Err, IfOk, Ok, Result, find, if◌then◌else◌, codes}
+use Rattle.std.proofs.Common.{◌≡◌, ℕ, ◌+◌, ◌==◌, ◌++◌, Bool, true, false, List, [], ◌∷◌, Option, Some, None, append-nil, cond, refl, sym, ◌∙◌, ap, subst, inl, inr, arith}
+use Rattle.std.specs.Prelude.{Err, IfOk, Ok, Result, find, if◌then◌else◌, codes}
 use Rattle.std.proofs.lemmas.List.{append_assoc}
 use Rattle.std.proofs.lemmas.List.Elements.{All-from_recursion, All-push, recursion_from_All}
 use Rattle.std.specs.List.{AllByRecursion}
@@ -34,19 +34,17 @@ use Rattle.g_job_table.specs.declared.seating.NotSeated.{NotSeated}
 use Rattle.g_job_table.specs.declared.seating.NotSeated.TheVariants as seat
 use Rattle.g_job_table.specs.declared.seating.NoTerminal.{NoTerminal}
 use Rattle.g_job_table.specs.declared.seating.NotTyped.TheVariants as typing
-use Rattle.g_job_table.specs.declared.taking.NotTaken.{NotTaken}
 use Rattle.g_job_table.specs.declared.taking.NotTaken.TheVariants as why
 use Rattle.g_day.specs.declared.progress.Failure.{Failure}
 use Rattle.g_day.specs.declared.progress.Failure.TheVariants.{Memory}
 use Rattle.g_day.specs.Jobs.{KnowsIn}
 use Rattle.g_day.specs.Parts.{DidLine, DoesLine, IsReady, LeavesCrew, Matches, Seen, disc_arms, seen, tape_arms}
 use Rattle.g_day.specs.System.{Down, SystemFacts, SystemSafe, Up, devices_in}
-use Rattle.g_day.specs.Telling.{TellsFault, refusal_text, system_behind}
+use Rattle.g_day.specs.Telling.{TellsFault, system_behind}
 use Rattle.g_day.specs.Puts.{Puts}
 use Rattle.g_day.specs.Terminals.{ChangesAt, SeatsJob, TellsSeat, is_up_in, login_text, seated_in}
 use Rattle.g_day.proofs.ByLemmas.{grown_by, plain_counted}
 use Rattle.g_day.proofs.GrowLemmas.{grow_itself}
-use Rattle.g_day.proofs.LeavesLemmas.{leaves_same}
 use Rattle.g_day.proofs.JobLemmas.{jobs_more, known_up}
 use Rattle.g_day.proofs.LineLemmas.{none_armed, nothing_done, quiet_line, refused_line, says_refused, was_done}
 use Rattle.g_day.proofs.UpLemmas.{up_is}

@@ -4,7 +4,6 @@ use Rattle.g_plain.specs.declared.faults.StoreFault.{StoreFault}
 use Rattle.g_plain.specs.declared.faults.StoreFault.TheVariants.{Stopped}
 use Rattle.g_store_model.specs.DumpSteps.{MountStep, UnmountStep}
 use Rattle.g_store_model.specs.State.{State}
-use Rattle.g_run_model.specs.Devices.{Devices}
 use Rattle.g_day.specs.Losses.{LeavesLess}
 use Rattle.g_day.specs.System.{Down, DumpsGrow, StandsAs, SystemBelongs, SystemFacts, SystemSafe, Up, devices_in, labels}
 

@@ -1,4 +1,3 @@
-use Rattle.std.proofs.Common.{◌++◌}
 use Rattle.std.specs.Prelude.{codes}
 use Rattle.g_run_model.specs.Texts.{dump_text}
 use Rattle.g_day.specs.System.{facts_of}

@@ -1,4 +1,4 @@
-use Rattle.std.proofs.Common.{◌≡◌, refl, sym, ap, subst}
+use Rattle.std.proofs.Common.{refl, sym, ap, subst}
 use Rattle.std.specs.Prelude.{Err}
 use Rattle.g_plain.specs.declared.faults.StoreFault.TheVariants.{NotStarted}
 use Rattle.g_operator.specs.Asking.{AsksOf, Opened}

@@ -1,4 +1,4 @@
-use Rattle.std.proofs.Common.{◌≡◌, None, Some, refl, sym, ap, subst}
+use Rattle.std.proofs.Common.{None, Some, refl, sym, ap, subst}
 use Rattle.g_day.specs.Jobs.{KnowsIn}
 use Rattle.g_day.specs.System.{IsRunning, SystemFacts, facts_of}
 use Rattle.g_day.proofs.JobLemmas.{known_by}

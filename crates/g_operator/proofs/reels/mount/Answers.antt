@@ -1,7 +1,6 @@
 use Rattle.std.proofs.Common.{true, sym, ap, refl, subst}
 use Rattle.g_tape.specs.Rack.{refuses_mount}
 use Rattle.g_run_model.specs.Devices.{Devices}
-use Rattle.g_laws_runs.specs.BeginningAnew.{with_new_disc}
 use Rattle.g_day.specs.BeginningAnew.{IsBlank, beside_new}
 use Rattle.g_operator.specs.Reels.{MountsOn}
 use Rattle.g_day.specs.System.{Down, IsRunning, SystemFacts, Up, facts_of}

@@ -1,4 +1,4 @@
-use Rattle.std.proofs.Common.{◌≡◌, ◌<◌, ◌≤◌, refl, sym, ap, subst, inl}
+use Rattle.std.proofs.Common.{◌<◌, ◌≤◌, refl, sym, ap, subst, inl}
 use Rattle.std.specs.Prelude.{IfErr, IfOk}
 use Rattle.g_disc.specs.Disc.{DiscState}
 use Rattle.g_operator.specs.Rising.{MakesNone, Raises}

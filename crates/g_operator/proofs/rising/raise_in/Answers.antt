@@ -1,4 +1,4 @@
-use Rattle.std.proofs.Common.{◌≡◌, sym, ap, subst, inr}
+use Rattle.std.proofs.Common.{sym, ap, subst, inr}
 use Rattle.g_disc.specs.Disc.{DiscState}
 use Rattle.g_store_meaning.specs.StoreInvariant.{StoreFacts}
 use Rattle.g_operator.specs.Rising.{Raises, RefusesRise}

@@ -1,5 +1,4 @@
-use Rattle.std.proofs.Common.{◌≡◌, ◌+◌, ◌<◌, ◌++◌, ℕ, List, refl, sym, ◌∙◌, ap, subst}
-use Rattle.g_job_table.specs.Crew.{CrewState}
+use Rattle.std.proofs.Common.{◌≡◌, ◌+◌, ◌<◌, refl, sym, subst}
 use Rattle.g_day.specs.Parts.{Seen, seen}
 use Rattle.g_day.specs.System.{facts_of}
 use Rattle.g_day.specs.Terminals.{SeatsJob}
