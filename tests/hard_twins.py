@@ -98,6 +98,30 @@ def tests(hard):
             check_same("has what the first one has", folder)
             check("the rack is one that was never alone", dict(rack_of(folder, RACK)) == rack_of(folder, SECOND))
 
+    def histories():
+        """Two racks that have given one number to two dumps are refused before anything is rebuilt; a twin that is only older is rebuilt."""
+        with Folder() as folder, Folder() as other:
+            check_run("a store", folder.run(DUMP_SCRIPT), 0, DUMP_TEXT)
+            check("another store", other.run(LONG_SCRIPT)[0] == 0)
+            os.rename(other.at(RACK), folder.at(SECOND))
+            before = racks_of(folder), folder.image()
+            said = (
+                b"george: the two racks have different histories, and one would be lost\n"
+                b"george: dump 1 is on reel 1 of george.tapes and on reel 1 of george.tapes2, and isn't the same; move one of the racks away\n"
+            )
+            check_told("two racks of two stores", folder.run(START), 7, b"", said)
+            check("nothing of them changes", (racks_of(folder), folder.image()) == before)
+            os.rename(folder.at(RACK), folder.at("first"))
+            os.rename(folder.at(SECOND), folder.at(RACK))
+            os.rename(folder.at("first"), folder.at(SECOND))
+            check("nor the other way round", folder.run(START)[0] == 7)
+        with with_pair() as (folder, ended):
+            os.rename(folder.at(SECOND), folder.at("away"))
+            check("another dump over one rack", folder.run(b"0 START\n0 MOUNT 1\n0 DUMP 1\n")[0] == 0)
+            os.rename(folder.at("away"), folder.at(SECOND))
+            check_told("the older twin comes back", folder.run(START), 0, START_TEXT, rebuilt((1, "second")))
+            check_same("and is rebuilt", folder)
+
     def damages():
         """What is done to one folder before a start: its words, what does it, and whether the twin is whole again behind it."""
 
@@ -470,7 +494,7 @@ def tests(hard):
                 check_same(f"both racks behind block {block}", folder, reels)
 
     more = (begun_again, unreadable, torn_off, rebuilt_in_part)
-    return (two_racks, damaged, broken, links, kinds, locks, torn, full_second, failing_calls, kills_in_runs, kills_in_rebuilding, *more)
+    return (two_racks, histories, damaged, broken, links, kinds, locks, torn, full_second, failing_calls, kills_in_runs, kills_in_rebuilding, *more)
 
 
 if __name__ == "__main__":

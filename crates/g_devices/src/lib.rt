@@ -23,6 +23,6 @@ pub use looking::look_at;
 pub use names::is_there;
 pub use pair::open_duplex;
 pub use pair_fault::PairFault;
-pub use rack::{HostTapes, open_rack};
+pub use rack::{HostTapes, look_at_rack, open_rack};
 pub use streams::placeholders;
 pub use words::{texts_of, words_of};

@@ -42,7 +42,7 @@ pub fn open_rack(rt: &HostRuntime, folder: &str) -> io::Result<HostTapes> {
 /// Opens an existing rack for a look: its reels can't be written, and are locked so that no run takes them.
 ///
 /// The error is `NotFound` if there is none, `WouldBlock` if a run has it; otherwise it is one of `open_rack`.
-pub(crate) fn look_at_rack(rt: &HostRuntime, folder: &str) -> io::Result<HostTapes> {
+pub fn look_at_rack(rt: &HostRuntime, folder: &str) -> io::Result<HostTapes> {
     let opened = open_folder(rt, folder)?;
     reels_in(rt, folder, opened, Access::Look)
 }

@@ -26,7 +26,7 @@ module _ {A : Type 0} {given : Type 0} {by : State → Outcome → Result A Stor
   stops_like is survive =
       let (had, at) = some_of disc.held safe.now.told.disc in
       let leads : LeadsDown by s disc rack Stopped (disc_left blocks disc') rack' =
-          subst (λ (f : StoreFault). StepsDown by s disc rack f (disc_left blocks disc') rack') is ((refuses.survives is safe.now.disc_safe had at blocks left.on_disc).step safe.now.told is_given s stands) in record {
+      subst (λ (f : StoreFault). StepsDown by s disc rack f (disc_left blocks disc') rack') is ((refuses.survives is safe.now.disc_safe had at blocks left.on_disc).step safe.now.told is_given s stands) in record {
         outcome = leads.outcome;
         after = leads.after;
         step = leads.step;

@@ -12,14 +12,13 @@ use crate::checking::{check, check_words};
 use crate::console::{console, console_words};
 use crate::explain::tell_bad;
 use crate::noted::Noted;
+use crate::racks::open_racks;
 use crate::rules::run_by_rules;
 use crate::telling::{tell_lost, tell_missing, tell_rebuilt, tell_unusable, tell_usage};
+use crate::unusable::Unusable;
 use g_base::NoMemory;
 use g_demo::{Asked, asked_by};
-use g_devices::{
-    HostFile, HostInput, HostOutput, HostTapes, PairFault, is_there, open_duplex, open_image,
-    open_rack,
-};
+use g_devices::{HostFile, HostInput, HostOutput, HostTapes, is_there, open_image, open_rack};
 use g_disc::{Disc, MemoryDisc};
 use g_duplex::Duplex;
 use g_files::{FileDisc, StdSink, StdSource};
@@ -104,13 +103,13 @@ fn on_files(rt: &HostRuntime, words: &[&str]) -> u8
 
 /// Opens the image, and then the rack, exclusively for this run, and runs on them; it creates each if it is missing. If anything
 /// has the second rack's name, it opens that too, and both are one rack.
-fn run_on_files(rt: &HostRuntime, words: &[&str]) -> Result<u8, PairFault>
+fn run_on_files(rt: &HostRuntime, words: &[&str]) -> Result<u8, Unusable>
     ensures known { IfOk result (λ code. IsRun words.now → IsExit IsOfRun code) }
 {
     tell_missing(rt);
     let mut disc = open_image(rt, IMAGE)?;
     if is_there(rt, SECOND_RACK)? {
-        let (pair, rebuilt) = open_duplex(rt, RACK, SECOND_RACK)?;
+        let (pair, rebuilt) = open_racks(rt)?;
         tell_rebuilt(rt, &rebuilt);
         tell_blank(rt, &mut disc, &pair);
         return Ok(closed_pair(rt, run(rt, words, disc, pair)));

@@ -6,12 +6,12 @@ ghost use Rattle.g_program.specs.Exit.{IsConsole, IsExit};
 use crate::answer::{IMAGE, NO_IMAGE, RACK, SECOND_RACK, closed, closed_pair};
 use crate::blank::tell_blank;
 use crate::explained::Explained;
+use crate::racks::open_racks;
 use crate::rules::session_by_rules;
 use crate::telling::{tell_missing, tell_no_log, tell_rebuilt, tell_unusable};
+use crate::unusable::Unusable;
 use g_base::WriteFailed;
-use g_devices::{
-    HostOutput, PairFault, StdConsole, are_terminals, is_there, open_duplex, open_image, open_rack,
-};
+use g_devices::{HostOutput, StdConsole, are_terminals, is_there, open_image, open_rack};
 use g_disc::Disc;
 use g_files::StdSink;
 use g_io::Sink;
@@ -64,13 +64,13 @@ pub(crate) fn console(rt: &HostRuntime, log: Option<&str>) -> u8
 }
 
 /// Opens image and rack as a run does, and then makes the log.
-fn on_files(rt: &HostRuntime, log: Option<&str>) -> Result<u8, PairFault>
+fn on_files(rt: &HostRuntime, log: Option<&str>) -> Result<u8, Unusable>
     ensures { IfOk result (λ code. (code ≡ 7) ⊎ IsExit IsOfSession code) }
 {
     tell_missing(rt);
     let mut disc = open_image(rt, IMAGE)?;
     if is_there(rt, SECOND_RACK)? {
-        let (pair, rebuilt) = open_duplex(rt, RACK, SECOND_RACK)?;
+        let (pair, rebuilt) = open_racks(rt)?;
         tell_rebuilt(rt, &rebuilt);
         tell_blank(rt, &mut disc, &pair);
         return Ok(match log_file(rt, log) {

@@ -10,8 +10,10 @@ mod console;
 mod explain;
 mod explained;
 mod noted;
+mod racks;
 mod rules;
 mod telling;
+mod unusable;
 
 use crate::answer::answer;
 use g_devices::{placeholders, texts_of, words_of};

@@ -2,8 +2,10 @@
 //! the text of a run. A message that can't be printed is dropped.
 
 use crate::answer::{IMAGE, RACK, SECOND_RACK};
+use crate::unusable::Unusable;
 use g_devices::{PairFault, is_there};
 use g_duplex::Twin;
+use g_forks::Fork;
 use std::io::ErrorKind;
 
 /// How the program is used.
@@ -54,8 +56,28 @@ pub(crate) fn tell_lost(rt: &HostRuntime, lost: &[(u32, Twin)]) {
     }
 }
 
-/// Reports why image and rack can't be used; and if that lies in a reel of one of two racks, which it is and what to do.
-pub(crate) fn tell_unusable(rt: &HostRuntime, fault: &PairFault) {
+/// Reports why image and rack can't be used.
+pub(crate) fn tell_unusable(rt: &HostRuntime, fault: &Unusable) {
+    match fault {
+        Unusable::Racks(fault) => tell_closed(rt, fault),
+        Unusable::Forked(fork) => tell_forked(rt, fork),
+    }
+}
+
+/// Reports which number the two racks have given to two dumps.
+fn tell_forked(rt: &HostRuntime, fork: &Fork) {
+    let number = fork.first.number;
+    let (first, second) = (fork.first.serial, fork.second.serial);
+    let _told = eprintln!(rt;
+        "george: the two racks have different histories, and one would be lost"
+    );
+    let _told = eprintln!(rt;
+        "george: dump {number} is on reel {first} of {RACK} and on reel {second} of {SECOND_RACK}, and isn't the same; move one of the racks away"
+    );
+}
+
+/// Reports why image and racks can't be opened or made; and if that lies in a reel of one of two racks, which it is and what to do.
+fn tell_closed(rt: &HostRuntime, fault: &PairFault) {
     let cause = cause_of(fault.kind());
     let _told = eprintln!(rt; "george: {cause}");
     match fault {

@@ -1,0 +1,3 @@
+mod ForkLemmas
+mod HeldLemmas
+mod MountLemmas
