@@ -360,9 +360,9 @@ module _ (old new : StoreFacts) (unspent : old.spent ≡ false) (c : CrewState) 
       let other : IsDumpStep w.store Cut (Err Stopped) stops.after = (stops.held, stops.step.0, stops.holds, stops.step.1, step, refl) in
       let cut : k.outcome ≡ Cut = k.step.4.0 in
       inl (
-      stops.after,
-      OtherEnd cut stops.after (subst (λ (o : Outcome). IsDumpStep w.store o (Err Stopped) stops.after) (sym cut) other) (like_down stops.after stops.stand),
-      stops.stand,
+        stops.after,
+        OtherEnd cut stops.after (subst (λ (o : Outcome). IsDumpStep w.store o (Err Stopped) stops.after) (sym cut) other) (like_down stops.after stops.stand),
+        stops.stand,
       )
 
   steps_down : KeepsDumpsSafe old (Err Stopped) new → (w : World) (m : Matches w (seen (Up old) c count)) (k : Came old new unspent c count (Err Stopped) event is w)

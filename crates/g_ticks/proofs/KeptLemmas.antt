@@ -1,6 +1,6 @@
 -- What holds of every device after a turn.
 -- serves: DumpLemmas, TakenLemmas
-use Rattle.std.proofs.Common.{◌≡◌, ℕ, true, false, List, Option, Some, None, refl, sym, ◌∙◌, ap, subst, inl, inr}
+use Rattle.std.proofs.Common.{◌≡◌, ℕ, true, List, Option, Some, None, refl, sym, ◌∙◌, ap, subst, inl, inr}
 use Rattle.std.specs.Prelude.{◌↔◌}
 use Rattle.g_job.specs.Spending.{SpendsBy}
 use Rattle.g_job.specs.State.{JobState}
@@ -15,7 +15,7 @@ use Rattle.g_run_model.specs.Texts.{shown}
 use Rattle.g_day.specs.declared.progress.Failure.{Failure}
 use Rattle.g_day.specs.declared.progress.Failure.TheVariants.{Memory}
 use Rattle.g_day.specs.Parts.{IsReady, seen}
-use Rattle.g_day.specs.System.{Down, DumpsGrow, SystemBelongs, SystemFacts, SystemSafe, Up, SameDevices, devices_in}
+use Rattle.g_day.specs.System.{Down, DumpsGrow, SystemBelongs, SystemFacts, Up, SameDevices, devices_in}
 use Rattle.g_ticks.specs.Tick.{KeepsRun}
 use Rattle.g_ticks.specs.Turning.{EndsTurn, LeftBy}
 use Rattle.g_ticks.proofs.RanLemmas.{StaysOver, StaysSafe}

@@ -1,6 +1,6 @@
 -- What a turn's calls leave unchanged, whether or not the devices expose their contents; that they leave safe devices; and
 -- which reels a state has mounted.
--- serves: job_steps, take_turn, FallLemmas, KeptLemmas, RestLemmas, TakenLemmas
+-- serves: job_steps, take_turn, FallLemmas, KeptLemmas, RestLemmas, StoppedCallLemmas, TakenLemmas, TurningLemmas
 use Rattle.std.proofs.Common.{◌≡◌, ◌⊎◌, ℕ, true, false, List, [], ◌∷◌, None, Err, refl, sym, ◌∙◌, ap, subst, inl, inr}
 use Rattle.std.proofs.lemmas.Bool.{false≢true}
 use Rattle.g_turn.specs.Causes.{IsHonest, IsOther, StopsAt}

@@ -1,6 +1,6 @@
 -- A turn as moves of a run, and what a power loss leaves if a failed write stopped one of its calls: a state that the stopped call may leave.
 -- serves: TurningLemmas
-use Rattle.std.proofs.Common.{◌≡◌, ◌⊎◌, ℕ, true, false, List, [], ◌∷◌, ◌++◌, map, Option, Some, None, Err, slice_get, append-nil, refl, sym, ◌∙◌, ap, subst, inl, inr}
+use Rattle.std.proofs.Common.{◌≡◌, ◌⊎◌, ℕ, true, false, List, [], ◌∷◌, ◌++◌, map, Some, None, Err, slice_get, append-nil, refl, sym, ◌∙◌, ap, subst, inl, inr}
 use Rattle.std.specs.Fn.{Shared}
 use denote.Ref.{Bor}
 use Rattle.std.proofs.lemmas.Bool.{false≢true}
@@ -33,7 +33,7 @@ use Rattle.g_laws_power.proofs.DownLemmas.{like_down}
 use Rattle.g_laws_power.proofs.SurvivalLemmas.{calls_keep_safe, stopped_calls_survive}
 use Rattle.g_tape.specs.Rack.{Rack}
 use Rattle.g_run_model.specs.Events.{IsCall}
-use Rattle.g_run_model.specs.Losses.{IsLastUp, MayBeLeft, OtherEnd}
+use Rattle.g_run_model.specs.Losses.{MayBeLeft, OtherEnd}
 use Rattle.g_run_model.specs.Moves.{Answered, Begin, EventCounted, Move, MovesCounted, Run, Step, TurnOver, turn_told}
 use Rattle.g_run_model.specs.World.{KeepsLines, World, able, is_due, job_of, shows}
 use Rattle.g_run_model.proofs.CountLemmas.{event_none, move_counted, moves_then}
@@ -229,11 +229,11 @@ module _ (counts : CausesCount) {F U : Type 0} (tariffs : Shared F (Bor Usage ×
         begin_then (m.moves ++ over) new (moves_then m.moves over [] [] [] [] (devices_of old) (devices_of new) (devices_of new) m.counted (move_counted (TurnOver job.number charge) [] [] (devices_of new) (devices_of new) (event_none (devices_of new)))),
         record { lines = kept.lines; bad = kept.bad; over = kept.over; count = kept.count; disc_stops = kept.disc_stops; tape_stops = kept.tape_stops },
         λ safe spent blocks rack left.
-        let (u, may, stand) = m.leaves safe spent blocks rack left in
-        let is_down : m.state.up ≡ false = ap (λ (t : State). t.up) (spent_stands new spent m.state m.now.stands).state_is in
-        let still : last.store.up ≡ false = ap (λ (t : State). t.up) (turned_store w job m.state work turn after) ∙ is_down in
-        let all = left_before tariffs tariff rules rule begun asked last m.moves over u may (last, ended, is_down, still, refl) in
-        (u, left_behind tariffs tariff rules rule w begun last (Begin job.number ∷ []) (m.moves ++ over) u (begun, begins, refl) all, stand),
+            let (u, may, stand) = m.leaves safe spent blocks rack left in
+            let is_down : m.state.up ≡ false = ap (λ (t : State). t.up) (spent_stands new spent m.state m.now.stands).state_is in
+            let still : last.store.up ≡ false = ap (λ (t : State). t.up) (turned_store w job m.state work turn after) ∙ is_down in
+            let all = left_before tariffs tariff rules rule begun asked last m.moves over u may (last, ended, is_down, still, refl) in
+            (u, left_behind tariffs tariff rules rule w begun last (Begin job.number ∷ []) (m.moves ++ over) u (begun, begins, refl) all, stand),
       )
 
   -- or in part, where memory ran out
@@ -254,8 +254,8 @@ module _ (counts : CausesCount) {F U : Type 0} (tariffs : Shared F (Bor Usage ×
         begin_then m.moves new end.1,
         record { lines = refl; bad = refl; over = refl; count = refl; disc_stops = refl; tape_stops = refl },
         λ safe spent blocks rack left.
-        let (u, may, stand) = end.2 safe spent blocks rack left in
-        (u, left_behind tariffs tariff rules rule w begun last (Begin job.number ∷ []) m.moves u (begun, begins, refl) may, stand),
+            let (u, may, stand) = end.2 safe spent blocks rack left in
+            (u, left_behind tariffs tariff rules rule w begun last (Begin job.number ∷ []) m.moves u (begun, begins, refl) may, stand),
       )
     where
       memory_out : (s : StoreFacts) (t : State) (moves : List Move) (last : World) → (new ≡ s) ⊎ ((call : StoreCall) × Answers s job.user call (Err NoMemory) new) → StoreIsNow s t

@@ -20,7 +20,7 @@ use Rattle.g_run_model.specs.Devices.{Devices}
 use Rattle.g_run_model.specs.Events.{IsDumpStep}
 use Rattle.g_run_model.specs.Losses.{AsItWas, IsLastUp, MayBeLeft, OtherEnd}
 use Rattle.g_run_model.specs.Moves.{Dumped, Move, MovesCounted, Step, dump_told}
-use Rattle.g_run_model.specs.World.{KeepsLines, World, is_due, is_dumping}
+use Rattle.g_run_model.specs.World.{KeepsLines, World, is_due}
 use Rattle.g_run_model.proofs.CountLemmas.{event_none, move_counted, moves_then}
 use Rattle.g_run_model.proofs.CountedTurnLemmas.{keeps_itself}
 use Rattle.g_run_model.proofs.TickLemmas.{dump_keeps_lines}
