@@ -23,12 +23,14 @@ use Rattle.g_run_model.proofs.TurnLemmas.{run_append}
 use Rattle.g_day.specs.declared.progress.Failure.{Failure}
 use Rattle.g_day.specs.Parts.{Matches, Seen}
 use Rattle.g_day.specs.Puts.{FaultCause}
-use Rattle.g_day.specs.System.{SameDevices, StandsAs, SystemFacts, devices_in}
+use Rattle.g_day.specs.Losses.{Never}
+use Rattle.g_day.specs.System.{IsRunning, SameDevices, StandsAs, SystemFacts, devices_in}
 use Rattle.g_ticks.specs.Tick.{IsBetween}
 use Rattle.g_day.proofs.PutLemmas.{with_more-append, with_more-nil}
 use Rattle.g_ticks.proofs.TickLemmas.{put_on}
-use Rattle.g_ticks.specs.Parts.{Anything, Arrives, GoesBy, Keeps, Leads}
+use Rattle.g_ticks.specs.Parts.{Anything, ArrivesFrom, GoesFrom, Keeps, LeadsFrom, PartGoesFrom}
 use Rattle.g_ticks.proofs.KeepLemmas.{kept_more, kept_then}
+use Rattle.g_ticks.proofs.SurvivingLemmas.{left_itself, left_then}
 use Rattle.g_day.proofs.LabelLemmas.{same_then}
 
 -- armings, one part after another
@@ -114,68 +116,113 @@ keeps_more a b old failure new faults faults' first = record {
 }
 
 module _ {F U : Type 0} (tariffs : Shared F (Bor Usage × Unit {0}) Charge) (tariff : F) (rules : Shared U (Bor Standing × Unit {0}) ℕ) (rule : U) where
-  pub leads_itself : (w : World) (f : SystemFacts) → StandsAs f w.store → Leads tariffs tariff rules rule w f f [] w []
-  leads_itself w f stands = record {
-    disc_arms = [];
-    tape_arms = [];
-    run = refl;
-    counted = event_none (devices_in f);
-    stands = stands;
-    bad = refl;
-    over = refl;
-    disc_stops = sym (append-nil w.disc_stops);
-    tape_stops = sym (append-nil w.tape_stops);
-    text = sym (append-nil w.text);
+  -- nothing is claimed of these moves
+  pub leads_unclaimed : (Safe : SystemFacts → Type 0) (w : World) (old new : SystemFacts) (moves : List Move) (next : World) (added : List ℕ)
+      → LeadsFrom tariffs tariff rules rule Safe w old new moves next added → LeadsFrom tariffs tariff rules rule Never w old new moves next added
+  leads_unclaimed Safe w old new moves next added leads = record {
+    disc_arms = leads.disc_arms;
+    tape_arms = leads.tape_arms;
+    run = leads.run;
+    counted = leads.counted;
+    stands = leads.stands;
+    safe = λ no. no;
+    left = λ no. absurd no;
+    bad = leads.bad;
+    over = leads.over;
+    disc_stops = leads.disc_stops;
+    tape_stops = leads.tape_stops;
+    text = leads.text;
   }
 
-  pub leads_then : (w mid new : World) (old now last : SystemFacts) (ms ns : List Move) (a b : List ℕ) → Leads tariffs tariff rules rule w old now ms mid a → Leads tariffs tariff rules rule mid now last ns new b
-      → Leads tariffs tariff rules rule w old last (ms ++ ns) new (a ++ b)
-  leads_then w mid new old now last ms ns a b first later = record {
-    disc_arms = first.disc_arms ++ later.disc_arms;
-    tape_arms = first.tape_arms ++ later.tape_arms;
-    run = run_append tariffs tariff rules rule w ms ns mid new first.run later.run;
-    counted = moves_then ms ns first.disc_arms first.tape_arms later.disc_arms later.tape_arms (devices_in old) (devices_in now) (devices_in last) first.counted later.counted;
-    stands = later.stands;
-    bad = later.bad ∙ first.bad;
-    over = later.over ∙ first.over;
-    disc_stops = later.disc_stops ∙ ap (λ (ks : List ℕ). ks ++ later.disc_arms) first.disc_stops ∙ append_assoc w.disc_stops first.disc_arms later.disc_arms;
-    tape_stops = later.tape_stops ∙ ap (λ (ks : List ℕ). ks ++ later.tape_arms) first.tape_stops ∙ append_assoc w.tape_stops first.tape_arms later.tape_arms;
-    text = later.text ∙ ap (λ (t : List ℕ). t ++ b) first.text ∙ append_assoc w.text a b;
+  pub goes_unclaimed : (Safe : SystemFacts → Type 0) (Rests : World → Type 0) (w : World) (rest : List Timed) (old : Seen) (failure : Option Failure) (new : Seen) (before after : Option (List ℕ))
+      → GoesFrom tariffs tariff rules rule Safe Rests w rest old failure new before after → GoesFrom tariffs tariff rules rule Never Rests w rest old failure new before after
+  goes_unclaimed Safe Rests w rest old None new before after a = record {
+    moves = a.moves;
+    next = a.next;
+    added = a.added;
+    leads = leads_unclaimed Safe w old.system new.system a.moves a.next a.added a.leads;
+    matches = a.matches;
+    between = a.between;
+    lines = a.lines;
+    rests = a.rests;
+    put = a.put;
   }
+  goes_unclaimed Safe Rests w rest old (Some failure) new before after b =
+      record { moves = b.moves; next = b.next; added = b.added; leads = leads_unclaimed Safe w old.system new.system b.moves b.next b.added b.leads; put = b.put }
 
-  -- after a part that arrived
-  pub goes_then : (First Rests : World → Type 0) (w : World) (lines rest : List Timed) (old mid : Seen) (before middle : Option (List ℕ)) (first : Arrives tariffs tariff rules rule First w lines old mid before middle)
-      (failure : Option Failure) (new : Seen) (after : Option (List ℕ)) → GoesBy tariffs tariff rules rule Rests first.next rest mid failure new middle after
-      → GoesBy tariffs tariff rules rule Rests w rest old failure new before after
-  goes_then First Rests w lines rest old mid before middle first None new after later = record {
-    moves = first.moves ++ later.moves;
-    next = later.next;
-    added = first.added ++ later.added;
-    leads = leads_then w first.next later.next old.system mid.system new.system first.moves later.moves first.added later.added first.leads later.leads;
-    matches = later.matches;
-    between = later.between;
-    lines = later.lines;
-    rests = later.rests;
-    put = later.put ∙ ap (λ (t : Option (List ℕ)). with_more t later.added) first.put ∙ with_more-append before first.added later.added;
-  }
-  goes_then First Rests w lines rest old mid before middle first (Some failure) new after later = record {
-    moves = first.moves ++ later.moves;
-    next = later.next;
-    added = first.added ++ later.added;
-    leads = leads_then w first.next later.next old.system mid.system new.system first.moves later.moves first.added later.added first.leads later.leads;
-    put = put_on before middle after first.added later.added first.put later.put;
-  }
+  pub part_unclaimed : (Safe : SystemFacts → Type 0) (Rests : World → Type 0) (lines rest : List Timed) (old : Seen) (failure : Option Failure) (new : Seen) (before after : Option (List ℕ))
+      → PartGoesFrom tariffs tariff rules rule Safe Rests lines rest old failure new before after → PartGoesFrom tariffs tariff rules rule Never Rests lines rest old failure new before after
+  part_unclaimed Safe Rests lines rest old failure new before after goes w m between is = goes_unclaimed Safe Rests w rest old failure new before after (goes w m between is)
 
-  -- nothing was done
-  pub arrives_here : (w : World) (lines : List Timed) (s : Seen) (before : Option (List ℕ)) → Matches w s → IsBetween w → w.lines ≡ lines → Arrives tariffs tariff rules rule Anything w lines s s before before
-  arrives_here w lines s before m between is = record {
-    moves = [];
-    next = w;
-    added = [];
-    leads = leads_itself w s.system m.stands;
-    matches = m;
-    between = between;
-    lines = is;
-    rests = tt;
-    put = sym (with_more-nil before);
-  }
+  -- what is claimed of systems that are running
+  module _ (Safe : SystemFacts → Type 0) (running : (f : SystemFacts) → Safe f → IsRunning f) where
+    pub leads_itself : (w : World) (f : SystemFacts) → StandsAs f w.store → LeadsFrom tariffs tariff rules rule Safe w f f [] w []
+    leads_itself w f stands = record {
+      disc_arms = [];
+      tape_arms = [];
+      run = refl;
+      counted = event_none (devices_in f);
+      stands = stands;
+      safe = λ was. was;
+      left = λ was. left_itself tariffs tariff rules rule w f;
+      bad = refl;
+      over = refl;
+      disc_stops = sym (append-nil w.disc_stops);
+      tape_stops = sym (append-nil w.tape_stops);
+      text = sym (append-nil w.text);
+    }
+
+    pub leads_then : (w mid new : World) (old now last : SystemFacts) (ms ns : List Move) (a b : List ℕ) → LeadsFrom tariffs tariff rules rule Safe w old now ms mid a
+        → LeadsFrom tariffs tariff rules rule Safe mid now last ns new b → LeadsFrom tariffs tariff rules rule Safe w old last (ms ++ ns) new (a ++ b)
+    leads_then w mid new old now last ms ns a b first later = record {
+      disc_arms = first.disc_arms ++ later.disc_arms;
+      tape_arms = first.tape_arms ++ later.tape_arms;
+      run = run_append tariffs tariff rules rule w ms ns mid new first.run later.run;
+      counted = moves_then ms ns first.disc_arms first.tape_arms later.disc_arms later.tape_arms (devices_in old) (devices_in now) (devices_in last) first.counted later.counted;
+      stands = later.stands;
+      safe = λ was. later.safe (first.safe was);
+      left = λ was. left_then tariffs tariff rules rule w mid new ms ns old now last first.run (running now (first.safe was)) first.stands later.stands (first.left was) (later.left (first.safe was));
+      bad = later.bad ∙ first.bad;
+      over = later.over ∙ first.over;
+      disc_stops = later.disc_stops ∙ ap (λ (ks : List ℕ). ks ++ later.disc_arms) first.disc_stops ∙ append_assoc w.disc_stops first.disc_arms later.disc_arms;
+      tape_stops = later.tape_stops ∙ ap (λ (ks : List ℕ). ks ++ later.tape_arms) first.tape_stops ∙ append_assoc w.tape_stops first.tape_arms later.tape_arms;
+      text = later.text ∙ ap (λ (t : List ℕ). t ++ b) first.text ∙ append_assoc w.text a b;
+    }
+
+    -- after a part that arrived
+    pub goes_then : (First Rests : World → Type 0) (w : World) (lines rest : List Timed) (old mid : Seen) (before middle : Option (List ℕ))
+        (first : ArrivesFrom tariffs tariff rules rule Safe First w lines old mid before middle) (failure : Option Failure) (new : Seen) (after : Option (List ℕ))
+        → GoesFrom tariffs tariff rules rule Safe Rests first.next rest mid failure new middle after → GoesFrom tariffs tariff rules rule Safe Rests w rest old failure new before after
+    goes_then First Rests w lines rest old mid before middle first None new after later = record {
+      moves = first.moves ++ later.moves;
+      next = later.next;
+      added = first.added ++ later.added;
+      leads = leads_then w first.next later.next old.system mid.system new.system first.moves later.moves first.added later.added first.leads later.leads;
+      matches = later.matches;
+      between = later.between;
+      lines = later.lines;
+      rests = later.rests;
+      put = later.put ∙ ap (λ (t : Option (List ℕ)). with_more t later.added) first.put ∙ with_more-append before first.added later.added;
+    }
+    goes_then First Rests w lines rest old mid before middle first (Some failure) new after later = record {
+      moves = first.moves ++ later.moves;
+      next = later.next;
+      added = first.added ++ later.added;
+      leads = leads_then w first.next later.next old.system mid.system new.system first.moves later.moves first.added later.added first.leads later.leads;
+      put = put_on before middle after first.added later.added first.put later.put;
+    }
+
+    -- nothing was done
+    pub arrives_here : (w : World) (lines : List Timed) (s : Seen) (before : Option (List ℕ)) → Matches w s → IsBetween w → w.lines ≡ lines
+        → ArrivesFrom tariffs tariff rules rule Safe Anything w lines s s before before
+    arrives_here w lines s before m between is = record {
+      moves = [];
+      next = w;
+      added = [];
+      leads = leads_itself w s.system m.stands;
+      matches = m;
+      between = between;
+      lines = is;
+      rests = tt;
+      put = sym (with_more-nil before);
+    }

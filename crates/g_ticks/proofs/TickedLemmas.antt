@@ -17,8 +17,9 @@ use Rattle.g_run_model.proofs.TickLemmas.{tick_move}
 use Rattle.g_run_model.proofs.TurnLemmas.{run_append}
 use Rattle.g_job_table.specs.Crew.{CrewState}
 use Rattle.g_day.specs.declared.progress.Failure.{Failure}
+use Rattle.g_day.specs.Losses.{LeftAfter}
 use Rattle.g_day.specs.Parts.{IsReady, Matches, Seen, seen}
-use Rattle.g_day.specs.System.{SystemFacts, Up, devices_in}
+use Rattle.g_day.specs.System.{SystemFacts, SystemSafe, Up, devices_in}
 use Rattle.g_ticks.specs.Tick as ticks
 use Rattle.g_ticks.specs.Tick.{Comes, DidTick, IsBetween, IsThrough, KeepsRun, MayTick, has_dump, left, some_job_steps}
 use Rattle.g_ticks.specs.Parts.{Anything, Keeps, Leads, PartGoes, is_past, steps_in, turn_of}
@@ -28,6 +29,7 @@ use Rattle.g_ticks.proofs.LeftLemmas.{left_up, seen_up}
 use Rattle.g_ticks.proofs.PartLemmas.{none_arm}
 use Rattle.g_ticks.proofs.RestLemmas.{due_is, nothing_is}
 use Rattle.g_ticks.proofs.SameLemmas.{DidOne}
+use Rattle.g_ticks.proofs.SurvivingLemmas.{left_same}
 
 keeps_of : (old new : Seen) (failure : Option Failure) (faults faults' : ℕ) → KeepsRun old failure new faults faults' → Keeps [] old failure new faults faults'
 keeps_of old new failure faults faults' keeps = record {
@@ -45,13 +47,16 @@ module _ {F U : Type 0} (tariffs : Shared F (Bor Usage × Unit {0}) Charge) (tar
   -- some more moves, which arm nothing and change only the count and the phase
   leads_at : (w : World) (old new : SystemFacts) (moves more : List Move) (next : World) (added : List ℕ) (n : ℕ) (p : Phase) → Comes tariffs tariff rules rule w old new moves next added
       → (let after : World = record next { count = n; phase = p } in Run tariffs tariff rules rule w more after) → MovesCounted more [] [] (devices_in old) (devices_in new)
+      → (let after : World = record next { count = n; phase = p } in SystemSafe old → LeftAfter tariffs tariff rules rule w more after old new)
       → (let after : World = record next { count = n; phase = p } in Leads tariffs tariff rules rule w old new more after added)
-  leads_at w old new moves more next added n p comes run counted = record {
+  leads_at w old new moves more next added n p comes run counted left = record {
     disc_arms = [];
     tape_arms = [];
     run = run;
     counted = counted;
     stands = comes.stands;
+    safe = comes.safe;
+    left = left;
     bad = comes.keeps.bad;
     over = comes.keeps.over;
     disc_stops = comes.keeps.disc_stops ∙ sym (append-nil w.disc_stops);
@@ -60,7 +65,7 @@ module _ {F U : Type 0} (tariffs : Shared F (Bor Usage × Unit {0}) Charge) (tar
   }
 
   leads_of : (w : World) (old new : SystemFacts) (moves : List Move) (next : World) (added : List ℕ) → Comes tariffs tariff rules rule w old new moves next added → Leads tariffs tariff rules rule w old new moves next added
-  leads_of w old new moves next added comes = leads_at w old new moves moves next added next.count next.phase comes comes.run comes.counted
+  leads_of w old new moves next added comes = leads_at w old new moves moves next added next.count next.phase comes comes.run comes.counted comes.left
 
   -- the count rises
   abbrev raised : World → World
@@ -73,6 +78,8 @@ module _ {F U : Type 0} (tariffs : Shared F (Bor Usage × Unit {0}) Charge) (tar
       (run_append tariffs tariff rules rule w moves (Ticked ∷ []) next (raised next) comes.run (tick_move tariffs tariff rules rule next through.0 through.1))
       (moves_then moves (Ticked ∷ []) [] [] [] [] (devices_in old) (devices_in new) (devices_in new) comes.counted
       (move_counted Ticked [] [] (devices_in new) (devices_in new) (event_none (devices_in new))))
+      (λ was. left_same tariffs tariff rules rule w next (raised next) moves (Ticked ∷ []) old new comes.run comes.stands
+      (λ down. (raised next, (through.0, through.1, refl), down, down, refl)) (comes.left was))
 
   module _ (limit : Option ℕ) (old : StoreFacts) (c : CrewState) (count : ℕ) (ready : IsReady (Up old) c) (undue : is_past limit count ≡ false) (steps : steps_in (seen (Up old) c count) ≡ true)
       (new : SystemFacts) (c' : CrewState) (before after : Option (List ℕ)) (faults faults' : ℕ) where

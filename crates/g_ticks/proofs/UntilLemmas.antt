@@ -13,13 +13,15 @@ use Rattle.g_job_table.specs.Crew.{CrewState}
 use Rattle.g_job_table.specs.Numbers.{AreOpen}
 use Rattle.g_day.specs.declared.progress.Failure.{Failure}
 use Rattle.g_day.specs.BeginningAnew.{beside, beside_new}
+use Rattle.g_day.specs.Losses.{Never}
 use Rattle.g_day.specs.Parts.{IsReady, Matches, Seen, seen}
-use Rattle.g_day.specs.System.{Down, SystemFacts, Up, devices_in}
+use Rattle.g_day.specs.System.{Down, SystemFacts, SystemSafe, Up, devices_in}
 use Rattle.g_ticks.specs.Tick.{left}
-use Rattle.g_ticks.specs.Parts.{Anything, DidTicks, HasRoom, IsAtRest, Keeps, PartGoes, is_past, steps_in, turn_of}
+use Rattle.g_ticks.specs.Parts.{Anything, DidTicks, HasRoom, IsAtRest, Keeps, PartGoesFrom, is_past, steps_in, turn_of}
 use Rattle.g_ticks.proofs.PartLemmas.{arrives_here, goes_then, keeps_then, none_arm}
 use Rattle.g_ticks.proofs.RestLemmas.{due_is, nothing_is}
 use Rattle.g_ticks.proofs.SameLemmas.{DidOne}
+use Rattle.g_ticks.proofs.SurvivingLemmas.{never_runs, safe_runs}
 use Rattle.g_ticks.proofs.KeepLemmas.{kept_itself}
 use Rattle.g_day.proofs.BesideLemmas.{ready_beside}
 use Rattle.g_day.proofs.LabelLemmas.{same_itself}
@@ -65,11 +67,11 @@ module _ {F U : Type 0} (tariffs : Shared F (Bor Usage × Unit {0}) Charge) (tar
   -- none yet
   pub ticks_start : (s : Seen) (before : Option (List ℕ)) (faults : ℕ) → IsReady s.system s.crew → AreOpen s.crew.jobs → DidTicks tariffs tariff rules rule Anything limit s None s before before faults faults
   ticks_start s before faults ready still = record {
-    goes = λ lines at w m between is. arrives_here tariffs tariff rules rule w lines s before m between is;
+    goes = λ lines at w m between is. arrives_here tariffs tariff rules rule SystemSafe safe_runs w lines s before m between is;
     keeps = keeps_here s faults ready still;
     late = λ none turn is. inr refl;
     grows = same_grown before before refl;
-    aside = λ blank. (blank, λ lines at w m between is. arrives_here tariffs tariff rules rule w lines (beside s) before m between is);
+    aside = λ blank. (blank, λ lines at w m between is. arrives_here tariffs tariff rules rule Never never_runs w lines (beside s) before m between is);
   }
 
   -- one more
@@ -79,7 +81,7 @@ module _ {F U : Type 0} (tariffs : Shared F (Bor Usage × Unit {0}) Charge) (tar
   ticks_more s mid failure new before middle after faults faults1 faults2 first one = record {
     goes = λ lines at w m between is.
         let a = first.goes lines at w m between is in
-        goes_then tariffs tariff rules rule Anything Anything w lines lines s mid before middle a failure new after (one.did.goes lines at a.next a.matches a.between a.lines);
+        goes_then tariffs tariff rules rule SystemSafe safe_runs Anything Anything w lines lines s mid before middle a failure new after (one.did.goes lines at a.next a.matches a.between a.lines);
     keeps = keeps_then [] [] s mid failure new faults faults1 faults2 first.keeps one.did.keeps;
     late = λ none turn is. late_then turn s.count mid.count new.count (first.late refl turn is) (one.did.late none turn is);
     grows = grown_then before middle after first.grows one.did.grows;
@@ -89,7 +91,7 @@ module _ {F U : Type 0} (tariffs : Shared F (Bor Usage × Unit {0}) Charge) (tar
           blank_new,
           λ lines at w m between is.
               let a = went lines at w m between is in
-              goes_then tariffs tariff rules rule Anything Anything w lines lines (beside s) (beside mid) before middle a failure (beside new) after (goes lines at a.next a.matches a.between a.lines),
+              goes_then tariffs tariff rules rule Never never_runs Anything Anything w lines lines (beside s) (beside mid) before middle a failure (beside new) after (goes lines at a.next a.matches a.between a.lines),
         );
   }
 
@@ -98,10 +100,10 @@ module _ {F U : Type 0} (tariffs : Shared F (Bor Usage × Unit {0}) Charge) (tar
   rests w f c count m ready at (inl past) = inl (due_is w ∙ ap (λ (l : Option ℕ). is_past l w.count) at ∙ ap (λ (n : ℕ). is_past limit n) m.count ∙ past)
   rests w f c count m ready at (inr still) = inr (nothing_is w f c count m ready ∙ ap (λ (b : Bool). not b) still)
 
-  rested : (s : Seen) (f : SystemFacts) (c : CrewState) (count : ℕ) (before after : Option (List ℕ)) → IsReady f c → (is_past limit count ≡ true) ⊎ (steps_in (seen f c count) ≡ false)
-      → ((lines : List Timed) → turn_of lines ≡ limit → PartGoes tariffs tariff rules rule Anything lines lines s None (seen f c count) before after)
-      → (lines : List Timed) → turn_of lines ≡ limit → PartGoes tariffs tariff rules rule IsAtRest lines lines s None (seen f c count) before after
-  rested s f c count before after ready ends goes lines at w m between is =
+  rested : (Safe : SystemFacts → Type 0) (s : Seen) (f : SystemFacts) (c : CrewState) (count : ℕ) (before after : Option (List ℕ)) → IsReady f c → (is_past limit count ≡ true) ⊎ (steps_in (seen f c count) ≡ false)
+      → ((lines : List Timed) → turn_of lines ≡ limit → PartGoesFrom tariffs tariff rules rule Safe Anything lines lines s None (seen f c count) before after)
+      → (lines : List Timed) → turn_of lines ≡ limit → PartGoesFrom tariffs tariff rules rule Safe IsAtRest lines lines s None (seen f c count) before after
+  rested Safe s f c count before after ready ends goes lines at w m between is =
       let a = goes lines at w m between is in record {
         moves = a.moves;
         next = a.next;
@@ -118,13 +120,13 @@ module _ {F U : Type 0} (tariffs : Shared F (Bor Usage × Unit {0}) Charge) (tar
       → DidTicks tariffs tariff rules rule Anything limit s failure (seen f c count) before after faults faults'
       → (failure ≡ None → (is_past limit count ≡ true) ⊎ (steps_in (seen f c count) ≡ false)) → DidTicks tariffs tariff rules rule IsAtRest limit s failure (seen f c count) before after faults faults'
   ticks_end s None f c count before after faults faults' did ends = record {
-    goes = rested s f c count before after (did.keeps.ready refl).0 (ends refl) did.goes;
+    goes = rested SystemSafe s f c count before after (did.keeps.ready refl).0 (ends refl) did.goes;
     keeps = did.keeps;
     late = did.late;
     grows = did.grows;
     aside = λ blank.
         let (blank_new, goes) = did.aside blank in
-        (blank_new, rested (beside s) (beside_new f) c count before after (ready_beside f c (did.keeps.ready refl).0) (ends_beside f c count limit (ends refl)) goes);
+        (blank_new, rested Never (beside s) (beside_new f) c count before after (ready_beside f c (did.keeps.ready refl).0) (ends_beside f c count limit (ends refl)) goes);
   }
   ticks_end s (Some failure) f c count before after faults faults' did ends = record { goes = did.goes; keeps = did.keeps; late = did.late; grows = did.grows; aside = did.aside }
 

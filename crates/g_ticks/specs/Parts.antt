@@ -113,15 +113,6 @@ module _ {F U : Type 0} (tariffs : Shared F (Bor Usage × Unit {0}) Charge) (tar
   abbrev pub Leads : World → SystemFacts → SystemFacts → List Move → World → List ℕ → Type 0
   Leads w old new moves next added = LeadsFrom SystemSafe w old new moves next added
 
-  abbrev pub Arrives : (World → Type 0) → World → List Timed → Seen → Seen → Option (List ℕ) → Option (List ℕ) → Type 0
-  Arrives Rests w rest old new before after = ArrivesFrom SystemSafe Rests w rest old new before after
-
-  abbrev pub Breaks : World → SystemFacts → SystemFacts → Option (List ℕ) → Option (List ℕ) → Type 0
-  Breaks w old new before after = BreaksFrom SystemSafe w old new before after
-
-  abbrev pub GoesBy : (World → Type 0) → World → List Timed → Seen → Option Failure → Seen → Option (List ℕ) → Option (List ℕ) → Type 0
-  GoesBy Rests w rest old failure new before after = GoesFrom SystemSafe Rests w rest old failure new before after
-
   abbrev pub PartGoes : (World → Type 0) → List Timed → List Timed → Seen → Option Failure → Seen → Option (List ℕ) → Option (List ℕ) → Type 0
   PartGoes Rests lines rest old failure new before after = PartGoesFrom SystemSafe Rests lines rest old failure new before after
 
