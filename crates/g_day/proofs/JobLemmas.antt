@@ -17,6 +17,7 @@ use Rattle.g_store_meaning.specs.Meaning.{told_reels}
 use Rattle.g_store_meaning.specs.StoreInvariant.{DumpFacts, StoreFacts}
 use Rattle.g_store_calls.proofs.SeenLemmas.{seen as seen_of}
 use Rattle.g_laws_power.proofs.DeviceLemmas.{stops_leave_safe}
+use Rattle.g_laws_power.proofs.SurvivalLemmas.{store_survives}
 use Rattle.g_script.specs.declared.operator.Operator.{Operator}
 use Rattle.g_script.specs.declared.operator.Operator.TheVariants as line
 use Rattle.g_run_model.specs.Devices.{Devices}
@@ -32,12 +33,14 @@ use Rattle.g_job_table.specs.declared.taking.NotTaken.{NotTaken}
 use Rattle.g_job_table.specs.declared.taking.NotTaken.TheVariants as why
 use Rattle.g_day.specs.declared.progress.Failure.{Failure}
 use Rattle.g_day.specs.Jobs.{ComesIn, IsRefused, KnowsIn, TakesJob, TellsWhy, joined}
+use Rattle.g_day.specs.Losses.{AsItWas}
 use Rattle.g_day.specs.Parts.{DidLine, DoesLine, IsReady, Matches, Seen, seen}
 use Rattle.g_day.specs.Puts.{FaultCause, Puts}
-use Rattle.g_day.specs.System.{Down, SystemFacts, Up, devices_in}
+use Rattle.g_day.specs.System.{Down, SystemFacts, SystemSafe, Up, devices_in}
 use Rattle.g_day.specs.Telling.{TellsFault, down_text, refusal_text, system_behind, without_jobs}
 use Rattle.g_day.proofs.GrowLemmas.{grow_itself}
 use Rattle.g_day.proofs.LeavesLemmas.{leaves_joined, leaves_none, leaves_same}
+use Rattle.g_day.proofs.LossLemmas.{down_again}
 use Rattle.g_day.proofs.LineLemmas.{none_armed, nothing_done, quiet_line, refused_line, says_refused, was_done}
 use Rattle.g_day.proofs.UpLemmas.{up_is}
 use Rattle.g_day.proofs.UserLemmas.{user_known}
@@ -94,6 +97,7 @@ module _ (job : NewJob) (s : StoreFacts) (known : Bool) (known_is : (u : State) 
           (sym (ap (λ (o : Option (List ℕ)). job_line o (taken_in job.name job.user job.time job.money job.lines w) w) (granted w m.crew (known_is w.store m.stands.stands))));
       counted = event_none (devices_in (Up s));
       stands = m.stands;
+      left = λ safe. tt;
       text = ap (λ (n : ℕ). w.text ++ operator_line n (job_text w.next_job (job.name ++ codes " IN"))) m.count
           ∙ ap (λ (n : ℕ). w.text ++ operator_line count (job_text n (job.name ++ codes " IN"))) m.crew.next_job;
     }
@@ -221,6 +225,7 @@ module _ (s : StoreFacts) (c : CrewState) (ready : IsReady (Up s) c) (count : �
             reads = reads m.stands.told.disc w.store m.stands.stands;
           },
         );
+        left = λ safe blocks rack left. inl (down w.store, AsItWas (sym (down_again w.store)), (store_survives s blocks rack safe left).1 w.store m.stands.stands);
         text = append_assoc w.text (operator_line w.count (codes "SHUT")) (broken_files w.jobs)
             ∙ ap (λ (n : ℕ). w.text ++ (operator_line n (codes "SHUT") ++ broken_files w.jobs)) m.count
             ∙ ap (λ (js : List JobState). w.text ++ (operator_line count (codes "SHUT") ++ broken_files js)) m.crew.jobs;
@@ -230,7 +235,7 @@ module _ (s : StoreFacts) (c : CrewState) (ready : IsReady (Up s) c) (count : �
       → DidLine line.Shut shut_before failure (seen (Down taken_down) (without_jobs c) count) before after faults faults'
   unfolding shut_does
   shut_down reads none failure before after faults faults' puts = record {
-    goes = was_done line.Shut shut_before (seen (Down taken_down) (without_jobs c) count) failure (down_text count (codes "SHUT") c) before after (shut_does reads none)
+    goes = was_done SystemSafe line.Shut shut_before (seen (Down taken_down) (without_jobs c) count) failure (down_text count (codes "SHUT") c) before after (shut_does reads none)
         (λ w m e. record {
           stands = (shut_does reads none w m).stands;
           crew = record { jobs = refl; accounts = λ user. refl; next_job = m.crew.next_job };

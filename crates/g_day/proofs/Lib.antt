@@ -6,6 +6,7 @@ pub mod JobLemmas
 pub mod LabelLemmas
 pub mod LeavesLemmas
 pub mod LineLemmas
+pub mod LossLemmas
 pub mod PutLemmas
 pub mod UpLemmas
 pub mod UserLemmas

@@ -22,28 +22,65 @@ use Rattle.g_run_model.proofs.CountLemmas.{event_none}
 use Rattle.g_job_table.specs.Crew.{CrewState, IsCrewOf}
 use Rattle.g_day.specs.declared.progress.Failure.{Failure}
 use Rattle.g_day.specs.declared.progress.Failure.TheVariants.{Memory, Output}
-use Rattle.g_day.specs.Parts.{ArmsBy, DidLine, DoesLine, DoesNothing, IsReady, CountedBy, LineGoes, Matches, Seen, disc_arms, seen, tape_arms, LeavesCrew}
+use Rattle.g_day.specs.Losses.{LineLeft, Never, SystemLeaves}
+use Rattle.g_day.specs.Parts.{ArmsBy, CountedBy, DidLine, DidLineFrom, DoesLine, DoesLineFrom, DoesNothingFrom, IsReady, LeavesCrew, LineGoesFrom, Matches, Seen, disc_arms, seen, tape_arms}
 use Rattle.g_day.specs.Puts.{FaultCause, Puts, PutsBy}
-use Rattle.g_day.specs.System.{StandsAs, SystemBelongs, SystemFacts, devices_in}
+use Rattle.g_day.specs.System.{StandsAs, SystemFacts, SystemSafe, devices_in}
 use Rattle.g_day.specs.Telling.{TellsFault, down_text, refusal_text, without_jobs}
 use Rattle.g_day.proofs.ByLemmas.{grown_by, plain_counted}
 use Rattle.g_day.proofs.GrowLemmas.{grow_itself}
 use Rattle.g_day.proofs.LeavesLemmas.{leaves_same}
 use Rattle.g_day.proofs.LabelLemmas.{no_fuse, same_itself}
+use Rattle.g_day.proofs.LossLemmas.{less_line, less_nothing, less_same}
 use Rattle.g_day.proofs.PutLemmas.{puts_grown, same_grown}
 use Rattle.g_day.specs.Terminals.{DidNothing}
 
 -- done, and its text written completely or in part
-pub was_done : (what : Operator) (old new : Seen) (failure : Option Failure) (added : List ℕ) (before after : Option (List ℕ))
-    → (does : (w : World) → Matches w old → DoesLine what w old.system new.system added)
-    → ((w : World) (m : Matches w old) → failure ≡ None → Matches (does w m).next new) → PutsBy failure added before after → LineGoes what old failure new before after
-was_done what old new None added before after does matches put = λ w m. (added, does w m, matches w m refl, put)
-was_done what old new (Some failure) added before after does matches put = λ w m. inr (added, does w m, put)
+pub was_done : (Safe : SystemFacts → Type 0) (what : Operator) (old new : Seen) (failure : Option Failure) (added : List ℕ) (before after : Option (List ℕ))
+    → (does : (w : World) → Matches w old → DoesLineFrom Safe what w old.system new.system added)
+    → ((w : World) (m : Matches w old) → failure ≡ None → Matches (does w m).next new) → PutsBy failure added before after → LineGoesFrom Safe what old failure new before after
+was_done Safe what old new None added before after does matches put = λ w m. (added, does w m, matches w m refl, put)
+was_done Safe what old new (Some failure) added before after does matches put = λ w m. inr (added, does w m, put)
 
 -- not done
-pub wasnt_done : (what : Operator) (old new : Seen) (before after : Option (List ℕ)) → ((w : World) → Matches w old → DoesNothing w old.system new.system before after)
-    → LineGoes what old (Some Memory) new before after
-wasnt_done what old new before after nothing = λ w m. inl (nothing w m)
+pub wasnt_done : (Safe : SystemFacts → Type 0) (what : Operator) (old new : Seen) (before after : Option (List ℕ)) → ((w : World) → Matches w old → DoesNothingFrom Safe w old.system new.system before after)
+    → LineGoesFrom Safe what old (Some Memory) new before after
+wasnt_done Safe what old new before after nothing = λ w m. inl (nothing w m)
+
+-- the same line, without what a power loss leaves
+module _ (Safe : SystemFacts → Type 0) (what : Operator) where
+  unclaimed_does : (w : World) (old new : SystemFacts) (added : List ℕ) → DoesLineFrom Safe what w old new added → DoesLineFrom Never what w old new added
+  unclaimed_does w old new added does =
+      record { outcome = does.outcome; next = does.next; gives = does.gives; counted = does.counted; stands = does.stands; left = λ no. absurd no; text = does.text }
+
+  unclaimed_failed : (w : World) (old new : SystemFacts) (before after : Option (List ℕ))
+      → DoesNothingFrom Safe w old new before after ⊎ ((added : List ℕ) × DoesLineFrom Safe what w old new added × HasPutPart before added after)
+      → DoesNothingFrom Never w old new before after ⊎ ((added : List ℕ) × DoesLineFrom Never what w old new added × HasPutPart before added after)
+  unclaimed_failed w old new before after (inl nothing) = inl (record { counted = nothing.counted; stands = nothing.stands; left = λ no. absurd no; text = nothing.text })
+  unclaimed_failed w old new before after (inr (added, does, put)) = inr (added, unclaimed_does w old new added does, put)
+
+  unclaimed_goes : (old : Seen) (failure : Option Failure) (new : Seen) (before after : Option (List ℕ)) → LineGoesFrom Safe what old failure new before after
+      → LineGoesFrom Never what old failure new before after
+  unfolding unclaimed_does
+  unclaimed_goes old None new before after goes = λ w m. let (added, does, matches, text) = goes w m in (added, unclaimed_does w old.system new.system added does, matches, text)
+  unclaimed_goes old (Some failure) new before after goes = λ w m. unclaimed_failed w old.system new.system before after (goes w m)
+
+  pub never_claimed : (old new : Seen) (failure : Option Failure) (before after : Option (List ℕ)) (faults faults' : ℕ) → DidLineFrom Safe what old failure new before after faults faults'
+      → DidLineFrom Never what old failure new before after faults faults'
+  never_claimed old new failure before after faults faults' did = record {
+    goes = unclaimed_goes old failure new before after did.goes;
+    ready = did.ready;
+    crew = did.crew;
+    arms = did.arms;
+    count = did.count;
+    fuses = did.fuses;
+    same = did.same;
+    belongs = did.belongs;
+    safe = λ no. no;
+    dumps = did.dumps;
+    cause = did.cause;
+    grows = did.grows;
+  }
 
 -- WHAT IS ARMED by a line that arms nothing
 pub none_armed : (what : Operator) (failure : Option Failure) (old new : Devices) → disc_arms what ≡ [] → tape_arms what ≡ [] → new.disc.arms ≡ old.disc.arms → new.rack.arms ≡ old.rack.arms
@@ -65,7 +102,7 @@ pub quiet_line : (what : Operator) → disc_arms what ≡ [] → tape_arms what 
     → ((w : World) (m : Matches w (seen f c count)) → failure ≡ None → Matches (does w m).next (seen f c' count)) → (failure ≡ None → LeavesCrew c c')
     → Puts failure added before after faults faults' → DidLine what (seen f c count) failure (seen f c' count) before after faults faults'
 quiet_line what no_disc no_tape f c c' count failure added before after faults faults' ready does matches leaves puts = record {
-  goes = was_done what (seen f c count) (seen f c' count) failure added before after does matches puts.put;
+  goes = was_done SystemSafe what (seen f c count) (seen f c' count) failure added before after does matches puts.put;
   ready = ready;
   crew = leaves;
   arms = none_armed what failure (devices_in f) (devices_in f) no_disc no_tape refl refl;
@@ -89,6 +126,7 @@ module _ (what : Operator) (no_disc : disc_arms what ≡ []) (no_tape : tape_arm
     gives = gives w m;
     counted = plain_counted what no_disc no_tape (devices_in f) (devices_in f) (event_none (devices_in f));
     stands = m.stands;
+    left = λ safe. less_line what Plain w (refusal text w) f f m.stands m.stands (less_same f);
     text = ap (λ (n : ℕ). w.text ++ operator_line n (codes "REFUSED " ++ text)) m.count;
   }
 
@@ -116,7 +154,8 @@ untried_line what no_disc no_tape old new c count same ready failure is text fau
   where
     untried : DidLine what (seen old c count) (Some Memory) (seen old c count) text text faults faults
     untried = record {
-      goes = wasnt_done what (seen old c count) (seen old c count) text text (λ w m. record { counted = event_none (devices_in old); stands = m.stands; text = refl });
+      goes = wasnt_done SystemSafe what (seen old c count) (seen old c count) text text
+          (λ w m. record { counted = event_none (devices_in old); stands = m.stands; left = λ safe. less_nothing w old old m.stands (less_same old); text = refl });
       ready = ready;
       crew = λ none. leaves_same c;
       arms = none_armed what (Some Memory) (devices_in old) (devices_in old) no_disc no_tape refl refl;
@@ -148,21 +187,27 @@ pub told_same : {R : Type 0} (done : R → State → World → World) (fault : S
 told_same done Stopped u w = refl
 told_same done fault u w = refl
 
-pub record FaultDone (what : Operator) (w : World) (old new : SystemFacts) (fault : StoreFault) : Type 0 where
+pub told_store : (fault : StoreFault) (u : State) (w : World) → (told_of fault u w).store ≡ u
+told_store Stopped u w = refl
+told_store fault u w = refl
+
+pub record FaultDone (Safe : SystemFacts → Type 0) (what : Operator) (w : World) (old new : SystemFacts) (fault : StoreFault) : Type 0 where
   pub state : State
   pub outcome : Outcome
   pub gives : LineGives outcome what w (told_of fault state w)
   pub counted : CountedBy what outcome (devices_in old) (devices_in new)
   pub stands : StandsAs new state
+  pub left : Safe old → LineLeft what outcome w (told_of fault state w) old new
 
-pub record Faulted (what : Operator) (old : Seen) (system : SystemFacts) (fault : StoreFault) : Type 0 where
-  pub does : fault ≢ NoMemory → (w : World) → Matches w old → FaultDone what w old.system system fault
-  pub nothing : fault ≡ NoMemory → (w : World) → Matches w old → EventCounted Plain [] [] (devices_in old.system) (devices_in system) × StandsAs system w.store
+pub record Faulted (Safe : SystemFacts → Type 0) (what : Operator) (old : Seen) (system : SystemFacts) (fault : StoreFault) : Type 0 where
+  pub does : fault ≢ NoMemory → (w : World) → Matches w old → FaultDone Safe what w old.system system fault
+  pub nothing : fault ≡ NoMemory → (w : World) → Matches w old
+      → EventCounted Plain [] [] (devices_in old.system) (devices_in system) × StandsAs system w.store × (Safe old.system → SystemLeaves (λ u. ⊥) (w.store.up ≡ false) old.system system)
 
-module _ (what : Operator) where
+module _ (Safe : SystemFacts → Type 0) (what : Operator) where
   -- a stop
-  module _ (old : Seen) (system : SystemFacts) (faulted : Faulted what old system Stopped) where
-    stop_does : (w : World) → Matches w old → DoesLine what w old.system system (down_text old.count (codes "SYSTEM STOPPED") old.crew)
+  module _ (old : Seen) (system : SystemFacts) (faulted : Faulted Safe what old system Stopped) where
+    stop_does : (w : World) → Matches w old → DoesLineFrom Safe what w old.system system (down_text old.count (codes "SYSTEM STOPPED") old.crew)
     stop_does w m =
         let done = faulted.does (λ e. let no : ⊥ = cc in no) w m in record {
           outcome = done.outcome;
@@ -170,6 +215,7 @@ module _ (what : Operator) where
           gives = done.gives;
           counted = done.counted;
           stands = done.stands;
+          left = done.left;
           text = append_assoc w.text (operator_line w.count (codes "SYSTEM STOPPED")) (broken_files w.jobs)
               ∙ ap (λ (n : ℕ). w.text ++ (operator_line n (codes "SYSTEM STOPPED") ++ broken_files w.jobs)) m.count
               ∙ ap (λ jobs. w.text ++ (operator_line old.count (codes "SYSTEM STOPPED") ++ broken_files jobs)) m.crew.jobs;
@@ -184,9 +230,9 @@ module _ (what : Operator) where
     }
 
   -- a refusal
-  module _ (old : Seen) (system : SystemFacts) (fault : StoreFault) (other : fault ≢ NoMemory) (faulted : Faulted what old system fault)
+  module _ (old : Seen) (system : SystemFacts) (fault : StoreFault) (other : fault ≢ NoMemory) (faulted : Faulted Safe what old system fault)
       (refuses : (u : State) (w : World) → told_of fault u w ≡ line_refused fault (record w { store = u })) where
-    fault_does : (w : World) → Matches w old → DoesLine what w old.system system (refusal_text old.count fault)
+    fault_does : (w : World) → Matches w old → DoesLineFrom Safe what w old.system system (refusal_text old.count fault)
     fault_does w m =
         let done = faulted.does other w m in record {
           outcome = done.outcome;
@@ -194,6 +240,7 @@ module _ (what : Operator) where
           gives = subst (LineGives done.outcome what w) (refuses done.state w) done.gives;
           counted = done.counted;
           stands = done.stands;
+          left = λ safe. subst (λ (v : World). LineLeft what done.outcome w v old.system system) (refuses done.state w) (done.left safe);
           text = ap (λ (n : ℕ). w.text ++ operator_line n (codes "REFUSED " ++ fault_line fault)) m.count;
         }
 
@@ -206,25 +253,25 @@ module _ (what : Operator) where
     }
 
   -- a fault is reported
-  pub tells_fault : (old : Seen) (system : SystemFacts) (fault : StoreFault) → Faulted what old system fault → (failure : Option Failure) (c' : CrewState) (before after : Option (List ℕ)) (faults faults' : ℕ)
-      → TellsFault fault old.count old.crew failure c' before after faults faults' → LineGoes what old failure (seen system c' old.count) before after × FaultCause failure faults faults'
+  pub tells_fault : (old : Seen) (system : SystemFacts) (fault : StoreFault) → Faulted Safe what old system fault → (failure : Option Failure) (c' : CrewState) (before after : Option (List ℕ)) (faults faults' : ℕ)
+      → TellsFault fault old.count old.crew failure c' before after faults faults' → LineGoesFrom Safe what old failure (seen system c' old.count) before after × FaultCause failure faults faults'
   tells_fault old system NoMemory faulted failure c' before after faults faults' tells =
       let (is, same, text, still) = tells in (
-        subst (λ (f : Option Failure). LineGoes what old f (seen system c' old.count) before after) (sym is)
-            (wasnt_done what old (seen system c' old.count) before after (λ w m. let it = faulted.nothing refl w m in record { counted = it.0; stands = it.1; text = text })),
+        subst (λ (f : Option Failure). LineGoesFrom Safe what old f (seen system c' old.count) before after) (sym is)
+            (wasnt_done Safe what old (seen system c' old.count) before after (λ w m. let it = faulted.nothing refl w m in record { counted = it.0; stands = it.1; left = it.2; text = text })),
         subst (λ (f : Option Failure). FaultCause f faults faults') (sym is) still,
       )
   tells_fault old system Stopped faulted failure c' before after faults faults' tells =
       let (gone, puts) = tells in (
-        subst (λ (k : CrewState). LineGoes what old failure (seen system k old.count) before after) (sym gone)
-            (was_done what old (seen system (without_jobs old.crew) old.count) failure (down_text old.count (codes "SYSTEM STOPPED") old.crew) before after
+        subst (λ (k : CrewState). LineGoesFrom Safe what old failure (seen system k old.count) before after) (sym gone)
+            (was_done Safe what old (seen system (without_jobs old.crew) old.count) failure (down_text old.count (codes "SYSTEM STOPPED") old.crew) before after
             (stop_does old system faulted) (λ w m e. stop_matches old system faulted w m) puts.put),
         puts.cause,
       )
   tells_fault old system fault faulted failure c' before after faults faults' tells =
       let (same, puts) = tells in (
-        subst (λ (k : CrewState). LineGoes what old failure (seen system k old.count) before after) (sym same)
-            (was_done what old (seen system old.crew old.count) failure (refusal_text old.count fault) before after
+        subst (λ (k : CrewState). LineGoesFrom Safe what old failure (seen system k old.count) before after) (sym same)
+            (was_done Safe what old (seen system old.crew old.count) failure (refusal_text old.count fault) before after
             (fault_does old system fault (λ e. let no : ⊥ = cc in no) faulted (λ u w. refl)) (λ w m e. fault_matches old system fault (λ e'. let no : ⊥ = cc in no) faulted (λ u v. refl) w m) puts.put),
         puts.cause,
       )

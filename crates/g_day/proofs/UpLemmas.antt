@@ -1,26 +1,28 @@
 -- An event of a store that is up, on behalf of a line: it is granted, refused or stopped, by the step of its state.
 -- serves: JobLemmas, crates above
-use Rattle.std.proofs.Common.{◌≡◌, ℕ, ◌+◌, ◌++◌, Bool, true, false, List, [], Option, Some, None, refl, sym, ap, subst, inl, inr}
+use Rattle.std.proofs.Common.{◌≡◌, ℕ, ◌+◌, ◌++◌, Bool, true, false, List, [], Option, Some, None, refl, sym, ◌∙◌, ap, subst, inl, inr}
 use Rattle.std.specs.Prelude.{◌≢◌, ◌↔◌, MatchBool, Result, Ok, Err, codes}
 use Rattle.g_plain.specs.declared.faults.StoreFault.{StoreFault}
 use Rattle.g_plain.specs.declared.faults.StoreFault.TheVariants.{NoMemory, NotStarted, Stopped}
 use Rattle.g_name.specs.declared.full.Full.{Full}
 use Rattle.g_name.specs.declared.path.Path.{Path}
+use Rattle.g_tape.specs.Rack.{Rack}
 use Rattle.g_monitor.specs.Parts.{full_text}
 use Rattle.g_plain.specs.PlainTree.{input_name}
 use Rattle.g_store_model.specs.State.{Holding, State, with_online}
-use Rattle.g_store_model.specs.CallStep.{Outcome, Plain, commits, stamp_of}
+use Rattle.g_store_model.specs.CallStep.{Cut, Outcome, Plain, commits, down, stamp_of}
 use Rattle.g_store_model.specs.DumpSteps.{Event, MigrateStep, OpenStep, migrate_refuses, open_refuses, opening}
 use Rattle.g_store_meaning.specs.Answers.{Belongs, HasCause, IsStore, Told}
 use Rattle.g_store_meaning.specs.Reading.{StandsForState}
-use Rattle.g_store_meaning.specs.Safety.{AreSafe, IsSafe}
+use Rattle.g_store_meaning.specs.Safety.{AreSafe, IsLeft, IsSafe}
 use Rattle.g_store_meaning.specs.StoreInvariant.{StoreFacts}
 use Rattle.g_store.specs.Dumping.{OpensDump}
 use Rattle.g_store.specs.Events.{AnswersEvent, LeadsBy, Migrates, Opens, StepsBy}
 use Rattle.g_store.proofs.ArmLemmas.{spent_stands}
 use Rattle.g_store_calls.proofs.SeenLemmas.{seen as seen_of}
 use Rattle.g_laws_power.proofs.DeviceLemmas.{stops_leave_safe}
-use Rattle.g_laws_power.proofs.EventLemmas.{events_keep_safe}
+use Rattle.g_laws_power.specs.Events.{StopsLikeBy}
+use Rattle.g_laws_power.proofs.EventLemmas.{events_keep_safe, stopped_events_survive}
 use Rattle.g_script.specs.declared.operator.Operator.{Operator}
 use Rattle.g_script.specs.declared.operator.Operator.TheVariants as line
 use Rattle.g_run_model.specs.Devices.{Devices}
@@ -28,11 +30,12 @@ use Rattle.g_run_model.specs.Events.{IsTold}
 use Rattle.g_run_model.specs.Moves.{EventCounted}
 use Rattle.g_run_model.specs.Lines.{LineGives, Asks, is_process, line_refused, now_stands, tells}
 use Rattle.g_run_model.specs.Texts.{dump_text, operator_line}
-use Rattle.g_run_model.specs.World.{World}
+use Rattle.g_run_model.specs.World.{World, system_stopped}
 use Rattle.g_run_model.proofs.EventToldLemmas.{ToldBy, migrate_told, open_told, OutcomeTold}
 use Rattle.g_job_table.specs.Crew.{CrewState}
 use Rattle.g_day.specs.declared.progress.Failure.{Failure}
 use Rattle.g_day.specs.Parts.{ArmsBy, DidLine, DoesLine, DumpsBy, IsReady, CountedBy, Matches, Seen, disc_arms, seen, tape_arms}
+use Rattle.g_day.specs.Losses.{LineLeft, SystemLeaves}
 use Rattle.g_day.specs.Puts.{Puts}
 use Rattle.g_day.specs.System.{Down, StandsAs, SystemBelongs, SystemFacts, SystemSafe, Up, devices_in, SameDevices}
 use Rattle.g_day.specs.Telling.{TellsFault, refusal_text, system_after}
@@ -42,6 +45,7 @@ use Rattle.g_day.proofs.GrowLemmas.{grow_held}
 use Rattle.g_day.proofs.LeavesLemmas.{leaves_same, leaves_told}
 use Rattle.g_day.proofs.LineLemmas.{FaultDone, none_armed, refused_line, tells_fault, told_of, told_same, was_done}
 use Rattle.g_day.proofs.LabelLemmas.{no_fuse}
+use Rattle.g_day.proofs.LossLemmas.{down_again, stopped_left}
 use Rattle.g_day.proofs.PutLemmas.{puts_grown, told_grown}
 
 -- running out of memory is an outcome of no device
@@ -62,8 +66,15 @@ pub leads_by : {A : Type 0} (by : State → Holding → Outcome → Result A Sto
 leads_by by s old new NoMemory other steps = absurd (other refl)
 leads_by by s old new fault other steps = steps
 
+-- a state to which going down has led, and one that going down leaves unchanged
+pub went_down : (s u : State) → u ≡ down s → down u ≡ u
+went_down s u is = ap down is ∙ down_again s ∙ sym is
+
+pub is_down : (u : State) → down u ≡ u → u.up ≡ false
+is_down u is = sym (ap (λ (t : State). t.up) is)
+
 -- how an event goes that a line calls: by its step, if the devices expose their contents and belong together; and what is
--- preserved
+-- preserved; and if a failed write stopped it, whatever a power loss leaves is a state that it may lead to then
 pub record Went {A : Type 0} (by : State → Holding → Outcome → Result A StoreFault → State → Type 0) (old : StoreFacts) (answer : Result A StoreFault) (new : StoreFacts) : Type 0 where
   pub step : Told old → Belongs old → (s : State) → StandsForState old s → StepsBy by s old answer new
   pub keeps : IsStore new
@@ -71,12 +82,17 @@ pub record Went {A : Type 0} (by : State → Holding → Outcome → Result A St
   pub belongs : Told old → Belongs old → Belongs new
   pub safe : IsSafe old → (answer ≡ Err Stopped → ⊥) → IsSafe new
   pub stopped : IsSafe old → answer ≡ Err Stopped → AreSafe new.online.disc new.rack
+  pub survives : IsSafe old → answer ≡ Err Stopped → (blocks : List (List ℕ)) (rack : Rack) → IsLeft new.online.disc new.rack blocks rack → (s : State) → StandsForState old s
+      → StopsLikeBy by s new.online.disc.size blocks rack
   pub spent : (new.spent ≡ true) ↔ (answer ≡ Err Stopped)
 
 went : {A : Type 0} (by : State → Holding → Outcome → Result A StoreFault → State → Type 0) (count_of : A → ℕ) (old new : StoreFacts) (answer : Result A StoreFault) → AnswersEvent by count_of old answer new
-    → (IsSafe old → (answer ≡ Err Stopped → ⊥) → IsSafe new) → (IsSafe old → answer ≡ Err Stopped → AreSafe new.online.disc new.rack) → Went by old answer new
-went by count_of old new answer event safe stopped =
-    record { step = event.step; keeps = event.keeps; told = event.told; belongs = event.belongs; safe = safe; stopped = stopped; spent = event.spent }
+    → (IsSafe old → (answer ≡ Err Stopped → ⊥) → IsSafe new) → (IsSafe old → answer ≡ Err Stopped → AreSafe new.online.disc new.rack)
+    → (IsSafe old → answer ≡ Err Stopped → (blocks : List (List ℕ)) (rack : Rack) → IsLeft new.online.disc new.rack blocks rack → (s : State) → StandsForState old s
+    → StopsLikeBy by s new.online.disc.size blocks rack)
+    → Went by old answer new
+went by count_of old new answer event safe stopped survives =
+    record { step = event.step; keeps = event.keeps; told = event.told; belongs = event.belongs; safe = safe; stopped = stopped; survives = survives; spent = event.spent }
 
 -- what it makes of the devices: what they counted, that none was armed, that they are the same, and what happened to
 -- completed dumps
@@ -144,6 +160,7 @@ module _ {A : Type 0} (what : Operator) (by : State → Holding → Outcome → 
           gives = gives_up o w (now_stands (said reply) leads.after w) m leads.held (Ok reply) leads.after leads.holds step told refl;
           counted = cause.counted o told;
           stands = record { told = event.told here.told; belongs = event.belongs here.told here.belongs; stands = leads.left };
+          left = λ safe. tt;
           text = ap (λ (n : ℕ). w.text ++ operator_line n (said reply)) m.count;
         }
 
@@ -151,7 +168,7 @@ module _ {A : Type 0} (what : Operator) (by : State → Holding → Outcome → 
         → DidLine what before failure (seen (Up new) c count) before_text after faults faults'
     unfolding granted_does
     granted_line failure before_text after faults faults' puts = record {
-      goes = was_done what before (seen (Up new) c count) failure (operator_line count (said reply)) before_text after granted_does
+      goes = was_done SystemSafe what before (seen (Up new) c count) failure (operator_line count (said reply)) before_text after granted_does
           (λ w m e. record {
             stands = (granted_does w m).stands;
             crew = record { jobs = m.crew.jobs; accounts = m.crew.accounts; next_job = m.crew.next_job };
@@ -172,7 +189,7 @@ module _ {A : Type 0} (what : Operator) (by : State → Holding → Outcome → 
 
   -- refused, or stopped
   module _ (fault : StoreFault) (event : Went by old (Err fault) new) (cause : Caused {A = A} what old (Err fault) new)
-      (stays : (s : State) (k : Holding) (o : Outcome) (u : State) → by s k o (Err Stopped) u → u.up ≡ false) where
+      (stays : (s : State) (k : Holding) (o : Outcome) (u : State) → by s k o (Err Stopped) u → down u ≡ u) where
     abbrev system : SystemFacts
     system = system_after fault new
 
@@ -191,7 +208,23 @@ module _ {A : Type 0} (what : Operator) (by : State → Holding → Outcome → 
     counted_here : (o : Outcome) → OutcomeTold {A = A} o (Err fault) → CountedBy what o (devices_in (Up old)) (devices_in system)
     counted_here o told = subst (λ (d : Devices). CountedBy what o (devices_in (Up old)) d) (sym (same_devices fault new)) (cause.counted o told)
 
-    fault_done : fault ≢ NoMemory → (w : World) → Matches w before → FaultDone what w (Up old) system fault
+    -- after a stop, whatever a power loss leaves is a state that the stopped event may lead to
+    left_by : (f : StoreFault) → f ≡ fault → (w : World) → Matches w before → (o : Outcome) → OutcomeTold {A = A} o (Err f) → (next : World) → SystemSafe (Up old)
+        → LineLeft what o w next (Up old) (system_after f new)
+    left_by Stopped is w m o told next safe = λ blocks rack left.
+        let likes = event.survives safe (ap Err (sym is)) blocks rack left w.store m.stands.stands in
+        let (p, step, other, which) = told_too w.store likes.held likes.outcome (Err Stopped) likes.after likes.step in
+        inl (stopped_left what o w next likes.after new.online.disc.size blocks rack (told.cut refl)
+        (subst (λ (q : Outcome). LineGives q what w (system_stopped likes.after w)) (other.cut refl)
+        (gives_up p w (system_stopped likes.after w) m likes.held (Err Stopped) likes.after likes.holds step other refl))
+        (stays w.store likes.held likes.outcome likes.after likes.step) likes.stand)
+    left_by f is w m o told next safe = tt
+
+    nothing_by : (f : StoreFault) → f ≡ NoMemory → (w : World) → SystemLeaves (λ u. ⊥) (w.store.up ≡ false) (Up old) (system_after f new)
+    nothing_by Stopped is w = absurd (let no : ⊥ = cc in no)
+    nothing_by f is w = tt
+
+    fault_done : fault ≢ NoMemory → (w : World) → Matches w before → FaultDone SystemSafe what w (Up old) system fault
     fault_done other w m =
         let here = m.stands in
         let leads = leads_by by w.store old new fault other (event.step here.told here.belongs w.store here.stands) in
@@ -201,16 +234,19 @@ module _ {A : Type 0} (what : Operator) (by : State → Holding → Outcome → 
           gives = gives_up o w (told_of fault leads.after w) m leads.held (Err fault) leads.after leads.holds step told (sym (told_same (λ x t v. now_stands (said x) t v) fault leads.after w));
           counted = counted_here o told;
           stands = stands_by fault refl w m leads.after
-              (λ e. stays w.store leads.held o leads.after (subst (λ (f : StoreFault). by w.store leads.held o (Err f) leads.after) e step)) leads.left;
+              (λ e. is_down leads.after (stays w.store leads.held o leads.after (subst (λ (f : StoreFault). by w.store leads.held o (Err f) leads.after) e step))) leads.left;
+          left = left_by fault refl w m o told (told_of fault leads.after w);
         }
 
     nothing_done : fault ≡ NoMemory → (w : World) → Matches w before → EventCounted Plain [] [] (devices_in (Up old)) (devices_in system) × StandsAs system w.store
+        × (SystemSafe (Up old) → SystemLeaves (λ u. ⊥) (w.store.up ≡ false) (Up old) system)
     nothing_done is w m =
         let here = m.stands in
         let told : OutcomeTold {A = A} Plain (Err fault) = starved_told fault is in (
           subst (λ (d : Devices). EventCounted Plain [] [] (devices_in (Up old)) d) (sym (same_devices fault new)) (cause.still told),
           stands_by fault refl w m w.store (λ e. let no : ⊥ = cc in absurd no)
               (subst (λ (f : StoreFault). StepsBy by w.store old (Err f) new) is (event.step here.told here.belongs w.store here.stands)),
+          λ safe. nothing_by fault is w,
         )
 
     ready_by : (f : StoreFault) → f ≡ fault → (c' : CrewState) → (f ≡ Stopped → (c'.jobs ≡ []) × (c'.accounts ≡ [])) → IsReady (system_after f new) c'
@@ -234,7 +270,7 @@ module _ {A : Type 0} (what : Operator) (by : State → Holding → Outcome → 
     pub fault_line : (failure : Option Failure) (c' : CrewState) (before_text after : Option (List ℕ)) (faults faults' : ℕ) → TellsFault fault count c failure c' before_text after faults faults'
         → DidLine what before failure (seen system c' count) before_text after faults faults'
     fault_line failure c' before_text after faults faults' tells =
-        let both = tells_fault what before system fault (record { does = fault_done; nothing = nothing_done }) failure c' before_text after faults faults' tells in record {
+        let both = tells_fault SystemSafe what before system fault (record { does = fault_done; nothing = nothing_done }) failure c' before_text after faults faults' tells in record {
           goes = both.0;
           ready = ready_by fault refl c' (empty_by fault failure c' before_text after faults faults' tells);
           crew = λ none. leaves_told fault count c failure c' before_text after faults faults' tells;
@@ -252,10 +288,10 @@ module _ {A : Type 0} (what : Operator) (by : State → Holding → Outcome → 
         }
 
 -- a stop takes an event's state down
-pub stop_down : {A : Type 0} (f : Option StoreFault) (reply : A) (s after u : State) → Event f reply s after (Err Stopped) u → u.up ≡ false
+pub stop_down : {A : Type 0} (f : Option StoreFault) (reply : A) (s after u : State) → Event f reply s after (Err Stopped) u → down u ≡ u
 stop_down None reply s after u (isnt, is) = let never : ⊥ = cc in absurd never
-stop_down (Some Stopped) reply s after u (same, inl is) = ap (λ (t : State). t.up) is
-stop_down (Some Stopped) reply s after u (same, inr is) = ap (λ (t : State). t.up) is
+stop_down (Some Stopped) reply s after u (same, inl is) = went_down s u is
+stop_down (Some Stopped) reply s after u (same, inr is) = went_down after u is
 stop_down (Some f) reply s after u (same, is) = let never : ⊥ = cc in absurd never
 
 -- a system that is down calls no event
@@ -276,6 +312,7 @@ module _ (serial : ℕ) (old new : StoreFacts) (c : CrewState) (ready : IsReady 
   went_open answer is begins =
       went (λ s k o a n. OpenStep s k serial o a n) (λ n. 1) old new answer is.event (λ safe other. events_keep_safe.opening serial old new answer safe is begins other)
       (λ safe e. stops_leave_safe.opening serial old new safe (subst (λ (a : Result ℕ StoreFault). Opens serial old a new) e is))
+      (λ safe e blocks rack left. (stopped_events_survive.opening serial old new blocks rack safe (subst (λ (a : Result ℕ StoreFault). Opens serial old a new) e is) left).1)
 
   pub opened_line : (number : ℕ) → Opens serial old (Ok number) new → OpensDump serial old (Ok number) new → (failure : Option Failure) (before_text after : Option (List ℕ)) (faults faults' : ℕ)
       → Puts failure (operator_line count (dump_text number (codes "OPENED"))) before_text after faults faults' → DidLine (line.Dump serial) (seen (Up old) c count) failure (seen (Up new) c count) before_text after faults faults'
@@ -294,6 +331,7 @@ module _ (path : Path) (old new : StoreFacts) (c : CrewState) (ready : IsReady (
   went_migrate answer is =
       went (λ s k o a n. MigrateStep s k path.user (input_name k.tree [] path) o a n) (λ f. 1) old new answer is.event (λ safe other. events_keep_safe.migrating path old new answer safe is other)
       (λ safe e. stops_leave_safe.migrating path old new safe (subst (λ (a : Result Full StoreFault). Migrates path old a new) e is))
+      (λ safe e blocks rack left. (stopped_events_survive.migrating path old new blocks rack safe (subst (λ (a : Result Full StoreFault). Migrates path old a new) e is) left).1)
 
   pub migrated_line : (full : Full) → Migrates path old (Ok full) new → (failure : Option Failure) (before_text after : Option (List ℕ)) (faults faults' : ℕ)
       → Puts failure (operator_line count (codes "MIGRATED " ++ full_text full)) before_text after faults faults' → DidLine (line.Migrate path) (seen (Up old) c count) failure (seen (Up new) c count) before_text after faults faults'

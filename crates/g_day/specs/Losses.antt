@@ -1,5 +1,5 @@
 -- What a power loss leaves of a system after a line or some moves.
-use Rattle.std.specs.Prelude.{◌≡◌, false, List}
+use Rattle.std.specs.Prelude.{◌≡◌, ℕ, false, List}
 use Rattle.std.specs.Fn.{Shared}
 use denote.Ref.{Bor}
 use Rattle.g_rules.specs.declared.tariff.Usage.{Usage}
@@ -8,6 +8,8 @@ use Rattle.g_rules.specs.declared.rule.Standing.{Standing}
 use Rattle.g_store_model.specs.CallStep.{Cut, Outcome, down}
 use Rattle.g_store_model.specs.State.{State}
 use Rattle.g_script.specs.declared.operator.Operator.{Operator}
+use Rattle.g_store_meaning.specs.Safety.{IsLeft}
+use Rattle.g_tape.specs.Rack.{Rack}
 use Rattle.g_run_model.specs.Lines.{LineGives}
 use Rattle.g_run_model.specs.Losses.{LeavesOf, MayBeLeft, RunDown}
 use Rattle.g_run_model.specs.Moves.{Move}
@@ -23,6 +25,12 @@ Never f = ⊥
 abbrev pub SystemLeaves : (State → Type 0) → Type 0 → SystemFacts → SystemFacts → Type 0
 SystemLeaves Leaves Unless old (Up s) = Unit {0}
 SystemLeaves Leaves Unless old (Down d) = LeavesOf Leaves Unless (devices_in old) d
+
+-- A power loss leaves no more of the new system than of the old one, which was down if the new one is. (Of one that is up it leaves its state.)
+abbrev pub LeavesLess : SystemFacts → SystemFacts → Type 0
+LeavesLess old (Up s) = Unit {0}
+LeavesLess (Up s) (Down d) = ⊥
+LeavesLess (Down d) (Down e) = (blocks : List (List ℕ)) (rack : Rack) → IsLeft e.disc e.rack blocks rack → IsLeft d.disc d.rack blocks rack
 
 -- A state that a power loss may leave after a line: the one that it led to; or, if a failed write stopped it, another one that it may lead to
 -- then.

@@ -15,6 +15,7 @@ ghost use Rattle.g_store.specs.Arming.{MeansTheSame};
 ghost use Rattle.g_store.specs.Dumping.{KeepsDumps, KeepsDumpsSafe, OpensDump, Progresses, RefusesDump, StepsAs};
 ghost use Rattle.g_store.specs.Events.{Migrates, Mounts, Opens, StepsDump, Unmounts};
 ghost use Rattle.g_store.specs.Processing.{MovesDumps, StepsProcess};
+ghost use Rattle.g_tape.specs.Rack.{AreReels};
 
 use g_base::NoMemory;
 use g_cache::CachedDisc;
@@ -238,6 +239,7 @@ impl<D: Disc, T: Tapes> Running<D, T> {
         ensures processes { Processes serial self.old result self.new }
         ensures step { StepsProcess serial self.old result self.new }
         ensures dumps { MovesDumps self.old self.new }
+        ensures reels { AreReels self.old.rack.reels }
     {
         match &mut *self.store {
             Some(store) => store.process(alloc, serial),

@@ -1,5 +1,5 @@
 -- The dumps of the reels read so far.
--- serves: dumps_in
+-- serves: dumps_in (all)
 use Rattle.std.proofs.Common.{◌≡◌, ◌⊎◌, ℕ, ◌+◌, ◌<◌, ◌≤◌, List, [], ◌∷◌, ◌++◌, length, take, map, All, Some, refl, sym, ◌∙◌, ap, arith, slice_get, subst, inl, inr}
 use Rattle.std.specs.Prelude.{Contains}
 use Rattle.std.specs.Option.{ForSome}

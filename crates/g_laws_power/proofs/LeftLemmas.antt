@@ -1,5 +1,5 @@
 -- Reels after a power loss have the dumps that survive it, and belong to the same states.
--- serves: DeviceLemmas, EventLemmas, ProcessLossLemmas, ProcessStateLemmas, StepLemmas, StepStateLemmas, SurvivalLemmas
+-- serves: DeviceLemmas, EventLemmas, ProcessLossLemmas, ProcessStateLemmas, RefusalLemmas, StepLemmas, StepStateLemmas, SurvivalLemmas
 use Rattle.std.proofs.Common.{◌≡◌, ℕ, zero, suc, Bool, true, false, List, [], ◌∷◌, map, Option, Some, None, is_some, refl, sym, ◌∙◌, ap, arith, subst, inl, inr, if◌then◌else◌}
 use Rattle.std.specs.Prelude.{◌⊎◌, ◌==◌, All, Contains, IfSome}
 use Rattle.std.specs.List.{AllZip}

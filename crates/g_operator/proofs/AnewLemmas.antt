@@ -39,37 +39,21 @@ use Rattle.g_job_table.specs.Crew.{CrewState}
 use Rattle.g_day.specs.declared.progress.Failure.{Failure}
 use Rattle.g_operator.specs.declared.rising.Rise.{Rise}
 use Rattle.g_operator.specs.declared.rising.Rise.TheVariants as rise
-use Rattle.g_day.specs.BeginningAnew.{AnewLine, GoesFirst, NoClaim, WentAside}
+use Rattle.g_day.specs.BeginningAnew.{AnewLine, GoesFirst, WentAside}
+use Rattle.g_day.specs.Losses.{Never}
 use Rattle.g_operator.specs.Arming.{disc_armed, tape_armed}
 use Rattle.g_day.specs.Opening.{Opens}
-use Rattle.g_day.specs.Parts.{DidLine, DidLineBy, IsReady, Seen, seen}
+use Rattle.g_day.specs.Parts.{DidLineFrom, IsReady, Seen, seen}
 use Rattle.g_day.specs.Puts.{Puts}
 use Rattle.g_operator.specs.Rising.{MakesNone, Raises, line_of}
-use Rattle.g_day.specs.System.{Down, Up}
+use Rattle.g_day.specs.System.{Down, SystemSafe, Up}
 use Rattle.g_day.specs.Telling.{TellsFault}
 use Rattle.g_operator.proofs.DownLemmas.{down_same}
 use Rattle.g_day.proofs.LabelLemmas.{parts_with}
+use Rattle.g_day.proofs.LineLemmas.{never_claimed}
 use Rattle.g_operator.proofs.RiseLemmas.{CameUp, NotMade, comes_up, format_down, not_made}
 use Rattle.g_operator.proofs.SafeLemmas.{all_by}
 use Rattle.g_operator.proofs.WayLemmas.{unrisen_line}
-
--- a line that keeps a safe system safe, without that
-unclaimed : (what : Operator) (old : Seen) (failure : Option Failure) (new : Seen) (before after : Option (List ℕ)) (faults faults' : ℕ) → DidLine what old failure new before after faults faults'
-    → DidLineBy NoClaim what old failure new before after faults faults'
-unclaimed what old failure new before after faults faults' did = record {
-  goes = did.goes;
-  ready = did.ready;
-  crew = did.crew;
-  arms = did.arms;
-  count = did.count;
-  fuses = did.fuses;
-  same = did.same;
-  belongs = did.belongs;
-  safe = tt;
-  dumps = did.dumps;
-  cause = did.cause;
-  grows = did.grows;
-}
 
 -- what a disc counts has its causes, for any contents before and after
 causes_beside : {P Q : Type 0} (old new : DiscState) (a b : Option (List (List ℕ))) → Causes P Q old new → Causes P Q (record old { held = a }) (record new { held = b })
@@ -231,7 +215,7 @@ module _ (disc : DiscState) (rack : Rack) (c : CrewState) (count : ℕ) (ready :
       → GoesFirst line.Format (seen (Down devices) c count) failure (seen (Up new) c' count) before after faults faults'
   risen_format new is opens puts blank = inr (
       comes_up line.Format (Unit {0}) FormatStep (λ r. codes "FORMATTED") (λ o w next it. it) (λ o d e it. it) refl refl (with_new_disc devices).disc rack c count (λ it. tt) tt new
-      (came_anew devices blank ready.0 new is) ready.3 c' NoClaim tt failure before after faults faults' opens puts)
+      (came_anew devices blank ready.0 new is) ready.3 c' Never (λ no. absurd no) failure before after faults faults' opens puts)
 
   refused_format : (fault : StoreFault) (disc' : DiscState) (rack' : Rack) → IsOfFormat fault → RefusesFormat disc rack fault disc' rack' → TellsFault fault count c failure c' before after faults faults'
       → (let e : Devices = record { disc = disc'; rack = rack' } in failure ≡ None → AreBlank devices → NoDiscFault devices e → ⊥)
@@ -243,17 +227,17 @@ module _ (disc : DiscState) (rack : Rack) (c : CrewState) (count : ℕ) (ready :
 
   unformatted_beside : (fault : StoreFault) (disc' : DiscState) (rack' : Rack) → RefusesFormat disc rack fault disc' rack' → AreBlank devices → TellsFault fault count c failure c' before after faults faults'
       → (let e : Devices = record { disc = disc'; rack = rack' } in
-      DidLineBy NoClaim line.Format (seen (Down (with_new_disc devices)) c count) failure (seen (Down (with_new_disc e)) c' count) before after faults faults')
+      DidLineFrom Never line.Format (seen (Down (with_new_disc devices)) c count) failure (seen (Down (with_new_disc e)) c' count) before after faults faults')
   unformatted_beside fault disc' rack' is blank tells =
       let e : Devices = record { disc = disc'; rack = rack' } in
       not_made line.Format (Unit {0}) FormatStep (λ r. codes "FORMATTED") (λ o w next it. it) (λ o d e it. it) refl refl (with_new_disc devices).disc rack c count (λ it. tt) fault (with_new_disc e).disc rack'
       (refuses_beside devices e ready.0 blank fault is)
-      (λ s o u step. format_told s o (Err fault) u step) (format_down fault) NoClaim tt failure c' before after faults faults' ready tells
+      (λ s o u step. format_told s o (Err fault) u step) (format_down fault) Never (λ no. absurd no) (λ no. absurd no) failure c' before after faults faults' ready tells
 
   unrisen_format : (fault : StoreFault) (disc' : DiscState) (rack' : Rack) → MakesNone rise.Format disc rack fault disc' rack' → TellsFault fault count c failure c' before after faults faults'
       → (let e : Devices = record { disc = disc'; rack = rack' } in GoesFirst line.Format (seen (Down devices) c count) failure (seen (Down e) c' count) before after faults faults')
   unrisen_format fault disc' rack' (inl (is, same_disc, same_rack)) tells blank = inl (record {
-    went = unclaimed line.Format (seen (Down (with_new_disc devices)) c count) failure _ before after faults faults' (unrisen_line (with_new_disc devices).disc rack c count ready failure c' before after faults faults' rise.Format fault
+    went = never_claimed SystemSafe line.Format (seen (Down (with_new_disc devices)) c count) _ failure before after faults faults' (unrisen_line (with_new_disc devices).disc rack c count ready failure c' before after faults faults' rise.Format fault
         (with_new_disc (let e : Devices = record { disc = disc'; rack = rack' } in e)).disc rack'
         (inl (is, ap (λ (x : DiscState). let e : Devices = record { disc = x; rack = rack' } in (with_new_disc e).disc) same_disc, same_rack)) tells);
     blank = subst (λ (x : DiscState). let e : Devices = record { disc = x; rack = rack' } in AreBlank e) (sym same_disc) (blank_rack devices rack' same_rack blank);
@@ -302,7 +286,7 @@ same_aside {what = what} {failure = failure} {new = new} {before = before} {afte
 -- any line on devices for starting over
 aside_first : (what : Operator) (old : Seen) (failure : Option Failure) (new : Seen) (before after : Option (List ℕ)) (faults faults' : ℕ)
     → (what ≡ line.Format → ⊥) → WentAside what old failure new before after faults faults' → GoesFirst what old failure new before after faults faults'
-aside_first what old failure new before after faults faults' isnt went blank = inl (record { went = unclaimed what _ failure _ before after faults faults' went.line; blank = went.blank blank; unwell = λ none same well. isnt same })
+aside_first what old failure new before after faults faults' isnt went blank = inl (record { went = never_claimed SystemSafe what _ _ failure before after faults faults' went.line; blank = went.blank blank; unwell = λ none same well. isnt same })
 
 pub first_line : (what : Operator) → is_first what ≡ true → (old : Seen) (failure : Option Failure) (new : Seen) (before after : Option (List ℕ)) (faults faults' : ℕ)
     → AnewLine what old failure new before after faults faults' → GoesFirst what old failure new before after faults faults'

@@ -12,11 +12,12 @@ use Rattle.g_plain.specs.PlainStep.{first_fault}
 use Rattle.g_process.specs.Processing.{ProcessCause, Processes}
 use Rattle.g_laws_power.proofs.DeviceLemmas.{stops_leave_safe}
 use Rattle.g_laws_power.proofs.EventLemmas.{process_keeps_safe}
-use Rattle.g_store_model.specs.CallStep.{Cut, DiscRead, Outcome, Plain, TapeRead}
-use Rattle.g_store_model.specs.DumpSteps.{open_number}
-use Rattle.g_store_model.specs.Process.{Marked, Moved, NotYet, ProcessLeft, ProcessStep, Processes as Steps, process_needs, process_refuses, process_refuses_late}
+use Rattle.g_laws_power.proofs.ProcessStateLemmas.{stopped_process_survives}
+use Rattle.g_store_model.specs.CallStep.{Cut, DiscRead, Outcome, Plain, TapeRead, down}
+use Rattle.g_store_model.specs.DumpSteps.{open_number, with_used}
+use Rattle.g_store_model.specs.Process.{Marked, Moved, NotYet, ProcessLeft, ProcessStep, Processes as Steps, marked_by, moved, process_needs, process_refuses, process_refuses_late, with_cut, with_intent}
 use Rattle.g_store_model.specs.Rising.{fault_from}
-use Rattle.g_store_model.specs.State.{Holding, State, capacity_in, end_of, first_reel, lacks, reel_at}
+use Rattle.g_store_model.specs.State.{Holding, State, capacity_in, end_of, first_reel, lacks, reel_at, with_reel}
 use Rattle.g_store_meaning.specs.StoreInvariant.{StoreFacts}
 use Rattle.g_script.specs.declared.operator.Operator.TheVariants as line
 use Rattle.g_run_model.specs.Devices.{Devices}
@@ -32,7 +33,7 @@ use Rattle.g_day.specs.Puts.{Puts}
 use Rattle.g_day.specs.System.{Up, devices_in, labels}
 use Rattle.g_day.specs.Telling.{TellsFault, system_after}
 use Rattle.g_day.proofs.LabelLemmas.{stands_still}
-use Rattle.g_day.proofs.UpLemmas.{Caused, Went, fault_line, granted_line}
+use Rattle.g_day.proofs.UpLemmas.{Caused, Went, fault_line, granted_line, went_down}
 
 -- the reels are the same ones
 labels_same : (old new : List Reel) → AllZip (λ (o : Reel) (n : Reel). (n.serial ≡ o.serial) × (n.capacity ≡ o.capacity) × (n.mounted ≡ o.mounted)) old new → labels new ≡ labels old
@@ -95,33 +96,33 @@ abbrev stopped : Result ℕ StoreFault
 stopped = Err Stopped
 
 module _ (s : State) (k : Holding) (serial : ℕ) (u : State) where
-  left_down : ProcessLeft s k serial u → u.up ≡ false
-  left_down (NotYet used (inl is)) = ap (λ (t : State). t.up) is
-  left_down (NotYet used (inr is)) = ap (λ (t : State). t.up) is
-  left_down (Marked d p is) = ap (λ (t : State). t.up) is
-  left_down (Moved places d p are copies until cut released is) = ap (λ (t : State). t.up) is
+  left_down : ProcessLeft s k serial u → down u ≡ u
+  left_down (NotYet used (inl is)) = went_down s u is
+  left_down (NotYet used (inr is)) = went_down (record s { reels = with_reel serial (with_used used) s.reels; holding = Some (with_intent s serial k) }) u is
+  left_down (Marked d p is) = went_down (record (marked_by s k serial d) { holding = Some (with_intent s serial k) }) u is
+  left_down (Moved places d p are copies until cut released is) = went_down (with_cut cut (moved s k serial places d until)) u is
 
-  steps_down : (o : Outcome) → Steps s k serial o stopped u → u.up ≡ false
+  steps_down : (o : Outcome) → Steps s k serial o stopped u → down u ≡ u
   steps_down Plain (same, done) = absurd (let no : ⊥ = cc in no)
   steps_down DiscRead (same, left) = absurd (let no : ⊥ = cc in no)
   steps_down TapeRead (same, left) = absurd (let no : ⊥ = cc in no)
   steps_down Cut (same, left) = left_down left
 
   late_down : (o : Outcome) (f : Option StoreFault) → (f ≡ Some Stopped → ⊥)
-      → MatchOption f (Steps s k serial o stopped u) (λ fault. ((stopped ≡ Err fault) ⊎ ((o ≡ TapeRead) × (stopped ≡ Err TapeReadFault))) × (u ≡ s)) → u.up ≡ false
+      → MatchOption f (Steps s k serial o stopped u) (λ fault. ((stopped ≡ Err fault) ⊎ ((o ≡ TapeRead) × (stopped ≡ Err TapeReadFault))) × (u ≡ s)) → down u ≡ u
   late_down o None isnt step = steps_down o step
   late_down o (Some fault) isnt (inl same, is) = absurd (isnt (let e : fault ≡ Stopped = cc in ap Some e))
   late_down o (Some fault) isnt (inr (read, same), is) = absurd (let no : ⊥ = cc in no)
 
   early_down : (o : Outcome) (f : Option StoreFault) → (f ≡ Some Stopped → ⊥)
       → MatchOption f (MatchOption (process_refuses_late s k serial) (Steps s k serial o stopped u) (λ fault. ((stopped ≡ Err fault) ⊎ ((o ≡ TapeRead) × (stopped ≡ Err TapeReadFault))) × (u ≡ s)))
-      (λ fault. (stopped ≡ Err fault) × (u ≡ s)) → u.up ≡ false
+      (λ fault. (stopped ≡ Err fault) × (u ≡ s)) → down u ≡ u
   early_down o None isnt step =
       late_down o (process_refuses_late s k serial)
       (not_late (nat_lt 0 (end_of s serial)) (nat_lt (capacity_in (reel_at serial s.reels)) (process_needs k)) serial (process_needs k) (capacity_in (reel_at serial s.reels))) step
   early_down o (Some fault) isnt (same, is) = absurd (isnt (let e : fault ≡ Stopped = cc in ap Some e))
 
-  pub process_down : (o : Outcome) → ProcessStep s k serial o stopped u → u.up ≡ false
+  pub process_down : (o : Outcome) → ProcessStep s k serial o stopped u → down u ≡ u
   process_down o step =
       early_down o (process_refuses s k serial)
       (not_early (lacks s serial) (first_reel (λ r. not r.mounted) s.reels) (is_some s.open_dump) (k.last == 2 ^ 62 - 1) (open_number s.open_dump)) step
@@ -163,6 +164,8 @@ module _ (serial : ℕ) (old new : StoreFacts) (c : CrewState) (ready : IsReady 
     belongs = is.answers.belongs;
     safe = λ safe other. process_keeps_safe.safe serial old new answer safe is.answers other;
     stopped = λ safe e. stops_leave_safe.process serial old new safe (subst (λ (a : Result ℕ StoreFault). Processes serial old a new) e is.answers);
+    survives = λ safe e blocks rack left.
+        (stopped_process_survives serial old new blocks rack is.reels safe (subst (λ (a : Result ℕ StoreFault). Processes serial old a new) e is.answers) left).1;
     spent = is.answers.spent;
   }
 

@@ -27,11 +27,12 @@ use Rattle.g_store.proofs.TurnLemmas.{files_view, rack_view}
 use Rattle.g_laws_power.proofs.EventLemmas.{events_keep_safe, no_more, same_blocks}
 use Rattle.g_run_model.specs.Devices.{AreReadAs, Devices}
 use Rattle.g_operator.specs.Reels.{MountsOn, StepsReels, UnmountsOn}
+use Rattle.g_day.specs.Losses.{LeavesLess}
 use Rattle.g_day.specs.System.{BelongTogether, Down, DumpsGrow, StandsAs, Up, labels, SystemFacts}
 use Rattle.g_day.proofs.GrowLemmas.{grow_itself, grow_turned}
 use Rattle.g_day.proofs.UpLemmas.{leads_by}
 use Rattle.g_day.proofs.LabelLemmas.{labels_with, parts_with}
-use Rattle.g_operator.proofs.SafeLemmas.{all_by, safe_rack}
+use Rattle.g_operator.proofs.SafeLemmas.{devices_left, all_by, safe_rack}
 
 -- what holds of a system and an answer holds of equal ones
 pub as_known : (On : SystemFacts → Result (Unit {0}) StoreFault → SystemFacts → Type 0) (f d e : SystemFacts) (told answer : Result (Unit {0}) StoreFault) → f ≡ d → told ≡ answer → On d answer e → On f told e
@@ -124,6 +125,9 @@ safe_turned s is d =
     lens : All (λ (r : Reel). r.len ≡ 0) (changed s (with_mounted is) d.rack).reels → All (λ (r : Reel). r.len ≡ 0) d.rack.reels
     lens all = all_by (λ (n : ℕ). n ≡ 0) (λ (r : Reel). r.len) (changed s (with_mounted is) d.rack).reels d.rack.reels (sym (parts_with (λ (r : Reel). r.len) s (with_mounted is) (λ r. refl) d.rack.reels)) all
 
+less_turned : (s : ℕ) (is : Bool) (d : Devices) → LeavesLess (Down d) (Down (turned_devices s is d))
+less_turned s is d = devices_left d.rack (changed s (with_mounted is) d.rack) (no_more s is d.rack) d.disc (labels_with s (with_mounted is) (λ r. refl) (λ r. refl) d.rack.reels)
+
 module _ (s : ℕ) (d : Devices) where
   abbrev here : Option Reel
   here = reel s d.rack.reels
@@ -133,22 +137,23 @@ module _ (s : ℕ) (d : Devices) where
       → labels reels ≡ labels d.rack.reels → (let e : Devices = record d { rack = record d.rack { reels = reels } } in BelongTogether d → BelongTogether e)
       → (let k : Rack = record d.rack { reels = reels } in DumpsGrow d.rack k)
       → (let k : Rack = record d.rack { reels = reels } in AreSafe d.disc d.rack → AreSafe d.disc k)
+      → (let e : Devices = record d { rack = record d.rack { reels = reels } } in LeavesLess (Down d) (Down e))
       → (let e : Devices = record d { rack = record d.rack { reels = reels } } in (u : state.State) → StandsAs (Down d) u → (v : state.State) × StandsAs (Down e) v × by u answer v)
       → (let e : Devices = record d { rack = record d.rack { reels = reels } } in StepsReels by (Down d) answer (Down e))
-  steps_reels answer reels by only same belongs dumps safe step =
-      record { stays = refl; only = only; disc = refl; read_faults = refl; write_faults = refl; arms = refl; reels = same; belongs = belongs; safe = safe; dumps = dumps; step = step }
+  steps_reels answer reels by only same belongs dumps safe left step =
+      record { stays = refl; only = only; disc = refl; read_faults = refl; write_faults = refl; arms = refl; reels = same; belongs = belongs; safe = safe; left = left; dumps = dumps; step = step }
 
   -- a reel is turned
   steps_turned : (is : Bool) (by : state.State → Result (Unit {0}) StoreFault → state.State → Type 0) → ((u : state.State) → AreReadAs d u → by u (Ok tt) (turned_state s is u))
       → StepsReels by (Down d) (Ok tt) (Down (turned_devices s is d))
   steps_turned is by step =
       steps_reels (Ok tt) (with_reel s (with_mounted is) d.rack.reels) by (λ fault e. let no : ⊥ = cc in absurd no) (labels_with s (with_mounted is) (λ r. refl) (λ r. refl) d.rack.reels)
-      (same_belongs s is d) (grow_turned s is d.rack) (safe_turned s is d) (λ u stands. (turned_state s is u, (stands.0, stand_turned s is d u stands.1), step u stands.1))
+      (same_belongs s is d) (grow_turned s is d.rack) (safe_turned s is d) (less_turned s is d) (λ u stands. (turned_state s is u, (stands.0, stand_turned s is d u stands.1), step u stands.1))
 
   -- or it isn't
   steps_none : (fault : StoreFault) → fault ≢ Stopped → (by : state.State → Result (Unit {0}) StoreFault → state.State → Type 0) → ((u : state.State) → AreReadAs d u → by u (Err fault) u) → StepsReels by (Down d) (Err fault) (Down d)
   steps_none fault other by step =
-      steps_reels (Err fault) d.rack.reels by (λ f e is. other (let same : fault ≡ f = cc in same ∙ is)) refl (λ was. was) (grow_itself d.rack) (λ was. was) (λ u stands. (u, stands, step u stands.1))
+      steps_reels (Err fault) d.rack.reels by (λ f e is. other (let same : fault ≡ f = cc in same ∙ is)) refl (λ was. was) (grow_itself d.rack) (λ was. was) (λ blocks rack left. left) (λ u stands. (u, stands, step u stands.1))
 
   -- a reel is turned that isn't refused
   turned_down : (is : Bool) (by : state.State → Result (Unit {0}) StoreFault → state.State → Type 0) (rack : Rack) → rack ≡ changed s (with_mounted is) d.rack
@@ -244,6 +249,7 @@ module _ (s : ℕ) (old new : StoreFacts) (unspent : old.spent ≡ false) where
     reels = ap (λ (t : StoreFacts). labels t.rack.reels) same ∙ labels_with s (with_mounted is) (λ r. refl) (λ r. refl) old.rack.reels;
     belongs = λ was. (event.told was.0, event.belongs was.0 was.1);
     safe = safe;
+    left = tt;
     dumps = subst (λ (t : StoreFacts). DumpsGrow old.rack t.rack) (sym same) (grow_turned s is old.rack);
     step = λ v stands.
         let leads = event.step stands.told stands.belongs v stands.stands in
@@ -259,6 +265,7 @@ module _ (s : ℕ) (old new : StoreFacts) (unspent : old.spent ≡ false) where
     reels = ap (λ (t : StoreFacts). labels t.rack.reels) same;
     belongs = λ was. (event.told was.0, event.belongs was.0 was.1);
     safe = safe;
+    left = tt;
     dumps = subst (λ (t : StoreFacts). DumpsGrow old.rack t.rack) (sym same) (grow_itself old.rack);
     step = λ v stands.
         let leads = leads_by (λ u k o a n. by u a n) v old new fault (known fault why).0 (event.step stands.told stands.belongs v stands.stands) in

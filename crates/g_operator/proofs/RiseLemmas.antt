@@ -13,7 +13,7 @@ use Rattle.std.specs.FinMap.{empty}
 use Rattle.g_plain.specs.PlainTree.{formatted}
 use Rattle.g_plain.specs.PlainStep.{first_fault}
 use Rattle.g_store_model.specs.State.{Dumped, Holding, State, first_reel}
-use Rattle.g_store_model.specs.CallStep.{DiscRead, Outcome, Plain, is_cut, is_disc_read}
+use Rattle.g_store_model.specs.CallStep.{Cut, DiscRead, Outcome, Plain, is_cut, is_disc_read}
 use Rattle.g_store_model.specs.DumpSteps.{Event}
 use Rattle.g_store_model.specs.Rising.{FormatStep, RestoreStep, Restores, StartStep, Starts, adopted, coming_up, dump_adopted, fault_from, restore_early, restore_late, restored, start_refuses}
 use Rattle.g_store_meaning.specs.Belonging.{Belong}
@@ -21,9 +21,13 @@ use Rattle.g_store_meaning.specs.Meaning.{told_reels}
 use Rattle.g_store_meaning.specs.Answers.{Belongs, IsStore, Told}
 use Rattle.g_store_meaning.specs.Reading.{AllTold, DevicesStandFor, StandsForState}
 use Rattle.g_store_meaning.specs.StoreInvariant.{StoreFacts}
+use Rattle.g_store_meaning.specs.Safety.{IsLeft, StandLike}
 use Rattle.g_store_meaning.specs.Surviving.{DumpsMadeSafe}
 use Rattle.g_store.specs.Making.{Begun, Formats, LeadsDown, Makes, Refuses, RefusesFormat, RefusesRestore, RefusesStart, Restored, StepsDown, commits_of_start}
+use Rattle.g_laws_power.specs.Refusals.{RefusalLeaves, StopsDownLike}
 use Rattle.g_laws_power.proofs.DeviceLemmas.{format_is_safe, refusals_keep_safe}
+use Rattle.g_laws_power.proofs.DownLemmas.{like_down}
+use Rattle.g_laws_power.proofs.RefusalLemmas.{refusals_survive}
 use Rattle.g_laws_power.proofs.SurvivalLemmas.{making_is_safe}
 use Rattle.g_script.specs.declared.operator.Operator.{Operator}
 use Rattle.g_script.specs.declared.operator.Operator.TheVariants as line
@@ -32,21 +36,23 @@ use Rattle.g_run_model.specs.Events.{IsTold}
 use Rattle.g_run_model.specs.Lines.{LineGives, Asks, is_process, line_refused, tells, up_with}
 use Rattle.g_run_model.specs.Moves.{EventCounted}
 use Rattle.g_run_model.specs.Texts.{operator_line, started_text}
-use Rattle.g_run_model.specs.World.{World}
+use Rattle.g_run_model.specs.World.{World, system_stopped}
 use Rattle.g_job_table.specs.Accounts.{AreKept, kept_for}
 use Rattle.g_job_table.specs.Crew.{CrewState}
 use Rattle.g_run_model.proofs.EventToldLemmas.{ToldBy, format_told, restore_told, start_told, OutcomeTold}
 use Rattle.g_day.specs.declared.progress.Failure.{Failure}
 use Rattle.g_day.specs.Opening.{Opens}
-use Rattle.g_day.specs.Parts.{DidLine, DidLineBy, DoesLine, IsReady, CountedBy, KeepsSafe, Matches, Seen, disc_arms, seen, tape_arms}
+use Rattle.g_day.specs.Losses.{LineLeft, LineMayLeave, SystemLeaves}
+use Rattle.g_day.specs.Parts.{DidLine, DidLineFrom, DoesLineFrom, IsReady, CountedBy, Matches, Seen, disc_arms, seen, tape_arms}
 use Rattle.g_day.specs.Puts.{Puts}
-use Rattle.g_day.specs.System.{BelongTogether, Down, StandsAs, SystemFacts, Up, devices_in}
+use Rattle.g_day.specs.System.{BelongTogether, Down, StandsAs, SystemFacts, SystemSafe, Up, devices_in}
 use Rattle.g_day.specs.Telling.{TellsFault, refusal_text}
 use Rattle.g_day.proofs.ByLemmas.{grown_by}
 use Rattle.g_day.proofs.CauseLemmas.{OfDisc, counted_by, same_caused}
 use Rattle.g_day.proofs.GrowLemmas.{grow_held}
 use Rattle.g_day.proofs.LeavesLemmas.{leaves_opened, leaves_told}
-use Rattle.g_day.proofs.LineLemmas.{FaultDone, Faulted, none_armed, refused_line, tells_fault, told_of, told_same, was_done}
+use Rattle.g_day.proofs.LineLemmas.{FaultDone, Faulted, none_armed, refused_line, tells_fault, told_of, told_same, told_store, was_done}
+use Rattle.g_day.proofs.LossLemmas.{stopped_left}
 use Rattle.g_day.proofs.UpLemmas.{starved_told, up_is}
 use Rattle.g_day.proofs.UserLemmas.{have_rows}
 use Rattle.g_day.proofs.LabelLemmas.{labels_read, no_fuse, same_still, stands_still}
@@ -148,8 +154,8 @@ module _ {A : Type 0} (what : Operator) (given : Type 0) (by : State → Outcome
       tape_read_only = λ n. makes.tape_read;
     }
 
-    up_does : (w : World) → Matches w before → DoesLine what w (Down old_devices) (Up new) added
-    up_does w m =
+    up_does : (Safe : SystemFacts → Type 0) (w : World) → Matches w before → DoesLineFrom Safe what w (Down old_devices) (Up new) added
+    up_does Safe w m =
         let (u, stands, step) = comes w m in
         let told = plain_ok reply in record {
           outcome = Plain;
@@ -157,17 +163,18 @@ module _ {A : Type 0} (what : Operator) (given : Type 0) (by : State → Outcome
           gives = rises Plain w (up_with (said reply) u w) m (Ok reply) u step told refl;
           counted = counts Plain old_devices (devices_in (Up new)) (counted_by (Ok reply) old_devices (devices_in (Up new)) of_disc Plain told);
           stands = record { told = makes.told m.stands.1.told; belongs = makes.belongs m.stands.1.told (gives (together w m)); stands = stands };
+          left = λ safe. tt;
           text = ap (λ (n : ℕ). w.text ++ operator_line n (said reply)) m.count;
         }
 
     none_kept : AreKept [] c.accounts
     none_kept user = ap (λ accounts. kept_for accounts user) empty
 
-    up_matches : Opens new.online.contents.users c c' → (w : World) (m : Matches w before) → Matches (up_does w m).next (seen (Up new) c' count)
+    up_matches : (Safe : SystemFacts → Type 0) → Opens new.online.contents.users c c' → (w : World) (m : Matches w before) → Matches (up_does Safe w m).next (seen (Up new) c' count)
     unfolding up_does comes
-    up_matches opens w m =
+    up_matches Safe opens w m =
         let (u, stands, step) = comes w m in record {
-          stands = (up_does w m).stands;
+          stands = (up_does Safe w m).stands;
           crew = record {
             jobs = m.crew.jobs ∙ sym (ap (λ (k : CrewState). k.jobs) opens.others);
             accounts = opens.accounts u [] (have_rows new makes.running u stands) none_kept;
@@ -176,10 +183,10 @@ module _ {A : Type 0} (what : Operator) (given : Type 0) (by : State → Outcome
           count = m.count;
         }
 
-    pub comes_up : (Keeps : SystemFacts → SystemFacts → Type 0) → Keeps (Down old_devices) (Up new) → (failure : Option Failure) (before_text after : Option (List ℕ)) (faults faults' : ℕ) → (failure ≡ None → Opens new.online.contents.users c c')
-        → Puts failure added before_text after faults faults' → DidLineBy Keeps what before failure (seen (Up new) c' count) before_text after faults faults'
-    comes_up Keeps keeps failure before_text after faults faults' opens puts = record {
-      goes = was_done what before (seen (Up new) c' count) failure added before_text after up_does (λ w m e. up_matches (opens e) w m) puts.put;
+    pub comes_up : (Safe : SystemFacts → Type 0) → (Safe (Down old_devices) → Safe (Up new)) → (failure : Option Failure) (before_text after : Option (List ℕ)) (faults faults' : ℕ) → (failure ≡ None → Opens new.online.contents.users c c')
+        → Puts failure added before_text after faults faults' → DidLineFrom Safe what before failure (seen (Up new) c' count) before_text after faults faults'
+    comes_up Safe keeps failure before_text after faults faults' opens puts = record {
+      goes = was_done Safe what before (seen (Up new) c' count) failure added before_text after (up_does Safe) (λ w m e. up_matches Safe (opens e) w m) puts.put;
       ready = (makes.running, makes.keeps.tied.size, makes.keeps.tied.most);
       crew = λ none. leaves_opened new.online.contents.users c c' (opens none);
       arms = none_armed what failure old_devices (devices_in (Up new)) no_disc no_tape makes.causes.arms makes.tapes.arms;
@@ -197,7 +204,9 @@ module _ {A : Type 0} (what : Operator) (given : Type 0) (by : State → Outcome
   -- IT ISN'T MADE
   module _ (fault : StoreFault) (disc' : DiscState) (rack' : Rack) (refuses : NotMade given by disc rack fault disc' rack')
       (told_too : (s : State) (o : Outcome) (u : State) → by s o (Err fault) u → ToldBy (by s) o (Err fault) u)
-      (stays : (s : State) (o : Outcome) (u : State) → s.up ≡ false → by s o (Err fault) u → u.up ≡ false) where
+      (stays : (s : State) (o : Outcome) (u : State) → s.up ≡ false → by s o (Err fault) u → u.up ≡ false) (Safe : SystemFacts → Type 0)
+      (leaves : (let d : Devices = record { disc = disc; rack = rack } in Safe (Down d)) → (blocks : List (List ℕ)) (after : Rack) → IsLeft disc' rack' blocks after → (s : State) → DevicesStandFor disc.size disc.held (told_reels rack) s
+      → RefusalLeaves by s disc rack fault disc' blocks after) where
     abbrev new_devices : Devices
     new_devices = record { disc = disc'; rack = rack' }
 
@@ -221,7 +230,27 @@ module _ {A : Type 0} (what : Operator) (given : Type 0) (by : State → Outcome
     stands_down : (w : World) → Matches w before → (u : State) → u.up ≡ false → DevicesStandFor disc'.size disc'.held (told_reels rack') u → StandsAs (Down new_devices) u
     stands_down w m u down reads = (down, record { told = refuses.told m.stands.1.told; belong = refuses.belongs m.stands.1.told m.stands.1.belong; reads = reads })
 
-    fault_done : fault ≢ NoMemory → (w : World) → Matches w before → FaultDone what w (Down old_devices) (Down new_devices) fault
+    -- what a power loss leaves, by the refusal
+    abbrev RefusedBy : StoreFault → Type 0
+    RefusedBy f = Safe (Down old_devices) → (blocks : List (List ℕ)) (after : Rack) → IsLeft disc' rack' blocks after → (s : State) → DevicesStandFor disc.size disc.held (told_reels rack) s
+        → RefusalLeaves by s disc rack f disc' blocks after
+
+    abbrev ToldToo : StoreFault → Type 0
+    ToldToo f = (s : State) (o : Outcome) (u : State) → by s o (Err f) u → ToldBy (by s) o (Err f) u
+
+    other_end : ToldToo Stopped → (w : World) → Matches w before → (o : Outcome) (next : World) → o ≡ Cut → (blocks : List (List ℕ)) (after : Rack) → StopsDownLike by w.store disc'.size blocks after
+        → (u : State) × LineMayLeave what o w next u × StandLike disc'.size blocks after u
+    other_end told w m o next cut blocks after like =
+        let (p, step, p_told, which) = told w.store like.outcome like.after like.step in
+        let gives = rises p w (system_stopped like.after w) m (Err Stopped) like.after step p_told refl in
+        stopped_left what o w next like.after disc'.size blocks after cut (subst (λ (q : Outcome). LineGives q what w (system_stopped like.after w)) (p_told.cut refl) gives) (sym (like_down like.after like.stand)) like.stand
+
+    fault_left : (f : StoreFault) → RefusedBy f → ToldToo f → (w : World) → Matches w before → (o : Outcome) → (f ≡ Stopped → o ≡ Cut) → (next : World) → next.store.up ≡ false → Safe (Down old_devices)
+        → LineLeft what o w next (Down old_devices) (Down new_devices)
+    fault_left Stopped refused told w m o cut next down safe = λ blocks after left. inl (other_end told w m o next (cut refl) blocks after (refused safe blocks after left w.store m.stands.1.reads))
+    fault_left f refused told w m o cut next down safe = λ blocks after left. inr ((m.stands.0, down), refused safe blocks after left w.store m.stands.1.reads)
+
+    fault_done : fault ≢ NoMemory → (w : World) → Matches w before → FaultDone Safe what w (Down old_devices) (Down new_devices) fault
     fault_done other w m =
         let here = m.stands.1 in
         let leads = leads_down by w.store disc rack fault disc' rack' other (refuses.step here.told (gives (record { told = here.told; belong = here.belong })) w.store here.reads) in
@@ -231,29 +260,37 @@ module _ {A : Type 0} (what : Operator) (given : Type 0) (by : State → Outcome
           gives = rises o w (told_of fault leads.after w) m (Err fault) leads.after step told (sym (told_same (λ x t v. up_with (said x) t v) fault leads.after w));
           counted = counts o old_devices new_devices (counted_by (Err fault) old_devices new_devices of_fault o told);
           stands = stands_down w m leads.after (stays w.store o leads.after m.stands.0 step) leads.left;
+          left = fault_left fault leaves told_too w m o (λ is. told.cut (ap Err is)) (told_of fault leads.after w) (ap (λ (t : State). t.up) (told_store fault leads.after w) ∙ stays w.store o leads.after m.stands.0 step);
         }
 
-    nothing_done : fault ≡ NoMemory → (w : World) → Matches w before → EventCounted Plain [] [] old_devices new_devices × StandsAs (Down new_devices) w.store
+    nothing_left : fault ≡ NoMemory → (w : World) → Matches w before → Safe (Down old_devices) → SystemLeaves (λ u. ⊥) (w.store.up ≡ false) (Down old_devices) (Down new_devices)
+    nothing_left is w m safe = λ blocks after left.
+        inr (m.stands.0, subst (λ (f : StoreFault). RefusalLeaves by w.store disc rack f disc' blocks after) is (leaves safe blocks after left w.store m.stands.1.reads))
+
+    nothing_done : fault ≡ NoMemory → (w : World) → Matches w before
+        → EventCounted Plain [] [] old_devices new_devices × StandsAs (Down new_devices) w.store × (Safe (Down old_devices) → SystemLeaves (λ u. ⊥) (w.store.up ≡ false) (Down old_devices) (Down new_devices))
     nothing_done is w m =
         let here = m.stands.1 in
         let told : OutcomeTold {A = A} Plain (Err fault) = starved_told fault is in (
           counted_by (Err fault) old_devices new_devices of_fault Plain told,
           stands_down w m w.store m.stands.0
               (subst (λ (f : StoreFault). StepsDown by w.store disc rack f disc' rack') is (refuses.step here.told (gives (record { told = here.told; belong = here.belong })) w.store here.reads)),
+          nothing_left is w m,
         )
 
-    pub faulted : Faulted what before (Down new_devices) fault
+    pub faulted : Faulted Safe what before (Down new_devices) fault
     faulted = record { does = fault_done; nothing = nothing_done }
 
   pub not_made : (fault : StoreFault) (disc' : DiscState) (rack' : Rack) → NotMade given by disc rack fault disc' rack'
       → ((s : State) (o : Outcome) (u : State) → by s o (Err fault) u → ToldBy (by s) o (Err fault) u)
       → ((s : State) (o : Outcome) (u : State) → s.up ≡ false → by s o (Err fault) u → u.up ≡ false)
-      → (Keeps : SystemFacts → SystemFacts → Type 0) → (let d : Devices = record { disc = disc'; rack = rack' } in Keeps (Down old_devices) (Down d))
+      → (Safe : SystemFacts → Type 0) → (let d : Devices = record { disc = disc'; rack = rack' } in Safe (Down old_devices) → Safe (Down d))
+      → (Safe (Down old_devices) → (blocks : List (List ℕ)) (after : Rack) → IsLeft disc' rack' blocks after → (s : State) → DevicesStandFor disc.size disc.held (told_reels rack) s → RefusalLeaves by s disc rack fault disc' blocks after)
       → (failure : Option Failure) (c' : CrewState) (before_text after : Option (List ℕ)) (faults faults' : ℕ) → IsReady (Down old_devices) c → TellsFault fault count c failure c' before_text after faults faults'
-      → (let d : Devices = record { disc = disc'; rack = rack' } in DidLineBy Keeps what before failure (seen (Down d) c' count) before_text after faults faults')
-  not_made fault disc' rack' refuses told_too stays Keeps keeps failure c' before_text after faults faults' ready tells =
+      → (let d : Devices = record { disc = disc'; rack = rack' } in DidLineFrom Safe what before failure (seen (Down d) c' count) before_text after faults faults')
+  not_made fault disc' rack' refuses told_too stays Safe keeps leaves failure c' before_text after faults faults' ready tells =
       let d : Devices = record { disc = disc'; rack = rack' } in
-      let both = tells_fault what before (Down d) fault (faulted fault disc' rack' refuses told_too stays) failure c' before_text after faults faults' tells in record {
+      let both = tells_fault Safe what before (Down d) fault (faulted fault disc' rack' refuses told_too stays Safe leaves) failure c' before_text after faults faults' tells in record {
         goes = both.0;
         ready =
             let (low, high, no_jobs, no_accounts) = ready in
@@ -263,7 +300,7 @@ module _ {A : Type 0} (what : Operator) (given : Type 0) (by : State → Outcome
         arms = none_armed what failure old_devices d no_disc no_tape refuses.causes.arms refuses.tapes.arms;
         count = refl;
         fuses = no_fuse what no_disc no_tape d;
-        same = same_caused {A = A} (Err fault) old_devices d (of_fault fault disc' rack' refuses told_too stays).disc refuses.tapes;
+        same = same_caused {A = A} (Err fault) old_devices d (of_fault fault disc' rack' refuses told_too stays Safe leaves).disc refuses.tapes;
         belongs = λ is. record { told = refuses.told is.told; belong = refuses.belongs is.told is.belong };
         safe = keeps;
         dumps = λ is. grown_by (is_process what) rack rack' (grow_held rack rack' refuses.tapes.reels);
@@ -310,7 +347,7 @@ module _ (disc : DiscState) (rack : Rack) (c : CrewState) (count : ℕ) (ready :
       → (let d : Devices = record { disc = disc; rack = rack } in DidLine line.Format (seen (Down d) c count) failure (seen (Up new) c' count) before_text after faults faults')
   formatted_line new is opens puts =
       comes_up line.Format (Unit {0}) FormatStep (λ r. codes "FORMATTED") (λ o w next it. it) (λ o d e it. it) refl refl disc rack c count (λ it. tt) tt new (came_up (Unit {0}) FormatStep (λ reply. 1) disc rack tt new is.makes) ready.3 c'
-      KeepsSafe (λ safe. format_is_safe disc rack new safe is) failure before_text after faults faults' opens puts
+      SystemSafe (λ safe. format_is_safe disc rack new safe is) failure before_text after faults faults' opens puts
 
   pub unformatted_line : (fault : StoreFault) (disc' : DiscState) (rack' : Rack) → RefusesFormat disc rack fault disc' rack' → TellsFault fault count c failure c' before_text after faults faults'
       → (let d : Devices = record { disc = disc; rack = rack } in let e : Devices = record { disc = disc'; rack = rack' } in
@@ -318,7 +355,8 @@ module _ (disc : DiscState) (rack : Rack) (c : CrewState) (count : ℕ) (ready :
   unformatted_line fault disc' rack' is tells =
       not_made line.Format (Unit {0}) FormatStep (λ r. codes "FORMATTED") (λ o w next it. it) (λ o d e it. it) refl refl disc rack c count (λ it. tt) fault disc' rack' (none_made (Unit {0}) FormatStep disc rack fault disc' rack' is.refuses)
       (λ s o u step. format_told s o (Err fault) u step) (format_down fault)
-      KeepsSafe (λ safe. refusals_keep_safe.format disc disc' rack rack' fault safe is) failure c' before_text after faults faults' ready tells
+      SystemSafe (λ safe. refusals_keep_safe.format disc disc' rack rack' fault safe is)
+      (λ safe blocks left may s stands. refusals_survive.format disc disc' rack rack' fault blocks left safe is may s stands) failure c' before_text after faults faults' ready tells
 
   -- START
   pub started_line : (number : Option ℕ) (new : StoreFacts) → Begun disc rack number new → DumpsMadeSafe rack new.rack → (failure ≡ None → Opens new.online.contents.users c c')
@@ -326,7 +364,7 @@ module _ (disc : DiscState) (rack : Rack) (c : CrewState) (count : ℕ) (ready :
       → (let d : Devices = record { disc = disc; rack = rack } in DidLine line.Start (seen (Down d) c count) failure (seen (Up new) c' count) before_text after faults faults')
   started_line number new is durable opens puts =
       comes_up line.Start (Belong disc.held rack) StartStep started_text (λ o w next it. it) (λ o d e it. it) refl refl disc rack c count (λ it. it.belong) number new (came_up (Belong disc.held rack) StartStep commits_of_start disc rack number new is.makes) ready.3 c'
-      KeepsSafe (λ safe. making_is_safe.start disc rack number new safe.now is durable) failure before_text after faults faults' opens puts
+      SystemSafe (λ safe. making_is_safe.start disc rack number new safe.now is durable) failure before_text after faults faults' opens puts
 
   pub unstarted_line : (fault : StoreFault) (disc' : DiscState) (rack' : Rack) → RefusesStart disc rack fault disc' rack' → (fault ≡ Stopped → DumpsMadeSafe rack rack') → TellsFault fault count c failure c' before_text after faults faults'
       → (let d : Devices = record { disc = disc; rack = rack } in let e : Devices = record { disc = disc'; rack = rack' } in
@@ -335,7 +373,8 @@ module _ (disc : DiscState) (rack : Rack) (c : CrewState) (count : ℕ) (ready :
       not_made line.Start (Belong disc.held rack) StartStep started_text (λ o w next it. it) (λ o d e it. it) refl refl disc rack c count (λ it. it.belong) fault disc' rack'
       (none_made (Belong disc.held rack) StartStep disc rack fault disc' rack' is.refuses)
       (λ s o u step. start_told s o (Err fault) u step) (start_down fault)
-      KeepsSafe (λ safe. refusals_keep_safe.start disc disc' rack rack' fault safe is durable) failure c' before_text after faults faults' ready tells
+      SystemSafe (λ safe. refusals_keep_safe.start disc disc' rack rack' fault safe is durable)
+      (λ safe blocks left may s stands. refusals_survive.start disc disc' rack rack' fault blocks left safe is durable may s stands) failure c' before_text after faults faults' ready tells
 
   -- RESTORE
   pub restored_line : (number : ℕ) (new : StoreFacts) → Restored disc rack number new → DumpsMadeSafe rack new.rack → (failure ≡ None → Opens new.online.contents.users c c')
@@ -343,7 +382,7 @@ module _ (disc : DiscState) (rack : Rack) (c : CrewState) (count : ℕ) (ready :
       → (let d : Devices = record { disc = disc; rack = rack } in DidLine line.Restore (seen (Down d) c count) failure (seen (Up new) c' count) before_text after faults faults')
   restored_line number new is durable opens puts =
       comes_up line.Restore (Belong disc.held rack) RestoreStep (λ n. codes "RESTORED FROM DUMP " ++ decimal n) (λ o w next it. it) (λ o d e it. it) refl refl disc rack c count (λ it. it.belong) number new (came_up (Belong disc.held rack) RestoreStep (λ n. 1) disc rack number new is.makes) ready.3 c'
-      KeepsSafe (λ safe. making_is_safe.restore disc rack number new safe.now is durable) failure before_text after faults faults' opens puts
+      SystemSafe (λ safe. making_is_safe.restore disc rack number new safe.now is durable) failure before_text after faults faults' opens puts
 
   pub unrestored_line : (fault : StoreFault) (disc' : DiscState) (rack' : Rack) → RefusesRestore disc rack fault disc' rack' → (fault ≡ Stopped → DumpsMadeSafe rack rack') → TellsFault fault count c failure c' before_text after faults faults'
       → (let d : Devices = record { disc = disc; rack = rack } in let e : Devices = record { disc = disc'; rack = rack' } in
@@ -352,7 +391,8 @@ module _ (disc : DiscState) (rack : Rack) (c : CrewState) (count : ℕ) (ready :
       not_made line.Restore (Belong disc.held rack) RestoreStep (λ n. codes "RESTORED FROM DUMP " ++ decimal n) (λ o w next it. it) (λ o d e it. it) refl refl disc rack c count (λ it. it.belong) fault disc' rack'
       (none_made (Belong disc.held rack) RestoreStep disc rack fault disc' rack' is.refuses)
       (λ s o u step. restore_told s o (Err fault) u step) (restore_down fault)
-      KeepsSafe (λ safe. refusals_keep_safe.restore disc disc' rack rack' fault safe is durable) failure c' before_text after faults faults' ready tells
+      SystemSafe (λ safe. refusals_keep_safe.restore disc disc' rack rack' fault safe is durable)
+      (λ safe blocks left may s stands. refusals_survive.restore disc disc' rack rack' fault blocks left safe is durable may s stands) failure c' before_text after faults faults' ready tells
 
 -- a system that is up isn't brought up again
 pub running_line : {A : Type 0} (what : Operator) (by : State → Outcome → Result A StoreFault → State → Type 0) (said : A → List ℕ)

@@ -42,11 +42,14 @@ module _ (d : DiscState) (f : Option ℕ) (a : Arms) where
     blank = is.blank;
   }
 
+  pub armed_disc_left : (blocks : List (List ℕ)) (old after : Rack) → IsLeft disc old blocks after → IsLeft d old blocks after
+  armed_disc_left blocks old after may = record { on_disc = record { size = may.on_disc.size; whole = may.on_disc.whole; durable = may.on_disc.durable }; reels = may.reels }
+
   pub safe_disc : (rack : Rack) → AreSafe d rack → AreSafe disc rack
   safe_disc rack is = record {
     now = can_disc rack is.now;
     left = λ blocks after left.
-        let was = is.left blocks after (record { on_disc = record { size = left.on_disc.size; whole = left.on_disc.whole; durable = left.on_disc.durable }; reels = left.reels }) in record {
+        let was = is.left blocks after (armed_disc_left blocks rack after left) in record {
           told = was.told;
           belong = was.belong;
           disc_safe = λ held at side names. let slot = was.disc_safe held at side names in record { slot = slot.slot; files = slot.files };
@@ -80,6 +83,9 @@ module _ (old new : Rack) (no_more : LeavesNoMore old new) where
   pub rack_left : (after : Rack) → labels new.reels ≡ labels old.reels → IsRackLeft new after → IsRackLeft old after
   rack_left after same is = record { reels = reels_left old.reels new.reels after.reels same is.reels; durable = is.durable }
 
+  pub devices_left : (d : DiscState) → labels new.reels ≡ labels old.reels → (blocks : List (List ℕ)) (after : Rack) → IsLeft d new blocks after → IsLeft d old blocks after
+  devices_left d same blocks after may = record { on_disc = may.on_disc; reels = rack_left after same may.reels }
+
   -- devices with such a rack
   pub safe_rack : (d : DiscState) → labels new.reels ≡ labels old.reels → ((n : ℕ) → blocks_of n new ≡ blocks_of n old)
       → (All (λ (r : Reel). r.len ≡ 0) new.reels → All (λ (r : Reel). r.len ≡ 0) old.reels)
@@ -94,7 +100,7 @@ module _ (old new : Rack) (no_more : LeavesNoMore old new) where
           dumps = λ n. can_reads n old new no_more (blocks n) (is.now.dumps n);
           blank = λ all n. survive_reads n old new no_more (blocks n) (is.now.blank (lens all) n);
         };
-        left = λ left after may. is.left left after (record { on_disc = may.on_disc; reels = rack_left after same may.reels });
+        left = λ left after may. is.left left after (devices_left d same left after may);
       }
 
 -- A RACK THAT WAS ARMED
@@ -104,6 +110,9 @@ module _ (r : Rack) (f : Option ℕ) (a : Arms) where
 
   no_more_armed : LeavesNoMore r rack
   no_more_armed = record { leaves = λ n left may. may; syncable = λ n able. able }
+
+  pub armed_rack_left : (d : DiscState) (blocks : List (List ℕ)) (after : Rack) → IsLeft d rack blocks after → IsLeft d r blocks after
+  armed_rack_left d blocks after may = devices_left r rack no_more_armed d refl blocks after may
 
   pub safe_armed : (d : DiscState) → AreSafe d r → AreSafe d rack
   safe_armed d is = safe_rack r rack no_more_armed d refl (λ n. refl) (λ all. all) (λ was. record { told = was.told; belong = was.belong }) is

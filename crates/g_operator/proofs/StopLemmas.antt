@@ -21,13 +21,14 @@ use Rattle.g_day.specs.declared.progress.Failure.{Failure}
 use Rattle.g_operator.specs.Arming.{HasArmed, disc_armed, tape_armed}
 use Rattle.g_day.specs.Parts.{ArmsBy, DidLine, DoesLine, IsReady, Matches, seen}
 use Rattle.g_day.specs.Puts.{Puts}
-use Rattle.g_day.specs.System.{Down, SystemFacts, Up, devices_in, DumpsGrow, SameDevices}
+use Rattle.g_day.specs.System.{Down, SystemFacts, SystemSafe, Up, devices_in, DumpsGrow, SameDevices}
 use Rattle.g_day.proofs.GrowLemmas.{grow_held}
 use Rattle.g_day.proofs.LabelLemmas.{same_counts}
 use Rattle.g_day.proofs.LeavesLemmas.{leaves_same}
+use Rattle.g_day.proofs.LossLemmas.{less_line}
 use Rattle.g_day.proofs.LineLemmas.{was_done}
 use Rattle.g_day.proofs.PutLemmas.{puts_grown}
-use Rattle.g_operator.proofs.SafeLemmas.{safe_armed, safe_disc, store_safe}
+use Rattle.g_operator.proofs.SafeLemmas.{armed_disc_left, armed_rack_left, safe_armed, safe_disc, store_safe}
 
 -- a store that means the same
 armed_up : (armed : Devices → Devices) (s t : StoreFacts) → MeansTheSame s t → devices_in (Up t) ≡ armed (devices_in (Up s)) → t.spent ≡ s.spent → t.online.disc.size ≡ s.online.disc.size
@@ -37,6 +38,7 @@ armed_up armed s t same devices spent size safe = record {
   stands = λ u is. record { told = same.told is.told; belongs = same.belongs is.belongs; stands = same.state u is.stands };
   belongs = λ is. (same.told is.0, same.belongs is.1);
   safe = safe;
+  left = tt;
   ready = λ c ready.
       let (unspent, low, high) = ready in
       (spent ∙ unspent, subst (λ (n : ℕ). 2177 < n) (sym size) low, subst (λ (n : ℕ). n ≤ 1048576) (sym size) high);
@@ -62,6 +64,7 @@ disc_down k d = record {
   stands = λ u is. (is.0, record { told = is.1.told; belong = is.1.belong; reads = is.1.reads });
   belongs = λ is. record { told = is.told; belong = is.belong };
   safe = safe_disc d.disc (Some k) (armed_with k d.disc.writes d.disc.arms) d.rack;
+  left = λ blocks rack may. armed_disc_left d.disc (Some k) (armed_with k d.disc.writes d.disc.arms) blocks d.rack rack may;
   ready = λ c ready. ready;
 }
 
@@ -71,6 +74,7 @@ tape_down k d = record {
   stands = λ u is. (is.0, record { told = is.1.told; belong = is.1.belong; reads = is.1.reads });
   belongs = λ is. record { told = is.told; belong = is.belong };
   safe = safe_armed d.rack (Some k) (armed_with k d.rack.write_faults d.rack.arms) d.disc;
+  left = λ blocks rack may. armed_rack_left d.rack (Some k) (armed_with k d.rack.write_faults d.rack.arms) d.disc blocks rack may;
   ready = λ c ready. ready;
 }
 
@@ -103,6 +107,7 @@ module _ (k : ℕ) (old new : SystemFacts) (c : CrewState) (count : ℕ) where
     gives = (refl, refl);
     counted = subst (EventCounted Plain (k ∷ []) [] (devices_in old)) (sym armed.devices) (disc_counted k (devices_in old));
     stands = armed.stands w.store m.stands;
+    left = λ safe. less_line (line.StopDisc k) Plain w (says (codes "STOP SET") (record w { disc_stops = w.disc_stops ++ k ∷ [] })) old new m.stands (armed.stands w.store m.stands) armed.left;
     text = ap (λ (n : ℕ). w.text ++ operator_line n (codes "STOP SET")) m.count;
   }
 
@@ -113,6 +118,7 @@ module _ (k : ℕ) (old new : SystemFacts) (c : CrewState) (count : ℕ) where
     gives = (refl, refl);
     counted = subst (EventCounted Plain [] (k ∷ []) (devices_in old)) (sym armed.devices) (tape_counted k (devices_in old));
     stands = armed.stands w.store m.stands;
+    left = λ safe. less_line (line.StopTape k) Plain w (says (codes "STOP SET") (record w { tape_stops = w.tape_stops ++ k ∷ [] })) old new m.stands (armed.stands w.store m.stands) armed.left;
     text = ap (λ (n : ℕ). w.text ++ operator_line n (codes "STOP SET")) m.count;
   }
 
@@ -120,7 +126,7 @@ module _ (k : ℕ) (old new : SystemFacts) (c : CrewState) (count : ℕ) where
       → DidLine (line.StopDisc k) (seen old c count) failure (seen new c count) before after faults faults'
   unfolding disc_does
   disc_stop armed ready failure before after faults faults' puts = record {
-    goes = was_done (line.StopDisc k) (seen old c count) (seen new c count) failure set_text before after (disc_does armed)
+    goes = was_done SystemSafe (line.StopDisc k) (seen old c count) (seen new c count) failure set_text before after (disc_does armed)
         (λ w m e. record {
           stands = (disc_does armed w m).stands;
           crew = record { jobs = m.crew.jobs; accounts = m.crew.accounts; next_job = m.crew.next_job };
@@ -150,7 +156,7 @@ module _ (k : ℕ) (old new : SystemFacts) (c : CrewState) (count : ℕ) where
       → DidLine (line.StopTape k) (seen old c count) failure (seen new c count) before after faults faults'
   unfolding tape_does
   tape_stop armed ready failure before after faults faults' puts = record {
-    goes = was_done (line.StopTape k) (seen old c count) (seen new c count) failure set_text before after (tape_does armed)
+    goes = was_done SystemSafe (line.StopTape k) (seen old c count) (seen new c count) failure set_text before after (tape_does armed)
         (λ w m e. record {
           stands = (tape_does armed w m).stands;
           crew = record { jobs = m.crew.jobs; accounts = m.crew.accounts; next_job = m.crew.next_job };

@@ -40,7 +40,7 @@ use Rattle.g_day.specs.declared.progress.Failure.{Failure}
 use Rattle.g_day.specs.declared.progress.Failure.TheVariants.{Memory}
 use Rattle.g_day.specs.Jobs.{KnowsIn}
 use Rattle.g_day.specs.Parts.{DidLine, DoesLine, IsReady, LeavesCrew, Matches, Seen, disc_arms, seen, tape_arms}
-use Rattle.g_day.specs.System.{Down, SystemFacts, Up, devices_in}
+use Rattle.g_day.specs.System.{Down, SystemFacts, SystemSafe, Up, devices_in}
 use Rattle.g_day.specs.Telling.{TellsFault, refusal_text, system_behind}
 use Rattle.g_day.specs.Puts.{Puts}
 use Rattle.g_day.specs.Terminals.{ChangesAt, SeatsJob, TellsSeat, is_up_in, login_text, seated_in}
@@ -116,6 +116,7 @@ module _ (login : NewLogin) (s : StoreFacts) (known : Bool) (known_is : (u : Sta
       gives = gives_login login w (comes login w) (up_is s w.store ready.0 m.stands.stands) (sym (ap (λ (o : Option (List ℕ)). job_line o (comes login w) w) (granted w m.crew (known_is w.store m.stands.stands))));
       counted = event_none (devices_in (Up s));
       stands = m.stands;
+      left = λ safe. tt;
       text = append_assoc w.text (operator_line w.count (job_text w.next_job (terminal_name login.terminal ++ codes " IN")))
           (shown_at login.terminal (terminal_job w.next_job login.terminal login.user login.time).monitor)
           ∙ ap (λ (n : ℕ). w.text ++ login_text n w.next_job login) m.count ∙ ap (λ (n : ℕ). w.text ++ login_text count n login) m.crew.next_job;
@@ -247,6 +248,7 @@ module _ (t : ℕ) (change : JobState → JobState) (stays : (j : JobState) → 
           (sym (ap (λ (js : List JobState). changed_at t change (open_at t js) w) m.crew.jobs ∙ ap (λ (o : Option JobState). changed_at t change o w) there));
       counted = plain_counted what no_disc no_tape (devices_in (Up s)) (devices_in (Up s)) (event_none (devices_in (Up s)));
       stands = m.stands;
+      left = λ safe. tt;
       text = sym (append-nil w.text);
     }
 
@@ -269,7 +271,7 @@ module _ (t : ℕ) (change : JobState → JobState) (stays : (j : JobState) → 
 
   went_on : (job : JobState) → open_at t c.jobs ≡ Some job → (before : Option (List ℕ)) (faults : ℕ) → DidIt None (changed_crew job) before before faults faults
   went_on job there before faults = record {
-    goes = was_done what before_it (seen (Up s) (changed_crew job) count) None [] before before (change_does job there) (λ w m e. change_matches job there w m) (more_none before);
+    goes = was_done SystemSafe what before_it (seen (Up s) (changed_crew job) count) None [] before before (change_does job there) (λ w m e. change_matches job there w m) (more_none before);
     ready = ready;
     crew = λ none. leaves_changed job there;
     arms = none_armed what None (devices_in (Up s)) (devices_in (Up s)) no_disc no_tape refl refl;

@@ -24,13 +24,14 @@ use Rattle.g_day.specs.BeginningAnew.{IsBlank, WentAside, beside_new}
 use Rattle.g_day.specs.Parts.{DidLine, DoesLine, IsReady, CountedBy, Matches, Seen, disc_arms, seen, tape_arms}
 use Rattle.g_day.specs.Puts.{Puts}
 use Rattle.g_operator.specs.Reels.{StaysAsUp, StepsReels}
-use Rattle.g_day.specs.System.{Down, StandsAs, SystemFacts, Up, devices_in}
+use Rattle.g_day.specs.System.{Down, StandsAs, SystemFacts, SystemSafe, Up, devices_in}
 use Rattle.g_day.specs.Telling.{refusal_text}
 use Rattle.g_day.proofs.BesideLemmas.{ready_beside}
 use Rattle.g_operator.proofs.AnewLemmas.{same_aside}
 use Rattle.g_operator.proofs.DayLemmas.{same_line}
 use Rattle.g_day.proofs.LeavesLemmas.{leaves_same}
 use Rattle.g_day.proofs.ByLemmas.{grown_by, plain_counted}
+use Rattle.g_day.proofs.LossLemmas.{less_line}
 use Rattle.g_day.proofs.LineLemmas.{none_armed, was_done}
 use Rattle.g_day.proofs.LabelLemmas.{no_fuse, same_counts}
 use Rattle.g_day.proofs.PutLemmas.{puts_grown}
@@ -86,6 +87,7 @@ module _ (what : Operator) (no_disc : disc_arms what ≡ []) (no_tape : tape_arm
         gives = lifts w (now_stands text u w) (Ok tt) u step refl;
         counted = counted_here (Ok tt) is;
         stands = stands;
+        left = λ safe. less_line what Plain w (now_stands text u w) old new m.stands stands is.left;
         text = ap (λ (n : ℕ). w.text ++ operator_line n text) m.count;
       }
 
@@ -97,6 +99,7 @@ module _ (what : Operator) (no_disc : disc_arms what ≡ []) (no_tape : tape_arm
         gives = lifts w (line_refused fault (record w { store = u })) (Err fault) u step (sym (told_refusal (λ x t v. now_stands text t v) fault u w (is.only fault refl)));
         counted = counted_here (Err fault) is;
         stands = stands;
+        left = λ safe. less_line what Plain w (line_refused fault (record w { store = u })) old new m.stands stands is.left;
         text = ap (λ (n : ℕ). w.text ++ operator_line n (codes "REFUSED " ++ fault_line fault)) m.count;
       }
 
@@ -113,7 +116,7 @@ module _ (what : Operator) (no_disc : disc_arms what ≡ []) (no_tape : tape_arm
   pub reel_line : (answer : Result (Unit {0}) StoreFault) → StepsReels by old answer new → IsReady old c → (failure : Option Failure) (before after : Option (List ℕ)) (faults faults' : ℕ)
       → Puts failure (added_by text count answer) before after faults faults' → DidLine what (seen old c count) failure (seen new c count) before after faults faults'
   reel_line answer is ready failure before after faults faults' puts = record {
-    goes = was_done what (seen old c count) (seen new c count) failure (added_by text count answer) before after (does_by answer is) (λ w m e. matches_by answer is w m) puts.put;
+    goes = was_done SystemSafe what (seen old c count) (seen new c count) failure (added_by text count answer) before after (does_by answer is) (λ w m e. matches_by answer is w m) puts.put;
     ready = ready_still old new c is.stays ready;
     crew = λ none. leaves_same c;
     arms = none_armed what failure (devices_in old) (devices_in new) no_disc no_tape (ap (λ (d : DiscState). d.arms) is.disc) is.arms;

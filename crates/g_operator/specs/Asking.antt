@@ -2,6 +2,7 @@
 use Rattle.std.specs.Prelude.{◌≡◌, ℕ, Result, Err}
 use Rattle.g_plain.specs.declared.faults.StoreFault.{StoreFault}
 use Rattle.g_plain.specs.declared.faults.StoreFault.TheVariants.{NotStarted}
+use Rattle.g_tape.specs.Rack.{AreReels}
 use Rattle.g_process.specs.Processing.{Processes}
 use Rattle.g_store_meaning.specs.StoreInvariant.{StoreFacts}
 use Rattle.g_store.specs.Dumping.{OpensDump}
@@ -20,8 +21,9 @@ pub record Opened (serial : ℕ) (old : StoreFacts) (answer : Result ℕ StoreFa
   pub opens : Opens serial old answer new
   pub begins : OpensDump serial old answer new
 
--- How a store answers PROCESS, by its step, and what happens to completed dumps.
+-- How a store with a rack of reels answers PROCESS, by its step, and what happens to completed dumps.
 pub record Processed (serial : ℕ) (old : StoreFacts) (answer : Result ℕ StoreFault) (new : StoreFacts) : Type 0 where
   pub answers : Processes serial old answer new
   pub step : StepsProcess serial old answer new
   pub dumps : MovesDumps old new
+  pub reels : AreReels old.rack.reels

@@ -5,6 +5,7 @@ use Rattle.g_plain.specs.declared.faults.StoreFault.TheVariants.{Stopped}
 use Rattle.g_store_model.specs.DumpSteps.{MountStep, UnmountStep}
 use Rattle.g_store_model.specs.State.{State}
 use Rattle.g_run_model.specs.Devices.{Devices}
+use Rattle.g_day.specs.Losses.{LeavesLess}
 use Rattle.g_day.specs.System.{Down, DumpsGrow, StandsAs, SystemBelongs, SystemFacts, SystemSafe, Up, devices_in, labels}
 
 -- A store that is up isn't spent by it, what is down stays down, and the disc is unchanged.
@@ -13,7 +14,8 @@ StaysAsUp (Up s) (Up t) = (t.spent ≡ s.spent) × (t.online.disc ≡ s.online.d
 StaysAsUp (Down d) (Down e) = e.disc ≡ d.disc
 StaysAsUp old new = ⊥
 
--- No block was read or written, no counter moved, no device was armed; and the state changed by this step.
+-- No block was read or written, no counter moved, no device was armed; a power loss leaves no more than before; and the state changed by this
+-- step.
 pub record StepsReels (by : State → Result (Unit {0}) StoreFault → State → Type 0) (old : SystemFacts) (answer : Result (Unit {0}) StoreFault) (new : SystemFacts) : Type 0 where
   pub stays : StaysAsUp old new
   pub only : (fault : StoreFault) → answer ≡ Err fault → fault ≢ Stopped
@@ -24,6 +26,7 @@ pub record StepsReels (by : State → Result (Unit {0}) StoreFault → State →
   pub reels : labels (devices_in new).rack.reels ≡ labels (devices_in old).rack.reels
   pub belongs : SystemBelongs old → SystemBelongs new
   pub safe : SystemSafe old → SystemSafe new
+  pub left : LeavesLess old new
   pub dumps : DumpsGrow (devices_in old).rack (devices_in new).rack
   pub step : (s : State) → StandsAs old s → (u : State) × StandsAs new u × by s answer u
 

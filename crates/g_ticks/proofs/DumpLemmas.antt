@@ -11,8 +11,9 @@ use Rattle.g_monitor.specs.Refusals.{fault_line}
 use Rattle.g_plain.specs.declared.faults.StoreFault.{StoreFault}
 use Rattle.g_plain.specs.declared.faults.StoreFault.TheVariants.{DiscReadFault, NoMemory, Stopped}
 use Rattle.g_store_meaning.specs.Reading.{StandsForState, open_of}
+use Rattle.g_store_meaning.specs.Safety.{IsSafe}
 use Rattle.g_store_meaning.specs.StoreInvariant.{DumpFacts, StoreFacts}
-use Rattle.g_store_model.specs.CallStep.{Outcome}
+use Rattle.g_store_model.specs.CallStep.{Cut, Outcome}
 use Rattle.g_dumper.specs.declared.dump.DumpStep.{DumpStep as Step}
 use Rattle.g_dumper.specs.Steps.{stepped}
 use Rattle.g_store_model.specs.DumpSteps.{Completed, DumpStep, Going, Stepped}
@@ -21,7 +22,10 @@ use Rattle.g_store.specs.Dumping.{KeepsDumps, KeepsDumpsSafe, LeavesOpen, StepsA
 use Rattle.g_store.specs.Events.{IsStepOfDump, LeadsBy, StepsBy, StepsDump}
 use Rattle.g_store.proofs.ArmLemmas.{spent_stands}
 use Rattle.g_store_calls.proofs.SeenLemmas.{seen as seen_of}
+use Rattle.g_laws_power.specs.Events.{StopsLikeBy}
+use Rattle.g_laws_power.proofs.DownLemmas.{like_down}
 use Rattle.g_laws_power.proofs.StepLemmas.{steps_keep_safe}
+use Rattle.g_laws_power.proofs.StepStateLemmas.{stopped_steps_survive}
 use Rattle.g_tape.specs.Rack.{Rack, is_mounted, reel}
 use Rattle.g_tape.specs.Reel.{Reel, Remains, Shortened, Torn, Unchanged, ending, left_by}
 use Rattle.g_run_model.specs.Devices.{Devices}
@@ -34,12 +38,13 @@ use Rattle.g_run_model.proofs.TickLemmas.{dump_added, dump_adds}
 use Rattle.g_job_table.specs.Crew.{CrewState, IsCrewOf}
 use Rattle.g_job_table.specs.Numbers.{AreOpen}
 use Rattle.g_day.specs.declared.progress.Failure.{Failure}
+use Rattle.g_day.specs.Losses.{SystemLeaves}
 use Rattle.g_day.specs.Parts.{IsReady, Matches, seen}
 use Rattle.g_day.specs.Puts.{Puts, PutsBy}
-use Rattle.g_day.specs.System.{Down, IsNow, SameDevices, StandsAs, SystemFacts, Up, devices_in, labels}
+use Rattle.g_day.specs.System.{Down, IsNow, SameDevices, StandsAs, SystemFacts, SystemSafe, Up, devices_in, labels}
 use Rattle.g_day.specs.Telling.{TellsFault, system_after, without_jobs}
 use Rattle.g_day.proofs.UpLemmas.{not_spent}
-use Rattle.g_ticks.specs.Tick.{DidDump, DumpGoes, Falls, KeepsRun, StepsTo, has_dump, phase_behind, share_in}
+use Rattle.g_ticks.specs.Tick.{DidDump, DumpGoes, Falls, KeepsRun, OtherEnd, StepMayLeave, StepsTo, has_dump, phase_behind, share_in}
 use Rattle.g_ticks.proofs.KeptLemmas.{none_keeps_run}
 use Rattle.g_ticks.proofs.RackLemmas.{SameMounted, ending_mounts, failing_mounts, left_named, shares_still}
 use Rattle.g_ticks.proofs.SteppingLemmas.{stepping_counted}
@@ -76,7 +81,7 @@ as_stepped old new x y is event steps stay =
     subst (λ (z : Step). StepsDump old (Ok (stepped z)) new × StepsAs old (Ok (stepped z)) new × KeepsReels old (Ok (stepped z)) new) is (event, steps, stay)
 
 -- what is printed for a step
-told_store : (n : ℕ) (r : Result Stepped StoreFault) (s : State) (w : World) → (dump_told n r s w).store ≡ s
+pub told_store : (n : ℕ) (r : Result Stepped StoreFault) (s : State) (w : World) → (dump_told n r s w).store ≡ s
 told_store n (Ok Going) s w = refl
 told_store n (Ok (Completed m)) s w = refl
 told_store n (Err Stopped) s w = refl
@@ -230,10 +235,14 @@ module _ (old new : StoreFacts) (unspent : old.spent ≡ false) (c : CrewState) 
   next_of : (w : World) → Came w → World
   next_of w k = dump_told k.dump.number answer k.state w
 
+  -- what a power loss leaves of the system
+  abbrev StepLeaves : (w : World) → Came w → SystemFacts → Type 0
+  StepLeaves w k system = SystemLeaves (λ u. StepMayLeave w.store k.outcome k.state u) ⊥ (Up old) system
+
   steps_to : (system : SystemFacts) → devices_in system ≡ devices_in (Up new) → (w : World) → Matches w (seen (Up old) c count) → (k : Came w) → StandsAs system k.state → (next_of w k).phase ≡ phase_behind system
-      → StepsTo w (Up old) system (next_of w k) added
+      → (SystemSafe (Up old) → StepLeaves w k system) → StepsTo w (Up old) system (next_of w k) added
   unfolding next_of
-  steps_to system same w m k stands phase = record {
+  steps_to system same w m k stands phase left = record {
     outcome = k.outcome;
     answer = answer;
     state = k.state;
@@ -243,6 +252,7 @@ module _ (old new : StoreFacts) (unspent : old.spent ≡ false) (c : CrewState) 
     next_is = refl;
     counted = subst (λ (d : Devices). DumpCounted k.outcome (devices_in (Up old)) d) (sym same) k.counted;
     stands = subst (λ (u : State). StandsAs system u) (sym (told_store k.dump.number answer k.state w)) stands;
+    left = left;
     text = dump_adds k.dump.number answer k.state w
         ∙ ap (λ (n : ℕ). w.text ++ dump_added n k.dump.number answer w.jobs) m.count
         ∙ ap (λ (n : ℕ). w.text ++ dump_added count n answer w.jobs) k.number
@@ -269,9 +279,9 @@ module _ (old new : StoreFacts) (unspent : old.spent ≡ false) (c : CrewState) 
   pub goes_up : (answer ≡ Err Stopped → ⊥) → (failure : Option Failure) (before after : Option (List ℕ)) → PutsBy failure added before after
       → DumpGoes (seen (Up old) c count) failure (seen (Up new) c count) before after
   goes_up isnt None before after put =
-      λ w m. let k = came w m.stands in (next_of w k, added, inr (steps_to (Up new) refl w m k (now_up w m k) (stepped_on isnt w k)), matches_up isnt w m k, put)
+      λ w m. let k = came w m.stands in (next_of w k, added, inr (steps_to (Up new) refl w m k (now_up w m k) (stepped_on isnt w k) (λ safe. tt)), matches_up isnt w m k, put)
   goes_up isnt (Some failure) before after put =
-      λ w m. let k = came w m.stands in (next_of w k, added, inr (steps_to (Up new) refl w m k (now_up w m k) (stepped_on isnt w k)), put)
+      λ w m. let k = came w m.stands in (next_of w k, added, inr (steps_to (Up new) refl w m k (now_up w m k) (stepped_on isnt w k) (λ safe. tt)), put)
 
   abbrev still_mounted : SameMounted old.rack new.rack
   still_mounted = step_mounts is.dump is.after old.online new.online old.rack new.rack answer is.stepping
@@ -340,23 +350,38 @@ module _ (old new : StoreFacts) (unspent : old.spent ≡ false) (c : CrewState) 
     count = m.count;
   }
 
-  steps_down : (w : World) (m : Matches w (seen (Up old) c count)) (k : Came old new unspent c count (Err Stopped) event is w)
+  -- a power loss leaves a state to which the stopped step may lead
+  step_left : KeepsDumpsSafe old (Err Stopped) new → (w : World) → IsNow old w.store → (k : Came old new unspent c count (Err Stopped) event is w) → IsSafe old
+      → StepLeaves old new unspent c count (Err Stopped) event is w k (Down devices)
+  step_left durable w now k safe = λ blocks rack left.
+      let stops : StopsLikeBy IsStepOfDump w.store new.online.disc.size blocks rack = (stopped_steps_survive old new blocks rack safe event durable left).1 w.store now.stands in
+      let step : DumpStep w.store stops.held stops.step.0 Cut (Err Stopped) stops.after =
+      subst (λ (o : Outcome). DumpStep w.store stops.held stops.step.0 o (Err Stopped) stops.after) stops.step.2.0 stops.step.2 in
+      let other : IsDumpStep w.store Cut (Err Stopped) stops.after = (stops.held, stops.step.0, stops.holds, stops.step.1, step, refl) in
+      let cut : k.outcome ≡ Cut = k.step.4.0 in
+      inl (
+        stops.after,
+        OtherEnd cut stops.after (subst (λ (o : Outcome). IsDumpStep w.store o (Err Stopped) stops.after) (sym cut) other) (like_down stops.after stops.stand),
+        stops.stand,
+      )
+
+  steps_down : KeepsDumpsSafe old (Err Stopped) new → (w : World) (m : Matches w (seen (Up old) c count)) (k : Came old new unspent c count (Err Stopped) event is w)
       → StepsTo w (Up old) (Down devices) (dump_told k.dump.number (Err Stopped) k.state w) (added old new unspent c count (Err Stopped) event is)
   unfolding next_of
-  steps_down w m k = steps_to old new unspent c count (Err Stopped) event is (Down devices) refl w m k (stands_down w m k) refl
+  steps_down durable w m k = steps_to old new unspent c count (Err Stopped) event is (Down devices) refl w m k (stands_down w m k) refl (step_left durable w m.stands k)
 
-  goes_down : (failure : Option Failure) (before after : Option (List ℕ)) → PutsBy failure (added old new unspent c count (Err Stopped) event is) before after
+  goes_down : KeepsDumpsSafe old (Err Stopped) new → (failure : Option Failure) (before after : Option (List ℕ)) → PutsBy failure (added old new unspent c count (Err Stopped) event is) before after
       → DumpGoes (seen (Up old) c count) failure (seen (Down devices) (without_jobs c) count) before after
-  goes_down None before after put =
+  goes_down durable None before after put =
       λ w m. let k = came old new unspent c count (Err Stopped) event is w m.stands in
-      (dump_told k.dump.number (Err Stopped) k.state w, added old new unspent c count (Err Stopped) event is, inr (steps_down w m k), matches_down w m k, put)
-  goes_down (Some failure) before after put =
+      (dump_told k.dump.number (Err Stopped) k.state w, added old new unspent c count (Err Stopped) event is, inr (steps_down durable w m k), matches_down w m k, put)
+  goes_down durable (Some failure) before after put =
       λ w m. let k = came old new unspent c count (Err Stopped) event is w m.stands in
-      (dump_told k.dump.number (Err Stopped) k.state w, added old new unspent c count (Err Stopped) event is, inr (steps_down w m k), put)
+      (dump_told k.dump.number (Err Stopped) k.state w, added old new unspent c count (Err Stopped) event is, inr (steps_down durable w m k), put)
 
   module _ (stay : KeepsReels old (Err Stopped) new) (failure : Option Failure) (c' : CrewState) (before after : Option (List ℕ)) (faults faults' : ℕ) (tells : TellsFault Stopped count c failure c' before after faults faults') where
     pub stop_goes : DumpGoes (seen (Up old) c count) failure (seen (system_after Stopped new) c' count) before after
-    stop_goes = subst (λ (x : CrewState). DumpGoes (seen (Up old) c count) failure (seen (Down devices) x count) before after) (sym tells.0) (goes_down failure before after tells.1.put)
+    stop_goes = subst (λ (x : CrewState). DumpGoes (seen (Up old) c count) failure (seen (Down devices) x count) before after) (sym tells.0) (goes_down stay.1 failure before after tells.1.put)
 
     pub stop_keeps : KeepsRun (seen (Up old) c count) failure (seen (system_after Stopped new) c' count) faults faults'
     stop_keeps = subst (λ (x : CrewState). KeepsRun (seen (Up old) c count) failure (seen (Down devices) x count) faults faults') (sym tells.0) (record {

@@ -1,12 +1,11 @@
 -- What holds of every device after a turn.
 -- serves: DumpLemmas, TakenLemmas
-use Rattle.std.proofs.Common.{◌≡◌, ℕ, true, false, List, Option, Some, None, refl, sym, ◌∙◌, ap, subst, inl, inr}
+use Rattle.std.proofs.Common.{◌≡◌, ℕ, true, List, Option, Some, None, refl, sym, ◌∙◌, ap, subst, inl, inr}
 use Rattle.std.specs.Prelude.{◌↔◌}
 use Rattle.g_job.specs.Spending.{SpendsBy}
 use Rattle.g_job.specs.State.{JobState}
 use Rattle.g_job.specs.declared.turn.Turn.{Turn}
 use Rattle.g_job.specs.declared.turn.Turn.TheVariants as turns
-use Rattle.g_store_meaning.specs.Safety.{AreSafe, IsSafe}
 use Rattle.g_store_meaning.specs.StoreInvariant.{StoreFacts}
 use Rattle.g_run_model.specs.Devices.{Devices}
 use Rattle.g_run_model.specs.World.{with_job}
@@ -16,11 +15,11 @@ use Rattle.g_run_model.specs.Texts.{shown}
 use Rattle.g_day.specs.declared.progress.Failure.{Failure}
 use Rattle.g_day.specs.declared.progress.Failure.TheVariants.{Memory}
 use Rattle.g_day.specs.Parts.{IsReady, seen}
-use Rattle.g_day.specs.System.{Down, DumpsGrow, SystemBelongs, SystemFacts, SystemSafe, Up, SameDevices, devices_in}
+use Rattle.g_day.specs.System.{Down, DumpsGrow, SystemBelongs, SystemFacts, Up, SameDevices, devices_in}
 use Rattle.g_ticks.specs.Tick.{KeepsRun}
 use Rattle.g_ticks.specs.Turning.{EndsTurn, LeftBy}
 use Rattle.g_ticks.proofs.RanLemmas.{StaysOver, StaysSafe}
-use Rattle.g_ticks.proofs.TurningLemmas.{left_devices, numbers_are, open_is, ready_is, same_devices, system_is, text_is, turned_system, unbroken}
+use Rattle.g_ticks.proofs.TurningLemmas.{left_devices, numbers_are, open_is, ready_is, safe_left, safe_turned, same_devices, system_is, text_is, turned_system}
 use Rattle.g_day.proofs.GrowLemmas.{grow_held, grow_itself}
 use Rattle.g_day.proofs.LabelLemmas.{same_itself}
 
@@ -34,17 +33,6 @@ belongs_left : (s : StoreFacts) (system : SystemFacts) → LeftBy s system → S
 belongs_left s system (inl (unspent, at)) is = subst (λ (x : SystemFacts). SystemBelongs x) (sym at) is
 belongs_left s system (inr (spent, at)) is =
     subst (λ (x : SystemFacts). SystemBelongs x) (sym at) (let d : SystemFacts = Down (record { disc = s.online.disc; rack = s.rack }) in let b : SystemBelongs d = record { told = is.0; belong = is.1.devices } in b)
-
-safe_turned : (turn : Turn) (s : StoreFacts) → (s.spent ≡ true) ↔ (turn ≡ turns.Broken) → (s.spent ≡ false → IsSafe s) → (s.spent ≡ true → AreSafe s.online.disc s.rack) → SystemSafe (turned_system turn s)
-safe_turned turns.Broken s stopped up down = down (stopped.1 refl)
-safe_turned (turns.Wants serial) s stopped up down = up (unbroken (turns.Wants serial) s stopped (λ e. let no : ⊥ = cc in no))
-safe_turned (turns.Ran units money) s stopped up down = up (unbroken (turns.Ran units money) s stopped (λ e. let no : ⊥ = cc in no))
-safe_turned (turns.Ended units money) s stopped up down = up (unbroken (turns.Ended units money) s stopped (λ e. let no : ⊥ = cc in no))
-
-safe_left : (s : StoreFacts) (system : SystemFacts) → LeftBy s system → (s.spent ≡ false → IsSafe s) → (s.spent ≡ true → AreSafe s.online.disc s.rack) → SystemSafe system
-safe_left s system (inl (unspent, at)) up down = subst (λ (x : SystemFacts). SystemSafe x) (sym at) (up unspent)
-safe_left s system (inr (spent, at)) up down =
-    subst (λ (x : SystemFacts). SystemSafe x) (sym at) (let d : SystemFacts = Down (record { disc = s.online.disc; rack = s.rack }) in let b : SystemSafe d = down spent in b)
 
 module _ (old new : StoreFacts) (c : CrewState) (count : ℕ) (stays : StaysOver old new) (safe : StaysSafe old new) where
   belongs_on : SystemBelongs (Up old) → SystemBelongs (Up new)

@@ -11,6 +11,7 @@ pub mod RanLemmas
 pub mod RestLemmas
 pub mod SameLemmas
 pub mod SteppingLemmas
+pub mod StoppedCallLemmas
 pub mod SurvivingLemmas
 pub mod TakenLemmas
 pub mod TickLemmas

@@ -1,6 +1,6 @@
 -- What a turn's calls leave unchanged, whether or not the devices expose their contents; that they leave safe devices; and
 -- which reels a state has mounted.
--- serves: job_steps, take_turn, FallLemmas, KeptLemmas, RestLemmas, TakenLemmas
+-- serves: job_steps, take_turn, FallLemmas, KeptLemmas, RestLemmas, StoppedCallLemmas, TakenLemmas, TurningLemmas
 use Rattle.std.proofs.Common.{◌≡◌, ◌⊎◌, ℕ, true, false, List, [], ◌∷◌, None, Err, refl, sym, ◌∙◌, ap, subst, inl, inr}
 use Rattle.std.proofs.lemmas.Bool.{false≢true}
 use Rattle.g_turn.specs.Causes.{IsHonest, IsOther, StopsAt}
@@ -71,15 +71,15 @@ stopped_at who stop (Gives x) s (a ∷ told) old given new r = absurd r
 stopped_at who stop (Call call more) s told old given new r = absurd s
 
 -- a wait, a stop, or another answer
-abbrev KindOf : Answer → Type 0
+abbrev pub KindOf : Answer → Type 0
 KindOf a = ((serial : ℕ) × (a ≡ Err (WaitTape serial))) ⊎ ((a ≡ Err Stopped) ⊎ (IsOther a × (a ≡ Err Stopped → ⊥)))
 
-kind_of : (a : Answer) → KindOf a
+pub kind_of : (a : Answer) → KindOf a
 kind_of (Err (WaitTape serial)) = inl (serial, refl)
 kind_of (Err Stopped) = inr (inl refl)
 kind_of a = inr (inr (tt, λ e. let no : ⊥ = cc in no))
 
-no_stop : (a : Answer) (serial : ℕ) → a ≡ Err (WaitTape serial) → a ≡ Err Stopped → ⊥
+pub no_stop : (a : Answer) (serial : ℕ) → a ≡ Err (WaitTape serial) → a ≡ Err Stopped → ⊥
 no_stop a serial waits stops = let no : ⊥ = cc in no
 
 call_dump : (who : List ℕ) (call : StoreCall) (more : Answer → Asks Work) → IsHonest (Call call more) → (a : Answer) (told : List Answer) (old mid : StoreFacts) (given : Work) (new : StoreFacts)

@@ -13,22 +13,28 @@ use Rattle.g_io.specs.Streams.{HasPutPart, with_more}
 use Rattle.g_plain.specs.declared.faults.StoreFault.{StoreFault}
 use Rattle.g_plain.specs.declared.faults.StoreFault.TheVariants.{Stopped}
 use Rattle.g_store_meaning.specs.StoreInvariant.{StoreFacts}
+use Rattle.g_store_model.specs.CallStep.{down}
 use Rattle.g_store_model.specs.DumpSteps.{Completed, Going, Stepped as DumpStepped}
 use Rattle.g_store_model.specs.State.{OpenDump, State}
 use Rattle.g_run_model.specs.Devices.{Devices}
-use Rattle.g_run_model.specs.Moves.{Dumped, Move, MovesCounted, dump_told}
-use Rattle.g_run_model.specs.World.{KeepsLines, World, is_due, is_dumping}
+use Rattle.g_run_model.specs.Events.{IsDumpStep}
+use Rattle.g_run_model.specs.Losses.{AsItWas, IsLastUp, MayBeLeft, OtherEnd}
+use Rattle.g_run_model.specs.Moves.{Dumped, Move, MovesCounted, Step, dump_told}
+use Rattle.g_run_model.specs.World.{KeepsLines, World, is_due}
 use Rattle.g_run_model.proofs.CountLemmas.{event_none, move_counted, moves_then}
 use Rattle.g_run_model.proofs.CountedTurnLemmas.{keeps_itself}
 use Rattle.g_run_model.proofs.TickLemmas.{dump_keeps_lines}
 use Rattle.g_run_model.proofs.TurnLemmas.{run_append}
 use Rattle.g_job_table.specs.Crew.{CrewState}
 use Rattle.g_day.specs.declared.progress.Failure.{Failure}
+use Rattle.g_day.specs.Losses.{LeftAfter, SystemLeaves}
 use Rattle.g_day.specs.Parts.{Seen, seen}
 use Rattle.g_day.specs.Puts.{FaultCause}
-use Rattle.g_day.specs.System.{Down, StandsAs, SystemFacts, Up, devices_in}
-use Rattle.g_ticks.proofs.DumpLemmas.{one_if}
-use Rattle.g_ticks.specs.Tick.{Comes, DumpGoes, DidDump, DidTick, DidTurn, DumpComes, Falls, GoesBy, IsThrough, KeepsRun, MayTick, MayTurn, StepsNothing, StepsTo, has_dump, left, some_job_steps}
+use Rattle.g_day.specs.System.{Down, IsRunning, StandsAs, SystemFacts, SystemSafe, Up, devices_in}
+use Rattle.g_ticks.proofs.DumpLemmas.{one_if, told_store}
+use Rattle.g_ticks.proofs.SurvivingLemmas.{left_itself, left_then}
+use Rattle.g_ticks.specs.Tick.{Comes, DumpGoes, DidDump, DidTick, DidTurn, DumpComes, Falls, GoesBy, IsThrough, KeepsRun, MayTick, MayTurn, StepMayLeave, StepsNothing, StepsTo, has_dump, left, some_job_steps}
+use Rattle.g_ticks.specs.Tick as tick
 use Rattle.g_day.proofs.GrowLemmas.{grow_then}
 use Rattle.g_day.proofs.LabelLemmas.{same_then}
 use Rattle.g_day.proofs.PutLemmas.{grown_then, with_more-append}
@@ -68,47 +74,79 @@ number_by d = elim d [ None ↦ 0 | Some x ↦ x.number ]
 
 module _ {F U : Type 0} (tariffs : Shared F (Bor Usage × Unit {0}) Charge) (tariff : F) (rules : Shared U (Bor Standing × Unit {0}) ℕ) (rule : U) where
   -- TWO PARTS
-  comes_then : (w mid new : World) (old now last : SystemFacts) (ms ns : List Move) (a b : List ℕ) → Comes tariffs tariff rules rule w old now ms mid a → Comes tariffs tariff rules rule mid now last ns new b
+  comes_then : (w mid new : World) (old now last : SystemFacts) (ms ns : List Move) (a b : List ℕ) → IsRunning now → Comes tariffs tariff rules rule w old now ms mid a → Comes tariffs tariff rules rule mid now last ns new b
       → Comes tariffs tariff rules rule w old last (ms ++ ns) new (a ++ b)
-  comes_then w mid new old now last ms ns a b first later = record {
+  comes_then w mid new old now last ms ns a b running first later = record {
     run = run_append tariffs tariff rules rule w ms ns mid new first.run later.run;
     counted = moves_then ms ns [] [] [] [] (devices_in old) (devices_in now) (devices_in last) first.counted later.counted;
     stands = later.stands;
+    safe = λ safe. later.safe (first.safe safe);
+    left = λ safe. left_then tariffs tariff rules rule w mid new ms ns old now last first.run running first.stands later.stands (first.left safe) (later.left (first.safe safe));
     keeps = keeps_then w mid new first.keeps later.keeps;
     text = later.text ∙ ap (λ (t : List ℕ). t ++ b) first.text ∙ append_assoc w.text a b;
   }
 
   -- THE DUMP'S STEP, as moves
-  step_comes : (w : World) (old new : SystemFacts) (next : World) (added : List ℕ) → MayTick w → StepsTo w old new next added → (moves : List Move) × Comes tariffs tariff rules rule w old new moves next added
-  step_comes w old new next added may s =
-      let told : next ≡ dump_told (number_by w.store.open_dump) s.answer s.state w =
-      s.next_is ∙ ap (λ (x : Option OpenDump). dump_told (number_by x) s.answer s.state w) (sym s.opened) in
-      let dumping : is_dumping w ≡ true = ap (λ (x : Option OpenDump). is_some x) s.opened in (
+  module _ (w : World) (old new : SystemFacts) (next : World) (added : List ℕ) (keeps : SystemSafe old → SystemSafe new) where
+    module _ (may : MayTick w) (s : StepsTo w old new next added) where
+      dumped_by : (answer : Result DumpStepped StoreFault) (state : State) (end : World) → IsDumpStep w.store s.outcome answer state → end ≡ dump_told (number_by w.store.open_dump) answer state w
+          → Step tariffs tariff rules rule w (Dumped s.outcome) end
+      dumped_by answer state end event told = (may.0.phase, may.0.turn, may.1, ap (λ (x : Option OpenDump). is_some x) s.opened, (answer, state, event, told))
+
+      step_is : Step tariffs tariff rules rule w (Dumped s.outcome) next
+      step_is = dumped_by s.answer s.state next s.event (s.next_is ∙ ap (λ (x : Option OpenDump). dump_told (number_by x) s.answer s.state w) (sym s.opened))
+
+      -- a state that the step may leave is one that the move may leave
+      last_up : IsLastUp tariffs tariff rules rule w (Dumped s.outcome ∷ []) next (Dumped s.outcome ∷ []) [] next
+      last_up = record { split = refl; led = (next, step_is, refl); rest = refl }
+
+      move_leaves : (u : State) → StepMayLeave w.store s.outcome s.state u → MayBeLeft tariffs tariff rules rule w (Dumped s.outcome ∷ []) next u
+      move_leaves u (tick.AsItWas same) =
+          let store : next.store ≡ s.state = ap (λ (v : World). v.store) s.next_is ∙ told_store s.dump.number s.answer s.state w in
+          AsItWas (Dumped s.outcome ∷ []) [] next last_up (same ∙ sym (ap down store))
+      move_leaves u (tick.OtherEnd cut other event same) =
+          let end : World = dump_told (number_by w.store.open_dump) (Err Stopped) other w in
+          OtherEnd [] [] (Dumped s.outcome) w next end refl last_up cut step_is (dumped_by (Err Stopped) other end event refl) same
+
+      step_left : (f : SystemFacts) → SystemLeaves (λ u. StepMayLeave w.store s.outcome s.state u) ⊥ old f → LeftAfter tariffs tariff rules rule w (Dumped s.outcome ∷ []) next old f
+      step_left (Up t) leaves = tt
+      step_left (Down d) leaves = λ blocks rack left. elim (leaves blocks rack left) [
+        | inl here ↦ inl (here.0, move_leaves here.0 here.1, here.2)
+        | inr never ↦ absurd never.0
+      ]
+
+      step_comes : (moves : List Move) × Comes tariffs tariff rules rule w old new moves next added
+      step_comes = (
         Dumped s.outcome ∷ [],
         record {
-          run = (next, (may.0.phase, may.0.turn, may.1, dumping, (s.answer, s.state, s.event, told)), refl);
+          run = (next, step_is, refl);
           counted = move_counted (Dumped s.outcome) [] [] (devices_in old) (devices_in new) s.counted;
           stands = s.stands;
+          safe = keeps;
+          left = λ safe. step_left new (s.left safe);
           keeps = subst (λ (v : World). KeepsLines w v) (sym s.next_is) (dump_keeps_lines s.dump.number s.answer s.state w);
           text = s.text;
         },
       )
 
-  nothing_comes : (w : World) (old new : SystemFacts) (next : World) (added : List ℕ) → StandsAs old w.store → StepsNothing w old new next added → (moves : List Move) × Comes tariffs tariff rules rule w old new moves next added
-  nothing_comes w old new next added stands n = (
-    [],
-    record {
-      run = n.next_is;
-      counted = subst (λ (f : SystemFacts). MovesCounted [] [] [] (devices_in old) (devices_in f)) (sym n.same) (event_none (devices_in old));
-      stands = subst (λ (f : SystemFacts). StandsAs f next.store) (sym n.same) (subst (λ (v : World). StandsAs old v.store) (sym n.next_is) stands);
-      keeps = subst (λ (v : World). KeepsLines w v) (sym n.next_is) (keeps_itself w);
-      text = ap (λ (v : World). v.text) n.next_is ∙ sym (append-nil w.text) ∙ ap (λ (t : List ℕ). w.text ++ t) (sym n.text);
-    },
-  )
+    nothing_comes : StandsAs old w.store → StepsNothing w old new next added → (moves : List Move) × Comes tariffs tariff rules rule w old new moves next added
+    nothing_comes stands n = (
+      [],
+      record {
+        run = n.next_is;
+        counted = subst (λ (f : SystemFacts). MovesCounted [] [] [] (devices_in old) (devices_in f)) (sym n.same) (event_none (devices_in old));
+        stands = subst (λ (f : SystemFacts). StandsAs f next.store) (sym n.same) (subst (λ (v : World). StandsAs old v.store) (sym n.next_is) stands);
+        safe = keeps;
+        left = λ safe. subst (λ (f : SystemFacts). LeftAfter tariffs tariff rules rule w [] next old f) (sym n.same)
+            (subst (λ (v : World). LeftAfter tariffs tariff rules rule w [] v old old) (sym n.next_is) (left_itself tariffs tariff rules rule w old));
+        keeps = subst (λ (v : World). KeepsLines w v) (sym n.next_is) (keeps_itself w);
+        text = ap (λ (v : World). v.text) n.next_is ∙ sym (append-nil w.text) ∙ ap (λ (t : List ℕ). w.text ++ t) (sym n.text);
+      },
+    )
 
-  dump_comes : (w : World) (old new : SystemFacts) (next : World) (added : List ℕ) → MayTick w → StandsAs old w.store → DumpComes w old new next added → (moves : List Move) × Comes tariffs tariff rules rule w old new moves next added
-  dump_comes w old new next added may stands (inl n) = nothing_comes w old new next added stands n
-  dump_comes w old new next added may stands (inr s) = step_comes w old new next added may s
+    dump_comes : MayTick w → StandsAs old w.store → DumpComes w old new next added → (moves : List Move) × Comes tariffs tariff rules rule w old new moves next added
+    dump_comes may stands (inl n) = nothing_comes stands n
+    dump_comes may stands (inr s) = step_comes may s
 
   -- afterwards a turn may begin, or the tick is done
   may_turn : (w : World) (old : SystemFacts) (mid : StoreFacts) (next : World) (added : List ℕ) → MayTick w → DumpComes w old (Up mid) next added → MayTurn next
@@ -133,14 +171,14 @@ module _ {F U : Type 0} (tariffs : Shared F (Bor Usage × Unit {0}) Charge) (tar
         → GoesBy tariffs tariff rules rule MayTick IsThrough (seen (Up old) c count) failure (seen new c2 count) before after
     both_go None turned = λ w m may.
         let (next, a, comes, matches, put) = dumped.goes w m in
-        let (ms, first) = dump_comes w (Up old) (Up mid) next a may m.stands comes in
+        let (ms, first) = dump_comes w (Up old) (Up mid) next a dumped.keeps.safe may m.stands comes in
         let (ns, last, b, later, fits, through, put2) = turned next matches (may_turn w (Up old) mid next a may comes) in
-        (ms ++ ns, last, a ++ b, comes_then w next last (Up old) (Up mid) new ms ns a b first later, fits, through, put2 ∙ ap (λ (t : Option (List ℕ)). with_more t b) put ∙ with_more-append before a b)
+        (ms ++ ns, last, a ++ b, comes_then w next last (Up old) (Up mid) new ms ns a b (dumped.keeps.ready refl).0.0 first later, fits, through, put2 ∙ ap (λ (t : Option (List ℕ)). with_more t b) put ∙ with_more-append before a b)
     both_go (Some failure) turned = λ w m may.
         let (next, a, comes, matches, put) = dumped.goes w m in
-        let (ms, first) = dump_comes w (Up old) (Up mid) next a may m.stands comes in
+        let (ms, first) = dump_comes w (Up old) (Up mid) next a dumped.keeps.safe may m.stands comes in
         let (ns, last, b, later, part) = turned next matches (may_turn w (Up old) mid next a may comes) in
-        (ms ++ ns, last, a ++ b, comes_then w next last (Up old) (Up mid) new ms ns a b first later, put_on before middle after a b put part)
+        (ms ++ ns, last, a ++ b, comes_then w next last (Up old) (Up mid) new ms ns a b (dumped.keeps.ready refl).0.0 first later, put_on before middle after a b put part)
 
     both_keep : (failure : Option Failure) → KeepsRun (seen (Up mid) c1 count) failure (seen new c2 count) faults1 faults2 → KeepsRun (seen (Up old) c count) failure (seen new c2 count) faults faults2
     both_keep failure turned = record {
@@ -192,12 +230,12 @@ module _ {F U : Type 0} (tariffs : Shared F (Bor Usage × Unit {0}) Charge) (tar
           → GoesBy tariffs tariff rules rule MayTick IsThrough (seen (Up old) c count) f (seen new c2 count) before after
       go None goes is = λ w m may.
           let (next, a, comes, matches, put) = goes w m in
-          let (ms, first) = dump_comes w (Up old) new next a may m.stands comes in
+          let (ms, first) = dump_comes w (Up old) new next a dumped.keeps.safe may m.stands comes in
           let (d, at) = is refl in
           (ms, next, a, first, matches, is_through w old d next a may (subst (λ (f : SystemFacts). DumpComes w (Up old) f next a) at comes), put)
       go (Some f) goes is = λ w m may.
           let (next, a, comes, part) = goes w m in
-          let (ms, first) = dump_comes w (Up old) new next a may m.stands comes in (ms, next, a, first, part)
+          let (ms, first) = dump_comes w (Up old) new next a dumped.keeps.safe may m.stands comes in (ms, next, a, first, part)
 
       fall_by : (b : Bool) → has_dump (Up old) ≡ b → failure ≡ None → left (seen new c2 count) + (if b || some_job_steps (seen (Up old) c count) then 1 else 0) ≤ left (seen (Up old) c count)
       fall_by true is e = subst (λ (b : Bool). left (seen new c2 count) + (if b then 1 else 0) ≤ left (seen (Up old) c count)) is (dumped.falls e)

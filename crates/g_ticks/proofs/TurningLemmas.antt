@@ -18,12 +18,14 @@ use Rattle.g_job.specs.Beginning.{standing_of}
 use Rattle.g_job.specs.Spending.{SpendsBy}
 use Rattle.g_job.specs.State.{JobState}
 use Rattle.g_job.specs.Turns.{turn_work}
+use Rattle.g_job.proofs.TurnBounds.{turn_honest}
 use Rattle.g_job.specs.declared.turn.Turn.{Turn}
 use Rattle.g_job.specs.declared.turn.Turn.TheVariants as turns
 use Rattle.g_store_meaning.specs.Answers.{Answers}
 use Rattle.g_store_meaning.specs.Reading.{DevicesStandFor, StandsForState}
 use Rattle.g_store_meaning.specs.Meaning.{told_reels}
 use Rattle.g_store_meaning.specs.StoreInvariant.{StoreFacts}
+use Rattle.g_store_meaning.specs.Safety.{AreSafe, IsSafe}
 use Rattle.g_store_model.specs.State.{State}
 use Rattle.g_store.proofs.ArmLemmas.{spent_stands}
 use Rattle.g_run_model.specs.Accounts.{settled}
@@ -34,7 +36,7 @@ use Rattle.g_run_model.specs.World.{Between, Stepped, World, able, has_none, is_
 use Rattle.g_run_model.proofs.CountLemmas.{event_none}
 use Rattle.g_run_model.proofs.CountedTurnLemmas.{keeps_itself, turned_world}
 use Rattle.g_run_model.proofs.CrewLemmas.{found_same, one_job}
-use Rattle.g_run_model.proofs.StoreTurnLemmas.{CausesCount, StoreIsNow, devices_of, store_turn, store_turn_in_part}
+use Rattle.g_run_model.proofs.StoreTurnLemmas.{CausesCount, StoreIsNow, devices_of}
 use Rattle.g_run_model.proofs.TickLemmas.{turn_added, turn_adds}
 use Rattle.g_run_model.proofs.TurnLemmas.{MayBegin, in_turn, with_turn}
 use Rattle.g_job_table.specs.Accounts.{AreKept}
@@ -45,15 +47,18 @@ use Rattle.g_job_table.specs.Turn.{TakesTurn}
 use Rattle.std.proofs.lemmas.List.{append_assoc}
 use Rattle.g_day.specs.declared.progress.Failure.{Failure}
 use Rattle.g_day.specs.declared.progress.Failure.TheVariants.{Memory}
+use Rattle.g_day.specs.Losses.{LeftAfter}
 use Rattle.g_day.specs.Parts.{IsReady, Matches, Seen, seen}
 use Rattle.g_day.specs.Puts.{Puts, PutsBy}
-use Rattle.g_day.specs.System.{Down, StandsAs, SystemFacts, Up, devices_in}
+use Rattle.g_day.specs.System.{Down, StandsAs, SystemFacts, SystemSafe, Up, devices_in}
 use Rattle.g_day.proofs.CauseLemmas.{counted_by}
 use Rattle.g_day.proofs.UpLemmas.{of_cause}
 use Rattle.g_day.proofs.UserLemmas.{have_rows}
 use Rattle.g_ticks.specs.Tick.{Comes, GoesBy, IsThrough, MayTurn}
 use Rattle.g_ticks.specs.Turning.{EndsTurn, LeftBy, TookTurn}
 use Rattle.g_ticks.proofs.NumberedLemmas.{numbered_is, open_with, open_without, without_with}
+use Rattle.g_ticks.proofs.RanLemmas.{StaysSafe, part_safe, ran_safe}
+use Rattle.g_ticks.proofs.StoppedCallLemmas.{Leaves, part_moved, turn_moved}
 
 -- what a call's devices count
 counts : CausesCount
@@ -107,6 +112,18 @@ left_devices s system (inr (spent, is)) = ap devices_in is
 left_stands : (s : StoreFacts) (system : SystemFacts) (t : State) → LeftBy s system → StoreIsNow s t → StandsAs system t
 left_stands s system t (inl (unspent, is)) now = subst (λ (x : SystemFacts). StandsAs x t) (sym is) (up_stands s t now)
 left_stands s system t (inr (spent, is)) now = subst (λ (x : SystemFacts). StandsAs x t) (sym is) (down_stands s t spent now)
+
+-- a safe store leaves a safe system
+pub safe_turned : (turn : Turn) (s : StoreFacts) → (s.spent ≡ true) ↔ (turn ≡ turns.Broken) → (s.spent ≡ false → IsSafe s) → (s.spent ≡ true → AreSafe s.online.disc s.rack) → SystemSafe (turned_system turn s)
+safe_turned turns.Broken s stopped up down = down (stopped.1 refl)
+safe_turned (turns.Wants serial) s stopped up down = up (unbroken (turns.Wants serial) s stopped (λ e. let no : ⊥ = cc in no))
+safe_turned (turns.Ran units money) s stopped up down = up (unbroken (turns.Ran units money) s stopped (λ e. let no : ⊥ = cc in no))
+safe_turned (turns.Ended units money) s stopped up down = up (unbroken (turns.Ended units money) s stopped (λ e. let no : ⊥ = cc in no))
+
+pub safe_left : (s : StoreFacts) (system : SystemFacts) → LeftBy s system → (s.spent ≡ false → IsSafe s) → (s.spent ≡ true → AreSafe s.online.disc s.rack) → SystemSafe system
+safe_left s system (inl (unspent, at)) up down = subst (λ (x : SystemFacts). SystemSafe x) (sym at) (up unspent)
+safe_left s system (inr (spent, at)) up down =
+    subst (λ (x : SystemFacts). SystemSafe x) (sym at) (let d : SystemFacts = Down (record { disc = s.online.disc; rack = s.rack }) in let b : SystemSafe d = down spent in b)
 
 -- if no job can step, a dump has taken its step
 stepped_by : (w : World) → ((w.phase ≡ Between) × (is_dumping w ≡ false) × (nothing_steps w ≡ false)) ⊎ (w.phase ≡ Stepped) → has_none (able w) ≡ true → w.phase ≡ Stepped
@@ -219,6 +236,20 @@ module _ {F U : Type 0} (tariffs : Shared F (Bor Usage × Unit {0}) Charge) (tar
   went None old new added before after does put = λ w m may. let d = does w m may in (d.moves, d.next, added, d.comes, d.matches refl, d.through refl, put)
   went (Some failure) old new added before after does put = λ w m may. let d = does w m may in (d.moves, d.next, added, d.comes, put)
 
+  -- what a power loss leaves of the system
+  turned_left : (turn : Turn) (w : World) (moves : List Move) (next : World) (old new : StoreFacts) → (new.spent ≡ true) ↔ (turn ≡ turns.Broken)
+      → Leaves counts tariffs tariff rules rule w moves next old new → IsSafe old → LeftAfter tariffs tariff rules rule w moves next (Up old) (turned_system turn new)
+  turned_left turns.Broken w moves next old new stopped leaves safe = λ blocks rack left. inl (leaves safe (stopped.1 refl) blocks rack left)
+  turned_left (turns.Wants serial) w moves next old new stopped leaves safe = tt
+  turned_left (turns.Ran units money) w moves next old new stopped leaves safe = tt
+  turned_left (turns.Ended units money) w moves next old new stopped leaves safe = tt
+
+  part_left : (w : World) (moves : List Move) (next : World) (old new : StoreFacts) (system : SystemFacts) → LeftBy new system
+      → Leaves counts tariffs tariff rules rule w moves next old new → IsSafe old → LeftAfter tariffs tariff rules rule w moves next (Up old) system
+  part_left w moves next old new system (inl (unspent, is)) leaves safe = subst (λ (s : SystemFacts). LeftAfter tariffs tariff rules rule w moves next (Up old) s) (sym is) tt
+  part_left w moves next old new system (inr (spent, is)) leaves safe =
+      subst (λ (s : SystemFacts). LeftAfter tariffs tariff rules rule w moves next (Up old) s) (sym is) (λ blocks rack left. inl (leaves safe spent blocks rack left))
+
   -- if a turn may begin, one does
   may_begin : (w : World) → MayTurn w → MayBegin tariffs tariff rules rule w
   may_begin w (idle, undue, inl (between, closed, some)) = inl (between, closed)
@@ -254,8 +285,9 @@ module _ {F U : Type 0} (tariffs : Shared F (Bor Usage × Unit {0}) Charge) (tar
           → (w : World) → Matches w (seen (Up old) c count) → MayTurn w → Doing w (seen (Up old) c count) failure (seen (turned_system turn new) c' count) (shown job behind ++ turn_added count behind turn c.jobs)
       whole_does behind turn new failure system c' before after faults faults' takes stopped ends w m may =
           let next = next_in w m in
-          let (moves, t, now, run, counted, keeps) = store_turn counts tariffs tariff rules rule w job next.place may.0 may.1 (may_begin w may) next.chosen next.at next.here old new (now_in w m) takes.told takes.work turn behind takes.ran takes.ends in
+          let (moves, t, now, run, counted, keeps, leaves) = turn_moved counts tariffs tariff rules rule w job next.place may.0 may.1 (may_begin w may) next.chosen next.at next.here old new (now_in w m) takes.told takes.work turn behind takes.ran takes.ends in
           let world : World = turned_world w job t takes.work turn behind in
+          let kept : StaysSafe old new = ran_safe job.user (turn_work job) (turn_honest job) takes.told old takes.work new takes.ran in
           let stands : StandsAs (turned_system turn new) world.store = turned_stands turn new t job takes.work behind w stopped now in record {
             moves = moves;
             next = world;
@@ -263,6 +295,8 @@ module _ {F U : Type 0} (tariffs : Shared F (Bor Usage × Unit {0}) Charge) (tar
               run = run;
               counted = subst (λ (d : Devices). MovesCounted moves [] [] (devices_of old) d) (sym (same_devices turn new)) counted;
               stands = stands;
+              safe = λ safe. safe_turned turn new stopped (kept.up safe) (kept.down safe);
+              left = λ safe. turned_left turn w moves world old new stopped leaves safe;
               keeps = keeps;
               text = turn_adds behind turn (shows job behind (with_turn (record w { phase = Stepped }) t job.number (Gives takes.work)))
                   ∙ append_assoc w.text (shown job behind) (turn_added w.count behind turn w.jobs)
@@ -282,13 +316,16 @@ module _ {F U : Type 0} (tariffs : Shared F (Bor Usage × Unit {0}) Charge) (tar
           → (w : World) → Matches w (seen (Up old) c count) → MayTurn w → Doing w (seen (Up old) c count) (Some Memory) (seen system c' count) []
       part_does new system c' ran left w m may =
           let next = next_in w m in
-          let (moves, t, rest, now, run, counted, keeps) = store_turn_in_part counts tariffs tariff rules rule w job next.place may.0 may.1 (may_begin w may) next.chosen next.at next.here old new (now_in w m) ran in record {
+          let (moves, t, rest, now, run, counted, keeps, leaves) = part_moved counts tariffs tariff rules rule w job next.place may.0 may.1 (may_begin w may) next.chosen next.at next.here old new (now_in w m) ran in
+          let kept : StaysSafe old new = part_safe job.user (turn_work job) (turn_honest job) old new ran in record {
             moves = moves;
             next = with_turn (in_turn tariffs tariff rules rule w) t job.number rest;
             comes = record {
               run = run;
               counted = subst (λ (d : Devices). MovesCounted moves [] [] (devices_of old) d) (sym (left_devices new system left)) counted;
               stands = left_stands new system t left now;
+              safe = λ safe. safe_left new system left (kept.up safe) (kept.down safe);
+              left = λ safe. part_left w moves (with_turn (in_turn tariffs tariff rules rule w) t job.number rest) old new system left leaves safe;
               keeps = keeps;
               text = sym (append-nil w.text);
             };
@@ -321,7 +358,7 @@ module _ {F U : Type 0} (tariffs : Shared F (Bor Usage × Unit {0}) Charge) (tar
         let nobody : has_none (able w) ≡ true = subst (λ (js : List JobState). has_none (able_in w.store js) ≡ true) (sym m.crew.jobs) (none w.store m.stands.stands) in record {
           moves = [];
           next = w;
-          comes = record { run = refl; counted = event_none (devices_of old); stands = m.stands; keeps = keeps_itself w; text = sym (append-nil w.text) };
+          comes = record { run = refl; counted = event_none (devices_of old); stands = m.stands; safe = λ safe. safe; left = λ safe. tt; keeps = keeps_itself w; text = sym (append-nil w.text) };
           matches = λ is. m;
           through = λ is. (may.0, inr (stepped_by w may.2 nobody, nobody));
         })
