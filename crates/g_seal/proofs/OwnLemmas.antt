@@ -1,7 +1,7 @@
 -- A store whose seal it is has nothing to report.
 -- serves: rotten (unchanged), twins_of (unchanged), OwnTextLemmas
 use Rattle.std.proofs.Common.{◌≡◌, ◌≢◌, ◌⊎◌, inl, inr, ℕ, ◌*◌, Bool, true, false, ◌&&◌, ◌||◌, List, [], ◌∷◌, ◌++◌, zero, suc, get_or, map, Option, Some, None, refl, sym, ◌∙◌, ap, subst, arith, All}
-use Rattle.std.specs.Prelude.{◌==◌, AllPairs, cond, not, option_map}
+use Rattle.std.specs.Prelude.{◌==◌, AllPairs, cond, filter, not, option_map}
 use Rattle.std.specs.List.{flat_map, list_any}
 use Rattle.std.specs.Cmp.Lexicographic.{bytes_decides}
 use Rattle.std.proofs.lemmas.Bool.{and_from, cases_Bool, cond-false, cond-true, eq-eqb, ne_eqb}
@@ -26,11 +26,12 @@ use Rattle.g_tree.proofs.ListLemmas.{pairs_first, pairs_rest}
 use Rattle.g_look.specs.Text.{IsFoundOn}
 use Rattle.g_seal.specs.declared.entries.SealedDump.{SealedDump}
 use Rattle.g_seal.specs.declared.entries.SealedFile.{SealedFile}
+use Rattle.g_seal.specs.declared.rotten_dumps.RottenDump.{RottenDump}
 use Rattle.g_seal.specs.declared.twins.Twins.{Twins}
 use Rattle.g_seal.specs.declared.versions.CopyState.{CopyState}
 use Rattle.g_seal.specs.declared.versions.CopyState.TheVariants as state
 use Rattle.g_seal.specs.declared.versions.FoundVersion.{FoundVersion}
-use Rattle.g_seal.specs.Rotten.{IsReport, IsSealing, Marks, disc_state, file_lines, found_version, has_copy, is_inside, is_left_out, is_other, is_rotten, is_same_place, is_sealed, reel_state, rotten_dump_line, rotten_dumps, rotten_file_line, rotten_files, rotten_if, sum_state, tape_state, version_lines, version_of}
+use Rattle.g_seal.specs.Rotten.{IsReport, IsSealing, Marks, disc_state, file_lines, found_version, has_copy, is_inside, is_left_out, is_other, is_rotten, is_same_place, is_sealed, reel_state, rotten_dump_line, rotten_dumps, rotten_file_line, rotten_files, rotten_if, sum_state, tape_state, version_lines, version_of, without_sum}
 use Rattle.g_seal.specs.Sealing.{bytes_on, dump_place, sealed_dump, sealed_file, sealed_files, taped_bytes}
 
 same : (xs : List ℕ) → same_text xs xs ≡ true
@@ -57,7 +58,9 @@ own_dump reels d = and_false _ _ _ (own_state reels (dump_place d) (512 * size_o
 
 pub own_dumps : (reels : List Reel) (dumps : List Dump) → rotten_dumps reels (map (sealed_dump reels) dumps) ≡ []
 own_dumps reels [] = refl
-own_dumps reels (d ∷ dumps) = cond-false (is_rotten reels (sealed_dump reels d)) (sealed_dump reels d ∷ rotten_dumps reels (map (sealed_dump reels) dumps)) (rotten_dumps reels (map (sealed_dump reels) dumps)) (own_dump reels d) ∙ own_dumps reels dumps
+own_dumps reels (d ∷ dumps) =
+    let rest : List SealedDump = filter (is_rotten reels) (map (sealed_dump reels) dumps) in
+    ap (λ (ds : List SealedDump). map without_sum ds) (cond-false (is_rotten reels (sealed_dump reels d)) (sealed_dump reels d ∷ rest) rest (own_dump reels d)) ∙ own_dumps reels dumps
 
 -- FILES
 own_place : (c : TapeCopy) → is_same_place c (Some c) ≡ true
@@ -156,9 +159,9 @@ own_report held reels twins dumps files text report sealing =
     let none : rotten_dumps reels dumps ≡ [] = ap (rotten_dumps reels) sealing.dumps_are ∙ own_dumps reels (all_dumps sealing.shelf reels) in
     let files_are : files ≡ sealed_files report.blocks reels sealing.found = sealing.files_are ∙ ap (λ (bs : List (List ℕ)). sealed_files bs reels sealing.found) same_blocks in
     report.text_is
-    ∙ ap (λ (ds : List SealedDump). text_of (map (rotten_dump_line []) ds ++ rotten_files report.blocks reels (record { rotten = ds; twins = twins }) report.found files)) none
+    ∙ ap (λ (ds : List RottenDump). text_of (map (rotten_dump_line []) ds ++ rotten_files report.blocks reels (record { rotten = ds; twins = twins }) report.found files)) none
     ∙ ap (λ (fs : List SealedFile). text_of (rotten_files report.blocks reels (own twins) report.found fs)) files_are
     ∙ ap text_of (own_held report.blocks reels twins report.found sealing.found report.found_is here)
 
-pub own_rotten : (reels : List Reel) (sealed rotten : List SealedDump) (dumps : List Dump) → rotten ≡ rotten_dumps reels sealed → sealed ≡ map (sealed_dump reels) dumps → rotten ≡ []
+pub own_rotten : (reels : List Reel) (sealed : List SealedDump) (rotten : List RottenDump) (dumps : List Dump) → rotten ≡ rotten_dumps reels sealed → sealed ≡ map (sealed_dump reels) dumps → rotten ≡ []
 own_rotten reels sealed rotten dumps is are = is ∙ ap (rotten_dumps reels) are ∙ own_dumps reels dumps

@@ -14,10 +14,11 @@ use Rattle.g_look.specs.Standing.{IsStanding, found_in}
 use Rattle.g_look.proofs.HeadLemmas.{told_blocks}
 use Rattle.g_seal.specs.declared.entries.SealedDump.{SealedDump}
 use Rattle.g_seal.specs.declared.entries.SealedFile.{SealedFile}
+use Rattle.g_seal.specs.declared.rotten_dumps.RottenDump.{RottenDump}
 use Rattle.g_seal.specs.declared.twins.Twins.{Twins}
 use Rattle.g_seal.specs.Rotten.{IsReport, rotten_dump_line, rotten_dumps, rotten_files}
 
-report_is : (held : Option (List (List ℕ))) (size : ℕ) (reels : List Reel) (twins : Twins) (standing : Standing) (dumps rotten : List SealedDump) (files : List SealedFile) (begun first second : List ℕ) → AllTold held reels
+report_is : (held : Option (List (List ℕ))) (size : ℕ) (reels : List Reel) (twins : Twins) (standing : Standing) (dumps : List SealedDump) (rotten : List RottenDump) (files : List SealedFile) (begun first second : List ℕ) → AllTold held reels
     → IsStanding size held standing → begun ≡ [] → rotten ≡ rotten_dumps reels dumps → first ≡ begun ++ text_of (map (rotten_dump_line []) rotten)
     → ForSome held (λ blocks. second ≡ first ++ text_of (rotten_files blocks reels (record { rotten = rotten; twins = twins }) (found_in standing.dirs) files)) → IsReport held reels twins dumps files second
 report_is held size reels twins standing dumps rotten files begun first second told stands none rotten_is first_is second_is =
@@ -31,11 +32,11 @@ report_is held size reels twins standing dumps rotten files begun first second t
           second_is blocks is
           ∙ ap (λ (xs : List ℕ). xs ++ text_of (rotten_files blocks reels (record { rotten = rotten; twins = twins }) (found_in standing.dirs) files)) (first_is ∙ ap (λ (xs : List ℕ). xs ++ text_of (map (rotten_dump_line []) rotten)) none)
           ∙ sym (flat_map-append ended (map (rotten_dump_line []) rotten) (rotten_files blocks reels (record { rotten = rotten; twins = twins }) (found_in standing.dirs) files))
-          ∙ ap (λ (ds : List SealedDump). text_of (map (rotten_dump_line []) ds ++ rotten_files blocks reels (record { rotten = ds; twins = twins }) (found_in standing.dirs) files)) rotten_is;
+          ∙ ap (λ (ds : List RottenDump). text_of (map (rotten_dump_line []) ds ++ rotten_files blocks reels (record { rotten = ds; twins = twins }) (found_in standing.dirs) files)) rotten_is;
     }
 
 -- the same of what the calls ensure, one after another
-pub report_at : (size : ℕ) (disc mid : DiscState) (rack one : Rack) (twins : Twins) (standing : Standing) (dumps rotten due there again : List SealedDump) (files wanted : List SealedFile) (begun first second : List ℕ)
+pub report_at : (size : ℕ) (disc mid : DiscState) (rack one : Rack) (twins : Twins) (standing : Standing) (dumps : List SealedDump) (rotten : List RottenDump) (due : List SealedDump) (there again : List RottenDump) (files wanted : List SealedFile) (begun first second : List ℕ)
     → due ≡ dumps → there ≡ rotten → again ≡ rotten → wanted ≡ files → AllTold disc.held (told_reels rack)
     → told_reels one ≡ told_reels rack → mid.held ≡ disc.held → IsStanding size disc.held standing → begun ≡ [] → (ReelsTold (told_reels rack) → rotten ≡ rotten_dumps (told_reels rack) due)
     → first ≡ begun ++ text_of (map (rotten_dump_line []) there)
@@ -45,6 +46,6 @@ report_at size disc mid rack one twins standing dumps rotten due there again fil
     let held_is : ForSome mid.held (λ blocks. second ≡ first ++ text_of (rotten_files blocks (told_reels rack) (record { rotten = again; twins = twins }) (found_in standing.dirs) wanted)) =
     subst (λ (rs : List Reel). ReelsTold rs → ForSome mid.held (λ blocks. second ≡ first ++ text_of (rotten_files blocks rs (record { rotten = again; twins = twins }) (found_in standing.dirs) wanted))) is_one held told.each in
     report_is disc.held size (told_reels rack) twins standing dumps rotten files begun first second told stands none (rotten_is told.each ∙ ap (rotten_dumps (told_reels rack)) due_is)
-    (first_is ∙ ap (λ (ds : List SealedDump). begun ++ text_of (map (rotten_dump_line []) ds)) there_is)
-    (λ blocks is. held_is blocks (is_mid ∙ is) ∙ ap (λ (ds : List SealedDump). first ++ text_of (rotten_files blocks (told_reels rack) (record { rotten = ds; twins = twins }) (found_in standing.dirs) wanted)) again_is
+    (first_is ∙ ap (λ (ds : List RottenDump). begun ++ text_of (map (rotten_dump_line []) ds)) there_is)
+    (λ blocks is. held_is blocks (is_mid ∙ is) ∙ ap (λ (ds : List RottenDump). first ++ text_of (rotten_files blocks (told_reels rack) (record { rotten = ds; twins = twins }) (found_in standing.dirs) wanted)) again_is
     ∙ ap (λ (fs : List SealedFile). first ++ text_of (rotten_files blocks (told_reels rack) (record { rotten = rotten; twins = twins }) (found_in standing.dirs) fs)) wanted_is)

@@ -1,10 +1,10 @@
 -- What was read of sealed dumps, and the rotten ones among them.
 -- serves: block_at (block), reel_state (state), rotten_dumps (rotten)
 use Rattle.std.proofs.Common.{◌≡◌, ◌⊎◌, inl, inr, ℕ, ◌+◌, ◌-◌, ◌*◌, ◌<◌, ◌≤◌, Bool, true, false, ◌&&◌, ◌||◌, List, [], ◌∷◌, ◌++◌, length, take, get_or, slice_get, Option, Some, None, Result, Ok, refl, sym, ◌∙◌, ap, subst}
-use Rattle.std.specs.Prelude.{is_some, not, option_map, nat_le}
+use Rattle.std.specs.Prelude.{filter, is_some, map, not, option_map, nat_le}
 use Rattle.std.specs.Option.{ForSome}
 use Rattle.std.proofs.lemmas.Bool.{cases_Bool, cond-false, cond-true, le-leb, leb-true}
-use Rattle.std.proofs.lemmas.List.{take_all, take_more}
+use Rattle.std.proofs.lemmas.List.{map-append, take_all, take_more}
 use Rattle.std.proofs.lemmas.List.Elements.{filter-append}
 use Rattle.sha2.specs.Sha256.{sha256}
 use Rattle.g_base.specs.Block.{blocks_for}
@@ -20,9 +20,10 @@ use Rattle.g_store_meaning.specs.Reading.{ReelsTold}
 use Rattle.g_look.specs.Looks.{ReadsRackByCause}
 use Rattle.g_look.proofs.HeadLemmas.{told_blocks}
 use Rattle.g_seal.specs.declared.entries.SealedDump.{SealedDump}
+use Rattle.g_seal.specs.declared.rotten_dumps.RottenDump.{RottenDump}
 use Rattle.g_seal.specs.declared.versions.CopyState.{CopyState}
 use Rattle.g_seal.specs.declared.versions.CopyState.TheVariants as state
-use Rattle.g_seal.specs.Rotten.{block_in, block_on, has_blocks, has_copy, is_later_header, is_mark, is_other, is_overwritten, is_rotten, place_of, reel_state, rotten_dumps, sum_state}
+use Rattle.g_seal.specs.Rotten.{block_in, block_on, has_blocks, has_copy, is_later_header, is_mark, is_other, is_overwritten, is_rotten, place_of, reel_state, rotten_dumps, sum_state, without_sum}
 use Rattle.g_seal.specs.Sealing.{HasAll, bytes_on}
 use Rattle.g_seal.proofs.LineLemmas.{rack_never, rack_none, rack_then}
 use Rattle.g_seal.proofs.ReelLemmas.{all_reel}
@@ -62,14 +63,14 @@ pub state_gone : (reels : List Reel) (copy : TapeCopy) (len : ℕ) (due : List �
 state_gone reels copy len due none = sym (cond-false (has_copy reels copy len) (sum_state (sha256 (bytes_on reels copy len)) due) state.Absent (has_copy_false reels copy len none))
 
 -- THE ROTTEN ONES among the first i dumps, while the rack was read
-pub record RottenDumps (dumps : List SealedDump) (i : ℕ) (found : List SealedDump) (old now : Rack) : Type 0 where
+pub record RottenDumps (dumps : List SealedDump) (i : ℕ) (found : List RottenDump) (old now : Rack) : Type 0 where
   pub reads : ReadsRackByCause ⊥ old now
   pub found_is : ReelsTold (told_reels old) → found ≡ rotten_dumps (told_reels old) (take i dumps)
 
-pub none_rotten : (dumps found : List SealedDump) (rack : Rack) → found ≡ [] → RottenDumps dumps 0 found rack rack
+pub none_rotten : (dumps : List SealedDump) (found : List RottenDump) (rack : Rack) → found ≡ [] → RottenDumps dumps 0 found rack rack
 none_rotten dumps found rack none = record { reads = rack_none rack; found_is = λ told. none }
 
-pub rotten_more : {Q : Type 0} (dumps : List SealedDump) (i : ℕ) (d : SealedDump) (found next : List SealedDump) (old mid new : Rack) → i < length dumps → RottenDumps dumps i found old mid → (Q → ⊥)
+pub rotten_more : {Q : Type 0} (dumps : List SealedDump) (i : ℕ) (d : SealedDump) (found next : List RottenDump) (old mid new : Rack) → i < length dumps → RottenDumps dumps i found old mid → (Q → ⊥)
     → ReadsRackByCause Q mid new → (ReelsTold (told_reels mid) → next ≡ found ++ rotten_dumps (told_reels mid) (get_or dumps i d ∷ [])) → RottenDumps dumps (i + 1) next old new
 rotten_more {Q} dumps i d found next old mid new within so never reads adds =
     let one : List SealedDump = get_or dumps i d ∷ [] in
@@ -78,12 +79,13 @@ rotten_more {Q} dumps i d found next old mid new within so never reads adds =
       reads = rack_then (λ wrong. wrong) so.reads (rack_never never reads);
       found_is = λ told.
           adds (subst ReelsTold (sym still) told) ∙ ap (λ (rs : List Reel). found ++ rotten_dumps rs one) still
-          ∙ ap (λ (ds : List SealedDump). ds ++ rotten_dumps (told_reels old) one) (so.found_is told)
-          ∙ sym (filter-append (is_rotten (told_reels old)) (take i dumps) one)
+          ∙ ap (λ (ds : List RottenDump). ds ++ rotten_dumps (told_reels old) one) (so.found_is told)
+          ∙ sym (map-append without_sum (filter (is_rotten (told_reels old)) (take i dumps)) (filter (is_rotten (told_reels old)) one))
+          ∙ ap (λ (ds : List SealedDump). map without_sum ds) (sym (filter-append (is_rotten (told_reels old)) (take i dumps) one))
           ∙ ap (rotten_dumps (told_reels old)) (sym (take_more dumps i d within));
     }
 
-pub all_rotten : (dumps : List SealedDump) (i : ℕ) (found : List SealedDump) (old now : Rack) → length dumps ≤ i → RottenDumps dumps i found old now → ReelsTold (told_reels old)
+pub all_rotten : (dumps : List SealedDump) (i : ℕ) (found : List RottenDump) (old now : Rack) → length dumps ≤ i → RottenDumps dumps i found old now → ReelsTold (told_reels old)
     → found ≡ rotten_dumps (told_reels old) dumps
 all_rotten dumps i found old now all so told = so.found_is told ∙ ap (rotten_dumps (told_reels old)) (take_all i dumps all)
 

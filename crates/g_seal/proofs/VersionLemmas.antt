@@ -27,8 +27,8 @@ use Rattle.g_store_meaning.specs.Reading.{ReelsTold}
 use Rattle.g_look.specs.declared.fault.LookFault.{LookFault}
 use Rattle.g_look.specs.Looks.{ReadsRackByCause}
 use Rattle.g_look.specs.Standing.{found_in}
-use Rattle.g_seal.specs.declared.entries.SealedDump.{SealedDump}
 use Rattle.g_seal.specs.declared.entries.SealedFile.{SealedFile}
+use Rattle.g_seal.specs.declared.rotten_dumps.RottenDump.{RottenDump}
 use Rattle.g_seal.specs.declared.versions.CopyState.{CopyState}
 use Rattle.g_seal.specs.declared.versions.CopyState.TheVariants as state
 use Rattle.g_seal.specs.declared.versions.FoundVersion.{FoundVersion}
@@ -82,17 +82,17 @@ all_versions marks dirs files i begun text disc dnow old now all so told blocks 
     so.text_is told blocks is ∙ ap (λ (fs : List SealedFile). begun ++ text_of (flat_map (rec_lines blocks (told_reels old) marks dirs.users.items dirs.online.items dirs.files.items) fs)) (take_all i files all)
 
 -- THE STATE of a copy on tape
-pub tape_left : (reels : List Reel) (rotten : List SealedDump) (s : SealedFile) (disc : CopyState) (len : ℕ) (copy : TapeCopy) (tape : Option TapeCopy) → tape ≡ Some copy → is_left_out rotten s disc copy ≡ true
+pub tape_left : (reels : List Reel) (rotten : List RottenDump) (s : SealedFile) (disc : CopyState) (len : ℕ) (copy : TapeCopy) (tape : Option TapeCopy) → tape ≡ Some copy → is_left_out rotten s disc copy ≡ true
     → state.Absent ≡ tape_state reels rotten s disc len tape
 tape_left reels rotten s disc len copy tape is left =
     sym (ap (tape_state reels rotten s disc len) is ∙ cond-true (is_left_out rotten s disc copy) state.Absent (reel_state reels copy len s.sum) left)
 
-pub tape_there : (reels : List Reel) (rotten : List SealedDump) (s : SealedFile) (disc : CopyState) (len : ℕ) (copy : TapeCopy) (tape : Option TapeCopy) (x : CopyState) → tape ≡ Some copy → is_left_out rotten s disc copy ≡ false
+pub tape_there : (reels : List Reel) (rotten : List RottenDump) (s : SealedFile) (disc : CopyState) (len : ℕ) (copy : TapeCopy) (tape : Option TapeCopy) (x : CopyState) → tape ≡ Some copy → is_left_out rotten s disc copy ≡ false
     → x ≡ reel_state reels copy len s.sum → x ≡ tape_state reels rotten s disc len tape
 tape_there reels rotten s disc len copy tape x is left state_is =
     state_is ∙ sym (ap (tape_state reels rotten s disc len) is ∙ cond-false (is_left_out rotten s disc copy) state.Absent (reel_state reels copy len s.sum) left)
 
-pub tape_none : (reels : List Reel) (rotten : List SealedDump) (s : SealedFile) (disc : CopyState) (len : ℕ) (tape : Option TapeCopy) → tape ≡ None → state.Absent ≡ tape_state reels rotten s disc len tape
+pub tape_none : (reels : List Reel) (rotten : List RottenDump) (s : SealedFile) (disc : CopyState) (len : ℕ) (tape : Option TapeCopy) → tape ≡ None → state.Absent ≡ tape_state reels rotten s disc len tape
 tape_none reels rotten s disc len tape is = sym (ap (tape_state reels rotten s disc len) is)
 
 -- A VERSION by its parts

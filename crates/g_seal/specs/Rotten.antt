@@ -25,6 +25,7 @@ use Rattle.g_look.specs.FileLines.{taped_text}
 use Rattle.g_look.specs.Text.{IsFoundOn, told}
 use Rattle.g_seal.specs.declared.entries.SealedDump.{SealedDump}
 use Rattle.g_seal.specs.declared.entries.SealedFile.{SealedFile}
+use Rattle.g_seal.specs.declared.rotten_dumps.RottenDump.{RottenDump}
 use Rattle.g_seal.specs.declared.twins.Twins.{Twins}
 use Rattle.g_seal.specs.declared.versions.CopyState.{CopyState}
 use Rattle.g_seal.specs.declared.versions.CopyState.TheVariants.{Sealed, Other, Absent}
@@ -98,12 +99,16 @@ place_of d = record { serial = d.serial; first = d.place }
 abbrev pub is_rotten : List Reel → SealedDump → Bool
 is_rotten reels d = nat_le d.blocks 65_536 && is_other (reel_state reels (place_of d) (512 * d.blocks) d.sum) && not (is_overwritten reels d)
 
+-- A sealed dump without its sum.
+abbrev pub without_sum : SealedDump → RottenDump
+without_sum d = record { number = d.number; serial = d.serial; place = d.place; blocks = d.blocks }
+
 -- The rotten ones among the sealed dumps.
-abbrev pub rotten_dumps : List Reel → List SealedDump → List SealedDump
-rotten_dumps reels dumps = filter (is_rotten reels) dumps
+abbrev pub rotten_dumps : List Reel → List SealedDump → List RottenDump
+rotten_dumps reels dumps = map without_sum (filter (is_rotten reels) dumps)
 
 -- The copy begins within the blocks of the dump.
-abbrev pub is_inside : TapeCopy → SealedDump → Bool
+abbrev pub is_inside : TapeCopy → RottenDump → Bool
 is_inside copy d = (d.serial == copy.serial) && nat_le d.place copy.first && nat_lt copy.first (d.place + d.blocks)
 
 -- The copies are at the same place.
@@ -113,11 +118,11 @@ is_same_place copy (Some other) = (other.serial == copy.serial) && (other.first 
 
 -- A COPY ISN'T COMPARED: the seal summed up the disc's copy of this version, which still has that sum, and this one only as part of its dump, which
 -- isn't rotten. A version whose two copies differed when it was sealed thus isn't reported as long as nothing changes.
-abbrev pub is_left_out : List SealedDump → SealedFile → CopyState → TapeCopy → Bool
+abbrev pub is_left_out : List RottenDump → SealedFile → CopyState → TapeCopy → Bool
 is_left_out rotten s disc copy = s.online && is_sealed disc && is_same_place copy s.tape && not (list_any (is_inside copy) rotten)
 
 -- THE STATE OF A VERSION'S COPY ON TAPE, by the sealed file and the state of the copy on disc.
-abbrev pub tape_state : List Reel → List SealedDump → SealedFile → CopyState → ℕ → Option TapeCopy → CopyState
+abbrev pub tape_state : List Reel → List RottenDump → SealedFile → CopyState → ℕ → Option TapeCopy → CopyState
 tape_state reels rotten s disc len None = Absent
 tape_state reels rotten s disc len (Some copy) = if is_left_out rotten s disc copy then Absent else reel_state reels copy len s.sum
 
@@ -140,7 +145,7 @@ twin_state twins s disc (Some copy) =
     if is_same_place copy s.tape then unless_left (is_left_out twins.rotten.items s disc copy) (state_found twins s.stamp) else Absent
 
 -- THE LINE OF A ROTTEN DUMP, with words after its reel that say in which rack it is.
-abbrev pub rotten_dump_line : List ℕ → SealedDump → List ℕ
+abbrev pub rotten_dump_line : List ℕ → RottenDump → List ℕ
 rotten_dump_line rack d = told (codes "ROTTEN DUMP ") d.number ++ told (codes " ON ") d.serial ++ rack
 
 -- The place on tape, if the copy there is one of those that are listed.
@@ -168,7 +173,7 @@ rotten_if v = if is_other v.disc || is_other v.tape then rotten_file_line v ∷ 
 
 -- The rotten dumps of the first rack, and what was found of the seal in a second one.
 pub record Marks : Type 0 where
-  pub rotten : List SealedDump
+  pub rotten : List RottenDump
   pub twins : Twins
 
 -- A sealed version as it is found: its present name, and the states of its copies.

@@ -1,5 +1,4 @@
 //! The lines of a seal.
-ghost use Rattle.std.specs.Prelude.{◌≡◌};
 
 use g_entry::TapeCopy;
 use g_name::Full;
@@ -13,21 +12,6 @@ pub struct SealedDump {
     pub place: u32,
     pub blocks: u32,
     pub sum: [u8; 32],
-}
-
-impl SealedDump {
-    /// The same dump.
-    pub(crate) fn copy(&self) -> SealedDump
-        ensures { result ≡ self.now }
-    {
-        SealedDump {
-            number: self.number,
-            serial: self.serial,
-            place: self.place,
-            blocks: self.blocks,
-            sum: self.sum,
-        }
-    }
 }
 
 /// The line of a file: its full name, its length in bytes, its stamp, the SHA-256 of its bytes, and where they are: whether on

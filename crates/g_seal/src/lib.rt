@@ -14,6 +14,7 @@ mod parse;
 mod reel_state;
 mod reel_sum;
 mod reporting;
+mod room;
 mod rotten_dumps;
 mod rotten_files;
 mod rotten_line;
@@ -27,6 +28,7 @@ ghost use Rattle.g_seal.specs.Rotten.{OwnIsQuiet};
 pub use entries::{SealedDump, SealedFile};
 pub use parse::{Seal, SealFault, parse_seal};
 pub use reporting::rotten;
+pub use rotten_dumps::RottenDump;
 pub use sealing::{Sealed, seal};
 pub use twins::{Twins, twins_of};
 

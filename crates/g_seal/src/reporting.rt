@@ -9,6 +9,7 @@ ghost use Rattle.g_seal.specs.Rotten.{IsReport, IsSealing};
 ghost use Rattle.g_seal.specs.SealText.{sealed_text};
 ghost use Rattle.g_seal.specs.Sealing.{IsOfReport, IsSealed};
 
+use crate::room::fitted;
 use crate::rotten_dumps::{push_rotten_dumps, rotten_dumps};
 use crate::rotten_files::{Sought, push_rotten_held};
 use crate::{Seal, Twins};
@@ -64,7 +65,7 @@ pub fn rotten<D: Disc, T: Tapes>(
         files: seal.files.as_slice(),
     };
     match push_rotten_held(&mut text, disc, tapes, &standing.dirs, &sought) {
-        Ok(()) => Ok(text),
+        Ok(()) => Ok(fitted(text)),
         Err(fault) => Err(fault),
     }
 }

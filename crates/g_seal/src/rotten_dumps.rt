@@ -1,10 +1,10 @@
 //! The sealed dumps whose blocks have other bytes.
-ghost use Rattle.std.specs.Prelude.{◌≡◌, ◌⊎◌, ◌++◌, ◌∷◌, [], All, Err, IfErr, IfOk, OnOk, map, true};
+ghost use Rattle.std.specs.Prelude.{◌≡◌, ◌≢◌, ◌⊎◌, ◌++◌, ◌∷◌, [], All, Err, IfErr, IfOk, OnErr, OnOk, map, true};
 ghost use Rattle.g_lines.specs.Lines.{ended, text_of};
 ghost use Rattle.g_store_meaning.specs.Meaning.{told_reels};
 ghost use Rattle.g_store_meaning.specs.Reading.{ReelsTold};
 ghost use Rattle.g_look.specs.Looks.{ReadsRackByCause};
-ghost use Rattle.g_seal.specs.Rotten.{is_rotten, rotten_dump_line, rotten_dumps};
+ghost use Rattle.g_seal.specs.Rotten.{is_rotten, rotten_dump_line, rotten_dumps, without_sum};
 
 use crate::SealedDump;
 use crate::header::is_overwritten;
@@ -17,12 +17,36 @@ use g_name::Text;
 use g_tape::Tapes;
 use std::alloc::Global;
 
+/// A sealed dump whose blocks have other bytes: its number, its reel, its first block there, and how many blocks it has. Without the sum it takes less than
+/// half as much memory; there may be as many as dumps in the seal, once for each rack.
+#[derive(Drop)]
+pub struct RottenDump {
+    pub number: u64,
+    pub serial: u32,
+    pub place: u32,
+    pub blocks: u32,
+}
+
+impl SealedDump {
+    /// The dump without its sum.
+    fn without_sum(&self) -> RottenDump
+        ensures { result ≡ without_sum self.now }
+    {
+        RottenDump {
+            number: self.number,
+            serial: self.serial,
+            place: self.place,
+            blocks: self.blocks,
+        }
+    }
+}
+
 /// The rotten ones among the dumps, in their order. `TapeUnread`, `NoMemory`.
 pub(crate) fn rotten_dumps<T: Tapes>(
     alloc: Global,
     tapes: &mut T,
     dumps: &[SealedDump],
-) -> Result<Vec<SealedDump>, LookFault>
+) -> Result<Vec<RottenDump>, LookFault>
     requires mounted { All (λ r. r.mounted ≡ true) (told_reels (T.rack tapes.old)) }
     ensures rotten { ReelsTold (told_reels (T.rack tapes.old)) → IfOk result (λ found. found.items ≡ rotten_dumps (told_reels (T.rack tapes.old)) dumps.now) }
     ensures tapes { ReadsRackByCause (result ≡ Err LookFault.TapeUnread) (T.rack tapes.old) (T.rack tapes.new) }
@@ -40,7 +64,7 @@ pub(crate) fn rotten_dumps<T: Tapes>(
 
 /// Adds the dump if it is rotten.
 fn push_if_rotten<T: Tapes>(
-    rotten: &mut Vec<SealedDump>,
+    rotten: &mut Vec<RottenDump>,
     tapes: &mut T,
     dump: &SealedDump,
 ) -> Result<(), LookFault>
@@ -51,7 +75,7 @@ fn push_if_rotten<T: Tapes>(
     ensures faults { IfErr result (λ e. (e ≡ LookFault.TapeUnread) ⊎ (e ≡ LookFault.NoMemory)) }
 {
     match is_rotten(tapes, dump) {
-        Ok(true) => match rotten.push(dump.copy()) {
+        Ok(true) => match rotten.push(dump.without_sum()) {
             Ok(()) => Ok(()),
             Err(_) => Err(LookFault::NoMemory),
         },
@@ -88,10 +112,13 @@ fn is_rotten<T: Tapes>(tapes: &mut T, dump: &SealedDump) -> Result<bool, LookFau
 /// Appends a line for each of these dumps to the text, with the words for its rack.
 pub(crate) fn push_rotten_dumps(
     text: &mut Text,
-    dumps: &[SealedDump],
+    dumps: &[RottenDump],
     rack: &[u8],
 ) -> Result<(), NoMemory>
-    ensures { OnOk result (text.new ≡ text.old ++ text_of (map (rotten_dump_line rack.now) dumps.now)) }
+    ensures text { OnOk result (text.new ≡ text.old ++ text_of (map (rotten_dump_line rack.now) dumps.now)) }
+
+    // Without a line no memory is needed.
+    ensures memory { OnErr result (dumps.now ≢ []) }
 {
     for dump in dumps {
         push_rotten_dump(text, dump, rack)?;
@@ -100,7 +127,7 @@ pub(crate) fn push_rotten_dumps(
 }
 
 /// Appends the line of a rotten dump to the text.
-fn push_rotten_dump(text: &mut Text, dump: &SealedDump, rack: &[u8]) -> Result<(), NoMemory>
+fn push_rotten_dump(text: &mut Text, dump: &RottenDump, rack: &[u8]) -> Result<(), NoMemory>
     ensures { OnOk result (text.new ≡ text.old ++ ended (rotten_dump_line rack.now dump.now)) }
 {
     push_told(text, b"ROTTEN DUMP ", dump.number)?;

@@ -17,7 +17,7 @@ use crate::disc_sum::disc_sum;
 use crate::reel_state::{reel_state, sum_state};
 use crate::rotten_line::push_version;
 use crate::versions::{CopyState, FoundVersion};
-use crate::{SealedDump, SealedFile, Twins};
+use crate::{RottenDump, SealedFile, Twins};
 use g_copy::DiscCopy;
 use g_dirs::Dirs;
 use g_disc::Disc;
@@ -30,7 +30,7 @@ use g_tree::full_of;
 /// The rotten dumps of the first rack, what a second one has, and the files of a seal.
 #[derive(Drop)]
 pub(crate) struct Sought<'a> {
-    pub rotten: &'a [SealedDump],
+    pub rotten: &'a [RottenDump],
     pub twins: &'a Twins,
     pub files: &'a [SealedFile],
 }
@@ -168,7 +168,7 @@ fn disc_state<D: Disc>(
 /// The state of a version's copy on tape, by that of its copy on disc.
 fn tape_state<T: Tapes>(
     tapes: &mut T,
-    rotten: &[SealedDump],
+    rotten: &[RottenDump],
     sealed: &SealedFile,
     disc: CopyState,
     file: &FileRec,
@@ -193,7 +193,7 @@ fn tape_state<T: Tapes>(
 
 /// Whether a copy on tape isn't compared: it was sealed only as part of its dump, which isn't rotten, and the disc's copy has the sealed bytes.
 pub(crate) fn is_left_out(
-    rotten: &[SealedDump],
+    rotten: &[RottenDump],
     sealed: &SealedFile,
     disc: CopyState,
     copy: &TapeCopy,
@@ -217,7 +217,7 @@ pub(crate) fn is_same_place(copy: &TapeCopy, other: &Option<TapeCopy>) -> bool
 }
 
 /// Whether the copy begins within the blocks of one of the dumps.
-fn is_inside_any(copy: &TapeCopy, dumps: &[SealedDump]) -> bool
+fn is_inside_any(copy: &TapeCopy, dumps: &[RottenDump]) -> bool
     ensures { result ≡ list_any (is_inside copy.now) dumps.now }
 {
     for dump in dumps {
@@ -229,7 +229,7 @@ fn is_inside_any(copy: &TapeCopy, dumps: &[SealedDump]) -> bool
 }
 
 /// Whether the copy begins within the blocks of the dump.
-fn is_inside(copy: &TapeCopy, dump: &SealedDump) -> bool
+fn is_inside(copy: &TapeCopy, dump: &RottenDump) -> bool
     ensures { result ≡ is_inside copy.now dump.now }
 {
     dump.serial == copy.serial

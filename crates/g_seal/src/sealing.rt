@@ -12,6 +12,7 @@ ghost use Rattle.g_seal.specs.Sealing.{HasLost, IsOfSeal, IsSealed};
 use crate::dumps::push_dumps;
 use crate::files::push_held;
 use crate::lines::push_seal;
+use crate::room::text_for;
 use g_disc::Disc;
 use g_look::{LookFault, see_disc, see_rack};
 use g_name::Text;
@@ -53,7 +54,10 @@ pub fn seal<D: Disc, T: Tapes>(
         Ok(standing) => standing,
         Err(fault) => return Err(fault),
     };
-    let mut text = Text::new(alloc);
+    let mut text = match text_for(alloc, found.len(), &standing.dirs) {
+        Ok(text) => text,
+        Err(_) => return Err(LookFault::NoMemory),
+    };
     match push_dumps(&mut text, tapes, found.as_slice()) {
         Ok(()) => {}
         Err(fault) => return Err(fault),

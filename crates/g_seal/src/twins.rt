@@ -1,5 +1,5 @@
 //! What a second rack has of a seal.
-ghost use Rattle.std.specs.Prelude.{◌≡◌, ◌⊎◌, ◌++◌, ◌∷◌, List, [], All, Err, IfErr, IfOk, OnOk, map, true};
+ghost use Rattle.std.specs.Prelude.{◌≡◌, ◌≢◌, ◌⊎◌, ◌++◌, ◌∷◌, List, [], All, Err, IfErr, IfOk, OnErr, OnOk, map, true};
 ghost use Rattle.g_incr.specs.Layout.{Dump};
 ghost use Rattle.g_lines.specs.Lines.{text_of};
 ghost use Rattle.g_store_meaning.specs.Meaning.{told_reels};
@@ -12,7 +12,7 @@ use crate::reel_state::reel_state;
 use crate::rotten_dumps::{push_rotten_dumps, rotten_dumps};
 use crate::rotten_files::{is_left_out, is_same_place};
 use crate::versions::CopyState;
-use crate::{Seal, SealedDump, SealedFile};
+use crate::{RottenDump, Seal, SealedFile};
 use g_base::NoMemory;
 use g_entry::TapeCopy;
 use g_look::LookFault;
@@ -23,7 +23,7 @@ use std::alloc::Global;
 /// The sealed dumps that are rotten in a second rack, the stamps of the files that have the sealed sum there, and of those that have another.
 #[derive(Drop)]
 pub struct Twins {
-    pub rotten: Vec<SealedDump>,
+    pub rotten: Vec<RottenDump>,
     pub sealed: Vec<u64>,
     pub other: Vec<u64>,
 }
@@ -42,7 +42,10 @@ impl Twins {
 
     /// The lines of the dumps that are rotten there, each with its byte 10.
     pub fn text(&self, alloc: Global) -> Result<Text, NoMemory>
-        ensures { IfOk result (λ text. text ≡ text_of (twin_lines self.now)) }
+        ensures text { IfOk result (λ text. text ≡ text_of (twin_lines self.now)) }
+
+        // Without such a dump no memory is needed.
+        ensures memory { OnErr result (self.now.rotten.items ≢ []) }
     {
         let mut text = Text::new(alloc);
         push_rotten_dumps(&mut text, self.rotten.as_slice(), b" IN THE SECOND RACK")?;

@@ -22,7 +22,7 @@ returns-in-Err-push_held-clause-disc g c = disc_then _ _ _ _ (ok_not_err _ _) c.
 pub returns-in-Ok-push_seal-clause-text : goal.returns-in-Ok-push_seal-clause-text
 returns-in-Ok-push_seal-clause-text g c = λ told.
     sealed_at _ (g.D.Disc.state c.args.disc.now) (g.D.Disc.state c.see_disc.new.disc) (g.T.Tapes.rack c.args.tapes.now) (g.T.Tapes.rack c.see_rack.new.tapes) (g.T.Tapes.rack c.push_dumps.new.tapes) _ _ _ _ _ _ _ told c.in-Ok.ensures.seen c.in-Ok.ensures.tapes.only.reels c.in-Ok-see_disc.ensures.reads.held c.in-Ok-see_disc.ensures.standing
-    c.as_slice.ensures.value c.new-text.ensures c.in-Ok-push_dumps.ensures.text c.in-Ok-push_dumps.ensures.tapes.only.reels c.in-Ok-push_held.ensures.text c.in-Ok-push_seal.ensures
+    c.as_slice.ensures.value c.in-Ok-text_for.ensures c.in-Ok-push_dumps.ensures.text c.in-Ok-push_dumps.ensures.tapes.only.reels c.in-Ok-push_held.ensures.text c.in-Ok-push_seal.ensures
 
 pub returns-in-Ok-push_seal-clause-filestore : goal.returns-in-Ok-push_seal-clause-filestore
 returns-in-Ok-push_seal-clause-filestore g c = λ blocks told. rw c.is_some.ensures (holds_filestore _ _ _ blocks c.in-Ok-see_disc.ensures.standing told)
