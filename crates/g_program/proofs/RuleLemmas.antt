@@ -1,6 +1,6 @@
 -- A run by rules whose answers are also answers of other rules is a run by those: a run depends only on the answers.
--- serves: run_by_rules (anew, demo, ends), SessionRuleLemmas
-use Rattle.std.proofs.Common.{◌≡◌, ℕ, List, [], ◌∷◌, Option, Some, None, inl, inr}
+-- serves: run_by_rules (anew, demo, ends, survives), SessionRuleLemmas
+use Rattle.std.proofs.Common.{◌≡◌, ◌++◌, ℕ, List, [], ◌∷◌, Option, Some, None, inl, inr}
 use Rattle.std.specs.Fn.{Shared, FnReturnsAt}
 use denote.Ref.{Bor}
 use Rattle.g_rules.specs.declared.tariff.Charge.{Charge}
@@ -19,9 +19,10 @@ use Rattle.g_script.specs.declared.operator.Timed.{Timed}
 use Rattle.g_turn.specs.State.{Work}
 use Rattle.g_store_model.specs.State.{State}
 use Rattle.g_run_model.specs.Devices.{Devices}
+use Rattle.g_run_model.specs.Losses.{AsItWas, IsLastUp, MayBeLeft, OtherEnd, RunDown, SurvivesLoss}
 use Rattle.g_run_model.specs.Moves.{Move, Run, Step, TakeLine, Dumped, Begin, Answered, TurnOver, Ticked, Over}
-use Rattle.g_run_model.specs.Top.{EndsShort, EndsWhole, IsCut, RunOf}
-use Rattle.g_run_model.specs.World.{World}
+use Rattle.g_run_model.specs.Top.{EndsShort, EndsWhole, IsCut, RunOf, Survives}
+use Rattle.g_run_model.specs.World.{World, start}
 use Rattle.g_laws_runs.specs.BeginningAnew.{with_new_disc}
 
 module _ {F G U V : Type 0}
@@ -118,6 +119,45 @@ module _ {F G U V : Type 0}
             },
       ))
 
+  -- what a power loss leaves
+  down_by : (w : World) (moves : List Move) (last : World) → RunDown tariffs tariff rules rule w moves last → RunDown others other ways way w moves last
+  down_by w [] last it = it
+  down_by w (move ∷ moves) last it = let (mid, goes, was, is, more) = it in (mid, step_by w move mid goes, was, is, down_by mid moves last more)
+
+  last_up_by : (first : World) (moves : List Move) (last : World) (before after : List Move) (mid : World)
+      → IsLastUp tariffs tariff rules rule first moves last before after mid → IsLastUp others other ways way first moves last before after mid
+  last_up_by first moves last before after mid is = record { split = is.split; led = run_by first before mid is.led; rest = down_by mid after last is.rest }
+
+  left_by : (first : World) (moves : List Move) (last : World) (u : State) → MayBeLeft tariffs tariff rules rule first moves last u → MayBeLeft others other ways way first moves last u
+  left_by first moves last u (AsItWas before after mid is same) = AsItWas before after mid (last_up_by first moves last before after mid is) same
+  left_by first moves last u (OtherEnd before after stop was mid end ran is cut step ends same) =
+      OtherEnd before after stop was mid end (run_by first before was ran) (last_up_by first moves last (before ++ stop ∷ []) after mid is) cut (step_by was stop mid step) (step_by was stop end ends) same
+
+  loss_by : (first : World) (moves : List Move) (last : World) (old new : Devices)
+      → SurvivesLoss tariffs tariff rules rule first moves last old new → SurvivesLoss others other ways way first moves last old new
+  loss_by first moves last old new it = λ blocks rack lost. elim (it blocks rack lost) [
+    | inl here ↦ inl (here.0, left_by first moves last here.0 here.1, here.2)
+    | inr (down, before) ↦ inr (down_by first moves last down, before)
+  ]
+
+  survives_by : (left : List ℕ) (old new : Devices) (before after : Option (List ℕ))
+      → Survives tariffs tariff rules rule left old new before after → Survives others other ways way left old new before after
+  survives_by left old new before after (inl same) = inl same
+  survives_by left old new before after (inr it) =
+      let (lines, bad, parsed, cut) = it in inr (
+        lines,
+        bad,
+        parsed,
+        λ s stands.
+            let e = cut s stands in record {
+              moves = e.moves;
+              last = e.last;
+              run_of = run_of lines bad s old new e.moves e.last e.run_of;
+              text = e.text;
+              left = loss_by (start lines bad s) e.moves e.last old new e.left;
+            },
+      )
+
   demo_text_by : (demo : Demonstration) (text : List ℕ) → IsDemoText tariffs tariff rules rule demo text → IsDemoText others other ways way demo text
   demo_text_by demo text is = record {
     old = is.old;
@@ -162,6 +202,14 @@ module _ {F G U V : Type 0} {tariffs : Shared F (Bor Usage × Unit {0}) Charge} 
       → EndsAnew others other ways way status left old new before after
   anew_as status left old new before after it priced weighed =
       anew_by tariffs tariff others other priced rules rule ways way weighed status left old new before after it
+
+  pub survives_as : (left : List ℕ) (old new : Devices) (before after : Option (List ℕ))
+      → Survives tariffs tariff rules rule left old new before after
+      → ((usage : Usage) (charge : Charge) → FnReturnsAt tariffs tariff usage charge → FnReturnsAt others other usage charge)
+      → ((standing : Standing) (weight : ℕ) → FnReturnsAt rules rule standing weight → FnReturnsAt ways way standing weight)
+      → Survives others other ways way left old new before after
+  survives_as left old new before after it priced weighed =
+      survives_by tariffs tariff others other priced rules rule ways way weighed left old new before after it
 
   pub demo_as : (status : Status) (demo : Demonstration) (before after : Option (List ℕ))
       → EndsDemo tariffs tariff rules rule status demo before after

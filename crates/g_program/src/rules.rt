@@ -13,7 +13,7 @@ ghost use Rattle.g_store_meaning.specs.Safety.{AreSafe};
 ghost use Rattle.g_store_model.specs.State.{State};
 ghost use Rattle.g_laws_store.specs.Moving.{DumpsMove};
 ghost use Rattle.g_run_model.specs.Devices.{StandFor};
-ghost use Rattle.g_run_model.specs.Top.{AreArmings, AreFused, IsCutWords};
+ghost use Rattle.g_run_model.specs.Top.{AreArmings, AreFused, IsCutWords, Survives};
 ghost use Rattle.g_laws_runs.specs.BeginningAnew.{AreBlank, with_new_disc};
 ghost use Rattle.g_laws_runs.specs.Filestores.{HasFilestore};
 ghost use Rattle.g_laws_sessions.specs.Session.{AlwaysAnswers};
@@ -123,6 +123,11 @@ pub fn run_by_rules<S: Source, K: Sink, D: Disc, T: Tapes>(
     // or RESTORE can make a safe store of them as they are, and of whatever a power loss leaves of them. A power loss within a run is the end of
     // a run on devices that fail from that moment on.
     ensures safe { AreSafe (D.state disc) (T.rack tapes) → AreSafe (D.state result.disc) (T.rack result.tapes) }
+    // And which state that is: of an event since which the system has been down, or, if a failed write stopped that event, another one that
+    // it may lead to.
+    ensures survives { IsRun words.now → AreSafe (D.state disc) (T.rack tapes) → (left : List ℕ) → S.left script.old ≡ Some left →
+        Survives (answering price) tt (answering share_used) tt left (both (D.state disc) (T.rack tapes)) (both (D.state result.disc) (T.rack result.tapes))
+        (K.written out.old) (K.written out.new) }
 {
     let tariff = Tariff::new(|usage: &Usage| -> Charge { price_of(usage) });
     let weigh = WeighRule::new(

@@ -12,9 +12,13 @@ use Rattle.g_rules.specs.declared.tariff.Usage.{Usage}
 use Rattle.g_rules.specs.declared.rule.Standing.{Standing}
 use Rattle.g_io.specs.Streams.{HasPutPart, with_more}
 use Rattle.g_script.specs.declared.operator.Timed.{Timed}
+use Rattle.g_store_model.specs.CallStep.{Outcome}
+use Rattle.g_store_model.specs.State.{State}
 use Rattle.g_run_model.specs.Devices.{Devices}
-use Rattle.g_run_model.specs.Lines.{is_process}
-use Rattle.g_run_model.specs.Moves.{TakeLine}
+use Rattle.g_run_model.specs.Lines.{LineGives, is_process}
+use Rattle.g_run_model.specs.Losses.{MayBeLeft}
+use Rattle.g_run_model.specs.Losses as move_loss
+use Rattle.g_run_model.specs.Moves.{Move, Run, Step, TakeLine}
 use Rattle.g_run_model.specs.Top.{AreArmings}
 use Rattle.g_run_model.specs.World.{World}
 use Rattle.g_laws_runs.specs.BeginningAnew.{BeginAnew, NoDiscFault, is_first}
@@ -22,19 +26,22 @@ use Rattle.g_run_model.proofs.CountLemmas.{move_counted}
 use Rattle.g_run_model.proofs.TickLemmas.{line_move}
 use Rattle.g_job_table.specs.Numbers.{AreOpen}
 use Rattle.g_day.specs.declared.progress.Failure.{Failure}
-use Rattle.g_day.specs.BeginningAnew.{AnewLine, IsBlank, IsUntaken, NoClaim, beside, beside_new}
-use Rattle.g_day.specs.Parts.{ArmsBy, DidLine, DidLineBy, DoesLine, DoesNothing, IsReady, LineGoes, Matches, Seen, disc_arms, tape_arms}
+use Rattle.g_day.specs.BeginningAnew.{AnewLine, IsBlank, IsUntaken, beside, beside_new}
+use Rattle.g_day.specs.Losses.{LeftAfter, LineLeft, LineMayLeave, Never, SystemLeaves}
+use Rattle.g_day.specs.Losses as line_loss
+use Rattle.g_day.specs.Parts.{ArmsBy, DidLine, DidLineFrom, DoesLineFrom, DoesNothingFrom, IsReady, LineGoesFrom, Matches, Seen, disc_arms, tape_arms}
 use Rattle.g_day.specs.Puts.{HasGrown}
-use Rattle.g_day.specs.System.{SameDevices, SystemFacts, devices_in}
+use Rattle.g_day.specs.System.{Down, IsRunning, SameDevices, SystemFacts, SystemSafe, Up, devices_in}
 use Rattle.g_operator.proofs.AnewLemmas.{first_line}
 use Rattle.g_day.proofs.LabelLemmas.{same_then}
 use Rattle.g_ticks.specs.Tick.{IsBetween}
-use Rattle.g_ticks.specs.Parts.{Anything, AreAside, AreDueBy, AreFirst, BeginsBy, Breaks, DidAll, DidLines, DidTicks, GoesBy, IsAtRest, IsOther, Keeps, Leads, LinesGo, Misses, NoneTook, PartGoes, PartMisses, turn_of}
+use Rattle.g_ticks.specs.Parts.{Anything, AreAside, AreDueBy, AreFirst, BeginsBy, BreaksFrom, DidAll, DidLines, DidTicks, GoesFrom, IsAtRest, IsOther, Keeps, LeadsFrom, LinesGo, Misses, NoneTook, PartGoes, PartGoesFrom, PartMisses, turn_of}
 use Rattle.g_run.proofs.AnewLemmas.{asides_first, begin_parts, blank_beside, blank_devices, first_head, first_last, first_one, first_well, firsts_parts, format_first, is_format, later_well, none_begin, one_more_line}
 use Rattle.g_ticks.proofs.KeepLemmas.{kept_line}
 use Rattle.g_run.proofs.LeaveLemmas.{line_leaves}
 use Rattle.g_day.proofs.PutLemmas.{grown_then, same_grown, with_more-nil}
-use Rattle.g_ticks.proofs.PartLemmas.{arrives_here, goes_then, keeps_more, keeps_then}
+use Rattle.g_ticks.proofs.PartLemmas.{arrives_here, goes_then, goes_unclaimed, keeps_more, keeps_then, part_unclaimed}
+use Rattle.g_ticks.proofs.SurvivingLemmas.{never_runs, safe_runs}
 use Rattle.g_ticks.proofs.UntilLemmas.{keeps_here}
 
 -- what a line arms each device with
@@ -81,16 +88,52 @@ module _ {F U : Type 0} (tariffs : Shared F (Bor Usage × Unit {0}) Charge) (tar
     count = m.count;
   }
 
+  -- what a power loss leaves after the line is what it leaves after the move
+  module _ (w : World) (next : Timed) (rest : List Timed) (is : w.lines ≡ next ∷ rest) (between : IsBetween w) (due : IsAtRest w) (o : Outcome) where
+    abbrev take : Move
+    take = TakeLine (is_process next.what) o
+
+    line_run : (new : World) → LineGives o next.what (without rest w) new → Run tariffs tariff rules rule w (take ∷ []) new
+    line_run new gives = line_move tariffs tariff rules rule w next rest o new is between.phase between.turn due gives
+
+    line_step : (new : World) → LineGives o next.what (without rest w) new → Step tariffs tariff rules rule w take new
+    line_step new gives = (next, rest, is, between.phase, between.turn, due, refl, gives)
+
+    may_be_left : (new : World) → LineGives o next.what (without rest w) new → (u : State) → LineMayLeave next.what o (without rest w) new u
+        → MayBeLeft tariffs tariff rules rule w (take ∷ []) new u
+    may_be_left new gives u (line_loss.AsItWas same) = move_loss.AsItWas (take ∷ []) [] new (record { split = refl; led = line_run new gives; rest = refl }) same
+    may_be_left new gives u (line_loss.OtherEnd cut other end same) =
+        move_loss.OtherEnd [] [] take w new other refl (record { split = refl; led = line_run new gives; rest = refl }) cut (line_step new gives) (line_step other end) same
+
+    pub line_left : (new : World) → LineGives o next.what (without rest w) new → (old now : SystemFacts) → LineLeft next.what o (without rest w) new old now
+        → LeftAfter tariffs tariff rules rule w (take ∷ []) new old now
+    line_left new gives old (Up s) leaves = tt
+    line_left new gives old (Down d) leaves = λ blocks rack left. elim (leaves blocks rack left) [
+      | inl here ↦ inl (here.0, may_be_left new gives here.0 here.1, here.2)
+      | inr (down, before) ↦ inr ((new, line_step new gives, down.0, down.1, refl), before)
+    ]
+
+  -- nothing was done
+  none_left : (w : World) (old new : SystemFacts) → SystemLeaves (λ u. ⊥) (w.store.up ≡ false) old new → LeftAfter tariffs tariff rules rule w [] w old new
+  none_left w old (Up s) leaves = tt
+  none_left w old (Down d) leaves = λ blocks rack left. elim (leaves blocks rack left) [
+    | inl here ↦ absurd here.1
+    | inr (down, before) ↦ inr (refl, before)
+  ]
+
   -- the line is a move
-  pub line_leads : (w : World) (next : Timed) (rest : List Timed) → IsBetween w → IsAtRest w → w.lines ≡ next ∷ rest → (old new : SystemFacts) (added : List ℕ) (d : DoesLine next.what (without rest w) old new added)
-      → Leads tariffs tariff rules rule w old new (TakeLine (is_process next.what) d.outcome ∷ []) d.next added
-  line_leads w next rest between due is old new added d =
+  pub line_leads : (Safe : SystemFacts → Type 0) (w : World) (next : Timed) (rest : List Timed) → IsBetween w → IsAtRest w → w.lines ≡ next ∷ rest → (old new : SystemFacts) → (Safe old → Safe new)
+      → (added : List ℕ) (d : DoesLineFrom Safe next.what (without rest w) old new added)
+      → LeadsFrom tariffs tariff rules rule Safe w old new (TakeLine (is_process next.what) d.outcome ∷ []) d.next added
+  line_leads Safe w next rest between due is old new safe added d =
       let left = line_leaves d.outcome next.what (without rest w) d.next d.gives in record {
         disc_arms = disc_arms next.what;
         tape_arms = tape_arms next.what;
         run = line_move tariffs tariff rules rule w next rest d.outcome d.next is between.phase between.turn due d.gives;
         counted = move_counted (TakeLine (is_process next.what) d.outcome) (disc_arms next.what) (tape_arms next.what) (devices_in old) (devices_in new) d.counted;
         stands = d.stands;
+        safe = safe;
+        left = λ was. line_left w next rest is between due d.outcome d.next d.gives old new (d.left was);
         bad = left.bad;
         over = left.over;
         disc_stops = left.disc_stops;
@@ -98,25 +141,26 @@ module _ {F U : Type 0} (tariffs : Shared F (Bor Usage × Unit {0}) Charge) (tar
         text = d.text;
       }
 
-  line_goes : (next : Timed) (rest : List Timed) (old : Seen) (failure : Option Failure) (new : Seen) (before after : Option (List ℕ)) → LineGoes next.what old failure new before after
-      → (w : World) → Matches w old → IsBetween w → IsAtRest w → w.lines ≡ next ∷ rest → GoesBy tariffs tariff rules rule Anything w rest old failure new before after
-  line_goes next rest old None new before after goes w m between due is =
+  line_goes : (Safe : SystemFacts → Type 0) (next : Timed) (rest : List Timed) (old : Seen) (failure : Option Failure) (new : Seen) (before after : Option (List ℕ)) → (Safe old.system → Safe new.system)
+      → LineGoesFrom Safe next.what old failure new before after
+      → (w : World) → Matches w old → IsBetween w → IsAtRest w → w.lines ≡ next ∷ rest → GoesFrom tariffs tariff rules rule Safe Anything w rest old failure new before after
+  line_goes Safe next rest old None new before after safe goes w m between due is =
       let (added, d, matches, put) = goes (without rest w) (matches_without w rest old m) in
       let left = line_leaves d.outcome next.what (without rest w) d.next d.gives in record {
         moves = TakeLine (is_process next.what) d.outcome ∷ [];
         next = d.next;
         added = added;
-        leads = line_leads w next rest between due is old.system new.system added d;
+        leads = line_leads Safe w next rest between due is old.system new.system safe added d;
         matches = matches;
         between = record { phase = left.phase ∙ between.phase; turn = left.turn ∙ between.turn };
         lines = left.lines;
         rests = tt;
         put = put;
       }
-  line_goes next rest old (Some failure) new before after goes w m between due is = by (goes (without rest w) (matches_without w rest old m))
+  line_goes Safe next rest old (Some failure) new before after safe goes w m between due is = by (goes (without rest w) (matches_without w rest old m))
     where
-      by : DoesNothing (without rest w) old.system new.system before after ⊎ ((added : List ℕ) × DoesLine next.what (without rest w) old.system new.system added × HasPutPart before added after)
-          → Breaks tariffs tariff rules rule w old.system new.system before after
+      by : DoesNothingFrom Safe (without rest w) old.system new.system before after ⊎ ((added : List ℕ) × DoesLineFrom Safe next.what (without rest w) old.system new.system added × HasPutPart before added after)
+          → BreaksFrom tariffs tariff rules rule Safe w old.system new.system before after
       by (inl nothing) = record {
         moves = [];
         next = w;
@@ -127,6 +171,8 @@ module _ {F U : Type 0} (tariffs : Shared F (Bor Usage × Unit {0}) Charge) (tar
           run = refl;
           counted = nothing.counted;
           stands = nothing.stands;
+          safe = safe;
+          left = λ was. none_left w old.system new.system (nothing.left was);
           bad = refl;
           over = refl;
           disc_stops = sym (append-nil w.disc_stops);
@@ -139,30 +185,32 @@ module _ {F U : Type 0} (tariffs : Shared F (Bor Usage × Unit {0}) Charge) (tar
         moves = TakeLine (is_process next.what) d.outcome ∷ [];
         next = d.next;
         added = added;
-        leads = line_leads w next rest between due is old.system new.system added d;
+        leads = line_leads Safe w next rest between due is old.system new.system safe added d;
         put = part;
       }
 
   -- after its ticks
-  pub behind_ticks : (next : Timed) (old mid : Seen) (failure : Option Failure) (new : Seen) (before middle after : Option (List ℕ))
-      → ((lines : List Timed) → turn_of lines ≡ Some next.turn → PartGoes tariffs tariff rules rule IsAtRest lines lines old None mid before middle) → LineGoes next.what mid failure new middle after
-      → (rest : List Timed) → PartGoes tariffs tariff rules rule Anything ((next ∷ []) ++ rest) rest old failure new before after
-  behind_ticks next old mid failure new before middle after went goes rest w m between is =
+  pub behind_ticks : (Safe : SystemFacts → Type 0) → ((f : SystemFacts) → Safe f → IsRunning f) → (next : Timed) (old mid : Seen) (failure : Option Failure) (new : Seen) (before middle after : Option (List ℕ))
+      → ((lines : List Timed) → turn_of lines ≡ Some next.turn → PartGoesFrom tariffs tariff rules rule Safe IsAtRest lines lines old None mid before middle)
+      → (Safe mid.system → Safe new.system) → LineGoesFrom Safe next.what mid failure new middle after
+      → (rest : List Timed) → PartGoesFrom tariffs tariff rules rule Safe Anything ((next ∷ []) ++ rest) rest old failure new before after
+  behind_ticks Safe running next old mid failure new before middle after went safe goes rest w m between is =
       let a = went (next ∷ rest) refl w m between is in
-      goes_then tariffs tariff rules rule IsAtRest Anything w (next ∷ rest) rest old mid before middle a failure new after (line_goes next rest mid failure new middle after goes a.next a.matches a.between a.rests a.lines)
+      goes_then tariffs tariff rules rule Safe running IsAtRest Anything w (next ∷ rest) rest old mid before middle a failure new after
+      (line_goes Safe next rest mid failure new middle after safe goes a.next a.matches a.between a.rests a.lines)
 
   -- starting over: a FORMAT, or a line that requests nothing of the filestore
   first_done : (next : Timed) (old mid : Seen) (failure : Option Failure) (new : Seen) (before middle after : Option (List ℕ)) (faults1 faults2 : ℕ) → SameDevices (devices_in old.system) (devices_in mid.system)
-      → ((lines : List Timed) → turn_of lines ≡ Some next.turn → PartGoes tariffs tariff rules rule IsAtRest lines lines (beside old) None (beside mid) before middle)
-      → IsUntaken next.what mid failure new middle after faults1 faults2 ⊎ DidLineBy NoClaim next.what (beside mid) failure new middle after faults1 faults2
+      → ((lines : List Timed) → turn_of lines ≡ Some next.turn → PartGoesFrom tariffs tariff rules rule Never IsAtRest lines lines (beside old) None (beside mid) before middle)
+      → IsUntaken next.what mid failure new middle after faults1 faults2 ⊎ DidLineFrom Never next.what (beside mid) failure new middle after faults1 faults2
       → BeginsBy (λ x. LinesGo tariffs tariff rules rule (next ∷ []) old failure x before after) (next ∷ []) old failure new
   first_done next old mid failure new before middle after faults1 faults2 same went (inl u) = inl (record {
-    goes = behind_ticks next (beside old) (beside mid) failure (beside new) before middle after went u.went.goes;
+    goes = behind_ticks Never never_runs next (beside old) (beside mid) failure (beside new) before middle after went u.went.safe u.went.goes;
     blank = u.blank;
     unwell = λ none begin well. u.unwell none (is_format next begin) (later_well (devices_in old.system) (devices_in mid.system) (devices_in new.system) same well);
   })
   first_done next old mid failure new before middle after faults1 faults2 same went (inr took) =
-      inr (behind_ticks next (beside old) (beside mid) failure new before middle after went took.goes)
+      inr (behind_ticks Never never_runs next (beside old) (beside mid) failure new before middle after went took.safe took.goes)
 
   -- A LINE after its ticks
   pub line_done : (next : Timed) (old mid : Seen) (failure : Option Failure) (new : Seen) (before middle after : Option (List ℕ)) (faults faults1 faults2 : ℕ)
@@ -170,7 +218,7 @@ module _ {F U : Type 0} (tariffs : Shared F (Bor Usage × Unit {0}) Charge) (tar
       → AnewLine next.what mid failure new middle after faults1 faults2
       → DidLines tariffs tariff rules rule (next ∷ []) old failure new before after faults faults2
   line_done next old mid failure new before middle after faults faults1 faults2 ticked same did anew = record {
-    goes = behind_ticks next old mid failure new before middle after ticked.goes did.goes;
+    goes = behind_ticks SystemSafe safe_runs next old mid failure new before middle after ticked.goes did.safe did.goes;
     keeps = keeps_then [] (next ∷ []) old mid failure new faults faults1 faults2 ticked.keeps
         (line_keeps next mid failure new middle after faults1 faults2 did (ticked.keeps.ready refl).1);
     late = λ none most due few. late_by next.turn most old.count mid.count new.count (All-head (λ (t : Timed). t.turn ≤ most) next [] due) few same (ticked.late refl next.turn refl);
@@ -210,12 +258,12 @@ module _ {F U : Type 0} (tariffs : Shared F (Bor Usage × Unit {0}) Charge) (tar
   -- LINES: none yet
   pub lines_start : (s : Seen) (before : Option (List ℕ)) (faults : ℕ) → IsReady s.system s.crew → AreOpen s.crew.jobs → DidLines tariffs tariff rules rule [] s None s before before faults faults
   lines_start s before faults ready still = record {
-    goes = λ rest w m between is. arrives_here tariffs tariff rules rule w rest s before m between is;
+    goes = λ rest w m between is. arrives_here tariffs tariff rules rule SystemSafe safe_runs w rest s before m between is;
     keeps = keeps_here s faults ready still;
     late = λ none most due few. few;
     grows = same_grown before before refl;
     first = λ all blank. inl (record {
-      goes = λ rest w m between is. arrives_here tariffs tariff rules rule w rest (beside s) before m between is;
+      goes = λ rest w m between is. arrives_here tariffs tariff rules rule Never never_runs w rest (beside s) before m between is;
       blank = blank;
       unwell = λ none begin well. none_begin begin;
     });
@@ -239,13 +287,13 @@ module _ {F U : Type 0} (tariffs : Shared F (Bor Usage × Unit {0}) Charge) (tar
   }
 
   -- two parts in sequence
-  both_go : (done : List Timed) (next : Timed) (s mid : Seen) (failure : Option Failure) (new : Seen) (before middle after : Option (List ℕ))
-      → ((rest : List Timed) → PartGoes tariffs tariff rules rule Anything (done ++ rest) rest s None mid before middle)
-      → ((rest : List Timed) → PartGoes tariffs tariff rules rule Anything ((next ∷ []) ++ rest) rest mid failure new middle after)
-      → (rest : List Timed) → PartGoes tariffs tariff rules rule Anything ((done ++ next ∷ []) ++ rest) rest s failure new before after
-  both_go done next s mid failure new before middle after first one rest w m between is =
+  both_go : (Safe : SystemFacts → Type 0) → ((f : SystemFacts) → Safe f → IsRunning f) → (done : List Timed) (next : Timed) (s mid : Seen) (failure : Option Failure) (new : Seen) (before middle after : Option (List ℕ))
+      → ((rest : List Timed) → PartGoesFrom tariffs tariff rules rule Safe Anything (done ++ rest) rest s None mid before middle)
+      → ((rest : List Timed) → PartGoesFrom tariffs tariff rules rule Safe Anything ((next ∷ []) ++ rest) rest mid failure new middle after)
+      → (rest : List Timed) → PartGoesFrom tariffs tariff rules rule Safe Anything ((done ++ next ∷ []) ++ rest) rest s failure new before after
+  both_go Safe running done next s mid failure new before middle after first one rest w m between is =
       let a = first (next ∷ rest) w m between (is ∙ append_assoc done (next ∷ []) rest) in
-      goes_then tariffs tariff rules rule Anything Anything w (next ∷ rest) rest s mid before middle a failure new after (one rest a.next a.matches a.between a.lines)
+      goes_then tariffs tariff rules rule Safe running Anything Anything w (next ∷ rest) rest s mid before middle a failure new after (one rest a.next a.matches a.between a.lines)
 
   -- starting over
   module _ (done : List Timed) (next : Timed) (s mid : Seen) (failure : Option Failure) (new : Seen) (before middle after : Option (List ℕ))
@@ -263,6 +311,9 @@ module _ {F U : Type 0} (tariffs : Shared F (Bor Usage × Unit {0}) Charge) (tar
     abbrev NoneOfSome : Type 0
     NoneOfSome = NoneTook (λ x. LinesGo tariffs tariff rules rule done s None x before middle) done s None mid
 
+    one_unclaimed : (rest : List Timed) → PartGoesFrom tariffs tariff rules rule Never Anything ((next ∷ []) ++ rest) rest mid failure new middle after
+    one_unclaimed rest = part_unclaimed tariffs tariff rules rule SystemSafe Anything ((next ∷ []) ++ rest) rest mid failure new middle after (goes rest)
+
     then_first : SomeBegin → (IsBlank mid.system → OneBegins) → AllBegin
     then_first (inl u) one = by (one u.blank)
       where
@@ -273,12 +324,12 @@ module _ {F U : Type 0} (tariffs : Shared F (Bor Usage × Unit {0}) Charge) (tar
 
         by : OneBegins → AllBegin
         by (inl v) = inl (record {
-          goes = both_go done next (beside s) (beside mid) failure (beside new) before middle after u.goes v.goes;
+          goes = both_go Never never_runs done next (beside s) (beside mid) failure (beside new) before middle after u.goes v.goes;
           blank = v.blank;
           unwell = λ none begin well. unwell_by v.unwell none well (one_more_line done next begin);
         })
-        by (inr took) = inr (both_go done next (beside s) (beside mid) failure new before middle after u.goes took)
-    then_first (inr took) one = inr (both_go done next (beside s) mid failure new before middle after took goes)
+        by (inr took) = inr (both_go Never never_runs done next (beside s) (beside mid) failure new before middle after u.goes took)
+    then_first (inr took) one = inr (both_go Never never_runs done next (beside s) mid failure new before middle after took one_unclaimed)
 
     -- the run reaches a line of another kind
     missed_here : NoneOfSome → BeginAnew done → is_first next.what ≡ false → (rest : List Timed) → PartMisses tariffs tariff rules rule ((done ++ next ∷ []) ++ rest) s new before after
@@ -288,7 +339,7 @@ module _ {F U : Type 0} (tariffs : Shared F (Bor Usage × Unit {0}) Charge) (tar
           next = a.next;
           added = a.added;
           mid = devices_in mid.system;
-          leads = subst (λ (f : SystemFacts). Leads tariffs tariff rules rule w (beside_new s.system) f a.moves a.next a.added) (blank_beside mid.system u.blank) a.leads;
+          leads = subst (λ (f : SystemFacts). LeadsFrom tariffs tariff rules rule Never w (beside_new s.system) f a.moves a.next a.added) (blank_beside mid.system u.blank) a.leads;
           blank = blank_devices mid.system u.blank;
           unwell = u.unwell refl begin;
           same = behind;
@@ -308,7 +359,7 @@ module _ {F U : Type 0} (tariffs : Shared F (Bor Usage × Unit {0}) Charge) (tar
         over : BeginAnew done → SomeBegin ⊎ ((rest : List Timed) → PartMisses tariffs tariff rules rule (done ++ rest) s mid before middle)
             → AllBegin ⊎ ((rest : List Timed) → PartMisses tariffs tariff rules rule ((done ++ next ∷ []) ++ rest) s new before after)
         over had (inl (inl u)) = on u had (is_first next.what) refl
-        over had (inl (inr took)) = inl (inr (both_go done next (beside s) mid failure new before middle after took goes))
+        over had (inl (inr took)) = inl (inr (both_go Never never_runs done next (beside s) mid failure new before middle after took one_unclaimed))
         over had (inr missed) = inr (λ rest w m between is. misses_then w s mid new before middle after behind grows (missed (next ∷ rest) w m between (is ∙ append_assoc done (next ∷ []) rest)))
 
         by : (AreAside done × BeginAnew (next ∷ [])) ⊎ BeginAnew done → AllBegin ⊎ ((rest : List Timed) → PartMisses tariffs tariff rules rule ((done ++ next ∷ []) ++ rest) s new before after)
@@ -320,7 +371,7 @@ module _ {F U : Type 0} (tariffs : Shared F (Bor Usage × Unit {0}) Charge) (tar
       → DidLines tariffs tariff rules rule done s None mid before middle faults faults1 → DidLines tariffs tariff rules rule (next ∷ []) mid failure new middle after faults1 faults2
       → DidLines tariffs tariff rules rule (done ++ next ∷ []) s failure new before after faults faults2
   lines_more done next s mid failure new before middle after faults faults1 faults2 first one = record {
-    goes = both_go done next s mid failure new before middle after first.goes one.goes;
+    goes = both_go SystemSafe safe_runs done next s mid failure new before middle after first.goes one.goes;
     keeps = keeps_then done (next ∷ []) s mid failure new faults faults1 faults2 first.keeps one.keeps;
     late = λ none most due few.
         let (before_it, it) = due_parts most done next due in
@@ -386,24 +437,25 @@ module _ {F U : Type 0} (tariffs : Shared F (Bor Usage × Unit {0}) Charge) (tar
   all_done lines s mid failure new before middle after faults faults1 faults2 first ticked = record {
     goes = λ w m between is.
         let a = first.goes [] w m between (is ∙ sym (append-nil lines)) in
-        goes_then tariffs tariff rules rule Anything IsAtRest w [] [] s mid before middle a failure new after (ticked.goes [] refl a.next a.matches a.between a.lines);
+        goes_then tariffs tariff rules rule SystemSafe safe_runs Anything IsAtRest w [] [] s mid before middle a failure new after (ticked.goes [] refl a.next a.matches a.between a.lines);
     keeps = subst (λ (ls : List Timed). Keeps ls s failure new faults faults2) (append-nil lines) (keeps_then lines [] s mid failure new faults faults1 faults2 first.keeps ticked.keeps);
     anew = λ begin blank. by begin (first.anew begin blank);
   }
     where
       by : BeginAnew lines → BeginsBy (λ x. LinesGo tariffs tariff rules rule lines s None x before middle) lines s None mid ⊎ ((rest : List Timed) → PartMisses tariffs tariff rules rule (lines ++ rest) s mid before middle)
-          → BeginsBy (λ x. PartGoes tariffs tariff rules rule IsAtRest lines [] (beside s) failure x before after) lines s failure new ⊎ PartMisses tariffs tariff rules rule lines s new before after
+          → BeginsBy (λ x. PartGoesFrom tariffs tariff rules rule Never IsAtRest lines [] (beside s) failure x before after) lines s failure new ⊎ PartMisses tariffs tariff rules rule lines s new before after
       by begin (inl (inl u)) =
           let (blank_new, went) = ticked.aside u.blank in inl (inl (record {
             goes = λ w m between is.
                 let a = u.goes [] w m between (is ∙ sym (append-nil lines)) in
-                goes_then tariffs tariff rules rule Anything IsAtRest w [] [] (beside s) (beside mid) before middle a failure (beside new) after (went [] refl a.next a.matches a.between a.lines);
+                goes_then tariffs tariff rules rule Never never_runs Anything IsAtRest w [] [] (beside s) (beside mid) before middle a failure (beside new) after (went [] refl a.next a.matches a.between a.lines);
             blank = blank_new;
             unwell = λ none it well. u.unwell refl it (first_well (devices_in s.system) (devices_in mid.system) (devices_in new.system) ticked.keeps.same well);
           }))
       by begin (inl (inr took)) = inl (inr (λ w m between is.
           let a = took [] w m between (is ∙ sym (append-nil lines)) in
-          goes_then tariffs tariff rules rule Anything IsAtRest w [] [] (beside s) mid before middle a failure new after (ticked.goes [] refl a.next a.matches a.between a.lines)))
+          goes_then tariffs tariff rules rule Never never_runs Anything IsAtRest w [] [] (beside s) mid before middle a failure new after
+          (goes_unclaimed tariffs tariff rules rule SystemSafe IsAtRest a.next [] mid failure new middle after (ticked.goes [] refl a.next a.matches a.between a.lines))))
       by begin (inr missed) = inr (λ w m between is. misses_then w s mid new before middle after ticked.keeps.same ticked.grows (missed [] w m between (is ∙ sym (append-nil lines))))
 
   pub all_short : (lines : List Timed) (s : Seen) (failure : Failure) (new : Seen) (before after : Option (List ℕ)) (faults faults' : ℕ)
@@ -415,7 +467,7 @@ module _ {F U : Type 0} (tariffs : Shared F (Bor Usage × Unit {0}) Charge) (tar
   }
     where
       by : BeginsBy (λ x. LinesGo tariffs tariff rules rule lines s (Some failure) x before after) lines s (Some failure) new ⊎ ((rest : List Timed) → PartMisses tariffs tariff rules rule (lines ++ rest) s new before after)
-          → BeginsBy (λ x. PartGoes tariffs tariff rules rule IsAtRest lines [] (beside s) (Some failure) x before after) lines s (Some failure) new ⊎ PartMisses tariffs tariff rules rule lines s new before after
+          → BeginsBy (λ x. PartGoesFrom tariffs tariff rules rule Never IsAtRest lines [] (beside s) (Some failure) x before after) lines s (Some failure) new ⊎ PartMisses tariffs tariff rules rule lines s new before after
       by (inl (inl u)) = inl (inl (record {
         goes = λ w m between is. u.goes [] w m between (is ∙ sym (append-nil lines));
         blank = u.blank;

@@ -1,5 +1,5 @@
 -- The end of a run, complete or cut short, by its status.
--- serves: george (anew, arms, demo, ends, enough, quiet, words), top
+-- serves: george (anew, arms, demo, ends, enough, quiet, survives, words), top, OverLemmas
 use Rattle.std.proofs.Common.{◌≡◌, ◌⊎◌, ◌<◌, ◌∙◌, ℕ, List, Option, Some, None, length, refl, sym, ap, subst, inl, inr, arith}
 use Rattle.std.specs.Fn.{Shared}
 use denote.Ref.{Bor}
@@ -14,9 +14,10 @@ use Rattle.g_script.specs.declared.operator.Timed.{Timed}
 use Rattle.g_script.proofs.OneReading.{reading_unique}
 use Rattle.g_laws_store.proofs.StateLemmas.{have_states}
 use Rattle.g_store_model.specs.CallStep.{down}
+use Rattle.g_store_model.specs.State.{State}
 use Rattle.g_run_model.proofs.StandLemmas.{read_as}
-use Rattle.g_run_model.specs.Devices.{Devices}
-use Rattle.g_run_model.specs.Top.{AreArmings, IsCutWords, words_line}
+use Rattle.g_run_model.specs.Devices.{Devices, StandFor}
+use Rattle.g_run_model.specs.Top.{AreArmings, IsCutWords, Survives, SurvivesCut, words_line}
 use Rattle.g_laws_runs.specs.BeginningAnew.{AreBlank, BeginAnew, with_new_disc}
 use Rattle.g_laws_runs.proofs.FreshLemmas.{emptied_stand}
 use Rattle.g_day.specs.declared.progress.Failure.{Failure}
@@ -95,6 +96,15 @@ module _ {F U : Type 0} (tariffs : Shared F (Bor Usage × Unit {0}) Charge) (tar
   pub anew_none : (left : List ℕ) (old : Devices) (before : Option (List ℕ)) → BeginsAnew left old → EndsAnew tariffs tariff rules rule NoMemory left old old before before
   anew_none left old before begins = anew_quiet NoMemory left old before (λ e. e) (inl (refl, refl)) begins
 
+-- A POWER LOSS leaves a state that may be left after a run of the script; or nothing was done
+module _ {F U : Type 0} (tariffs : Shared F (Bor Usage × Unit {0}) Charge) (tariff : F) (rules : Shared U (Bor Standing × Unit {0}) ℕ) (rule : U) where
+  pub survives_as : (left : List ℕ) (lines : List Timed) (bad : Option ℕ) (old new : Devices) (before after : Option (List ℕ)) → IsParsed (lines_of left) lines bad
+      → ((s : State) → StandFor old s → SurvivesCut tariffs tariff rules rule lines bad s old new before after) → Survives tariffs tariff rules rule left old new before after
+  survives_as left lines bad old new before after parsed cut = inr (lines, bad, parsed, cut)
+
+  pub survives_quiet : (left : List ℕ) (old : Devices) (before : Option (List ℕ)) → Survives tariffs tariff rules rule left old old before before
+  survives_quiet left old before = inl (refl, refl)
+
 -- the lines that were read are those of the script
 pub arms_as : (left : List ℕ) (lines said : List Timed) (bad said_bad : Option ℕ) (failure : Option Failure) (old new : Devices) → IsParsed (lines_of left) said said_bad → IsParsed (lines_of left) lines bad
     → AreArmings said (failure ≡ None) old new → AreArmings lines (IsThrough (status_of said_bad failure)) old new
@@ -110,7 +120,7 @@ arms_as left lines said bad said_bad failure old new was is arms =
     })
 
 -- all of a text is a part of it
-whole_part : (before after : Option (List ℕ)) (text : List ℕ) → after ≡ with_more before text → HasPutPart before text after
+pub whole_part : (before after : Option (List ℕ)) (text : List ℕ) → after ≡ with_more before text → HasPutPart before text after
 whole_part before after text is = (length text, omega arith, is ∙ ap (λ (t : List ℕ). with_more before t) (sym (take_all (length text) text (omega arith))))
 
 -- the line of unknown words is printed, whole or in part

@@ -48,7 +48,7 @@ pub struct Finish<D: Disc, T: Tapes> {
 ///
 /// It first reads the words: `run`, or `demo NUMBER N`, which runs a script that is generated from these numbers on devices in
 /// memory and prints the summary of its text. The script is read whole before anything is done (docs/MANUAL.md, "Exit status").
-#[tactic(auto, using(g_day::proofs::GrowLemmas::grow_itself, g_ticks::proofs::KeepLemmas::moves_itself, crate::proofs::TopLemmas::anew_unread, crate::proofs::TopLemmas::anew_long, crate::proofs::TopLemmas::anew_none))]
+#[tactic(auto, using(g_day::proofs::GrowLemmas::grow_itself, g_ticks::proofs::KeepLemmas::moves_itself, crate::proofs::TopLemmas::anew_unread, crate::proofs::TopLemmas::anew_long, crate::proofs::TopLemmas::anew_none, crate::proofs::TopLemmas::survives_quiet))]
 pub fn george<
     S: Source,
     K: Sink,

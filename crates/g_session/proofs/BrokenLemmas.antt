@@ -18,10 +18,11 @@ use Rattle.g_run_model.specs.Devices.{Devices}
 use Rattle.g_run_model.specs.Moves.{Move, MovesCounted, Run}
 use Rattle.g_run_model.specs.World.{World, start}
 use Rattle.g_run_model.proofs.TurnLemmas.{run_append}
+use Rattle.g_day.specs.Losses.{Never}
 use Rattle.g_day.specs.Parts.{Seen}
 use Rattle.g_day.specs.System.{StandsAs, SystemFacts, devices_in}
 use Rattle.g_day.proofs.PutLemmas.{with_more-nil}
-use Rattle.g_ticks.specs.Parts.{Leads}
+use Rattle.g_ticks.specs.Parts.{LeadsFrom}
 use Rattle.g_typing.specs.declared.item.ItemReader.{ItemReader}
 use Rattle.g_laws_sessions.specs.Early.{NotBefore, with_lines}
 use Rattle.g_laws_sessions.specs.Session.{AlwaysAnswers, IsOwed, Moment, script_of, taken}
@@ -103,7 +104,7 @@ module _ {F U : Type 0} (tariffs : Shared F (Bor Usage × Unit {0}) Charge) (tar
   pub broken_leads : (s : State) (old : Devices) (done : List Timed) (bad : Option ℕ) (seen : Seen) (from before after : Option Transcript) (log0 log log' : Option (List ℕ))
       → (f : SoFar tariffs tariff rules rule s old done bad seen log0 log) → Shows s from before f.now
       → (system : SystemFacts) (more : List WrittenItem) → length more ≤ 1 → NotBefore f.now.world.count (map timed_said more)
-      → (moves : List Move) (last : World) (added : List ℕ) → Leads tariffs tariff rules rule (with_lines (map timed_said more) f.now.world) seen.system system moves last added
+      → (moves : List Move) (last : World) (added : List ℕ) → LeadsFrom tariffs tariff rules rule Never (with_lines (map timed_said more) f.now.world) seen.system system moves last added
       → (owed : List ℕ) → IsOwed f.now.world owed added → HasPutPart (option_map written_of before) owed (option_map written_of after) → HasLogged f.said more log0 log'
       → Broken tariffs tariff rules rule s old system from after log0 log'
   broken_leads s old done bad seen from before after log0 log log' f shows system more one early moves last added leads owed own put logged =

@@ -27,10 +27,11 @@ use Rattle.g_run_model.proofs.CountLemmas.{counted_of, event_none, move_counted,
 use Rattle.g_run_model.proofs.StandLemmas.{stands_as}
 use Rattle.g_run_model.proofs.TickLemmas.{over_move}
 use Rattle.g_run_model.proofs.TurnLemmas.{run_append}
+use Rattle.g_day.specs.Losses.{Never}
 use Rattle.g_day.specs.Parts.{Seen}
 use Rattle.g_day.specs.System.{StandsAs, SystemFacts, devices_in}
 use Rattle.g_day.proofs.PutLemmas.{with_more-append}
-use Rattle.g_ticks.specs.Parts.{IsAtRest, PartGoes}
+use Rattle.g_ticks.specs.Parts.{IsAtRest, PartGoesFrom}
 use Rattle.g_ticks.proofs.TickLemmas.{put_on}
 use Rattle.g_laws_sessions.specs.Session.{Asked, Comes, Exchange, Exchanges, IsCutShort, IsOver, Moment, Nothing, Refused, Rested, Skipped, Then, Took, Unclosed, is_skipping, items_of, script_of, taken}
 use Rattle.g_laws_sessions.proofs.SessionLemmas.{reaches, run_here}
@@ -72,7 +73,7 @@ module _ {F U : Type 0} (tariffs : Shared F (Bor Usage × Unit {0}) Charge) (tar
     pub put : middle ≡ with_more before added
 
   pub end_run : (s : State) (old : Devices) (done : List Timed) (bad : Option ℕ) (seen mid : Seen) (log0 log before middle : Option (List ℕ)) (f : SoFar tariffs tariff rules rule s old done bad seen log0 log)
-      → PartGoes tariffs tariff rules rule IsAtRest [] [] seen None mid before middle → EndRun s old done bad seen mid log0 log before middle f
+      → PartGoesFrom tariffs tariff rules rule Never IsAtRest [] [] seen None mid before middle → EndRun s old done bad seen mid log0 log before middle f
   end_run s old done bad seen mid log0 log before middle f goes =
       let r = reaches tariffs tariff rules rule s f.said f.now f.comes in
       let a = goes f.now.world f.matches f.between r.none in

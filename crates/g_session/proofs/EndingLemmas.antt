@@ -14,10 +14,11 @@ use Rattle.g_store_model.specs.State.{State}
 use Rattle.g_run_model.specs.Devices.{Devices}
 use Rattle.g_run_model.specs.World.{World}
 use Rattle.g_day.specs.declared.progress.Failure.{Failure}
+use Rattle.g_day.specs.Losses.{Never}
 use Rattle.g_day.specs.Parts.{Seen}
 use Rattle.g_day.specs.Puts.{PutsBy}
 use Rattle.g_day.proofs.PutLemmas.{with_more-nil}
-use Rattle.g_ticks.specs.Parts.{IsAtRest, PartGoes}
+use Rattle.g_ticks.specs.Parts.{IsAtRest, PartGoesFrom}
 use Rattle.g_typing.specs.Reader.{HoldsAt, is_skipped}
 use Rattle.g_typing.specs.declared.item.ItemReader.{ItemReader}
 use Rattle.g_typing.specs.declared.item.Place.{Place}
@@ -239,7 +240,7 @@ module _ {F U : Type 0} (tariffs : Shared F (Bor Usage × Unit {0}) Charge) (tar
   module _ (P : List Timed → Type 0) (bad : Option ℕ) (seen new : Seen) (before after : Option Transcript) (log : Option (List ℕ)) where
     rested : (c : Course) → ((HasEnded c after × ((end : AtEnd tariffs tariff rules rule s old from log0 bad new after log) × P end.done)) → RestsOf P c bad new after log)
         → HasEnded c before → (done : List Timed) → P done → Last tariffs tariff rules rule s old done bad seen from before log0 log → (failure : Option Failure)
-        → PartGoes tariffs tariff rules rule IsAtRest [] [] seen failure new (option_map written_of before) (option_map written_of after)
+        → PartGoesFrom tariffs tariff rules rule Never IsAtRest [] [] seen failure new (option_map written_of before) (option_map written_of after)
         → RestsOf P (course_at_end c failure) bad new after log
     rested c make ended done p l None goes =
         let f = l.so_far in
@@ -253,14 +254,14 @@ module _ {F U : Type 0} (tariffs : Shared F (Bor Usage × Unit {0}) Charge) (tar
 
     -- NOTHING STEPS
     pub rest_at_end : (c : Course) (failure : Option Failure) (put put' : Option (List ℕ)) → put ≡ option_map written_of before → put' ≡ option_map written_of after → ((g : Failure) → c ≡ course.Breaks g → ⊥)
-        → AfterOpenOf P c bad seen before log → PartGoes tariffs tariff rules rule IsAtRest [] [] seen failure new put put'
+        → AfterOpenOf P c bad seen before log → PartGoesFrom tariffs tariff rules rule Never IsAtRest [] [] seen failure new put put'
         → RestsOf P (course_at_end c failure) bad new after log
     rest_at_end c failure put put' is is' whole opened goes =
         by c whole opened
-        (subst (λ (x : Option (List ℕ)). PartGoes tariffs tariff rules rule IsAtRest [] [] seen failure new x (option_map written_of after)) is
-        (subst (λ (x : Option (List ℕ)). PartGoes tariffs tariff rules rule IsAtRest [] [] seen failure new put x) is' goes))
+        (subst (λ (x : Option (List ℕ)). PartGoesFrom tariffs tariff rules rule Never IsAtRest [] [] seen failure new x (option_map written_of after)) is
+        (subst (λ (x : Option (List ℕ)). PartGoesFrom tariffs tariff rules rule Never IsAtRest [] [] seen failure new put x) is' goes))
       where
-        by : (c : Course) → ((g : Failure) → c ≡ course.Breaks g → ⊥) → AfterOpenOf P c bad seen before log → PartGoes tariffs tariff rules rule IsAtRest [] [] seen failure new (option_map written_of before) (option_map written_of after)
+        by : (c : Course) → ((g : Failure) → c ≡ course.Breaks g → ⊥) → AfterOpenOf P c bad seen before log → PartGoesFrom tariffs tariff rules rule Never IsAtRest [] [] seen failure new (option_map written_of before) (option_map written_of after)
             → RestsOf P (course_at_end c failure) bad new after log
         by (course.Breaks g) whole opened goes = absurd (whole g refl)
         by course.Goes whole (never, l) goes = absurd never

@@ -18,9 +18,10 @@ use Rattle.g_run_model.specs.Devices.{Devices}
 use Rattle.g_run_model.specs.World.{World}
 use Rattle.g_run.proofs.ReadingLemmas.{within_what}
 use Rattle.g_day.specs.declared.progress.Failure.{Failure}
+use Rattle.g_day.specs.Losses.{Never}
 use Rattle.g_day.specs.Parts.{Seen}
 use Rattle.g_day.proofs.PutLemmas.{with_more-append, with_more-nil}
-use Rattle.g_ticks.specs.Parts.{Breaks, IsTimedWithin}
+use Rattle.g_ticks.specs.Parts.{BreaksFrom, IsTimedWithin}
 use Rattle.g_ticks.proofs.TickLemmas.{put_on}
 use Rattle.g_typing.specs.Reader.{Holds, HoldsAt, IsComplete, IsRefused, Replies, StaysIn, is_skipped, when_of}
 use Rattle.g_typing.specs.Typed.{AtOnce, AtTime, BeginsDocument, CanFollow, IsTypedHead, IsUnfinished, When, first_of}
@@ -206,7 +207,7 @@ module _ {F U : Type 0} (tariffs : Shared F (Bor Usage × Unit {0}) Charge) (tar
 
     -- an item that was taken in part
     item_breaks : (next : Timed) (timed : Bool) (failure : Failure) → TakesItem tariffs tariff rules rule timed next seen (Some failure) new (option_map written_of before) (option_map written_of after)
-        → (let v : World = record st.so_far.now.world { lines = next ∷ [] } in Breaks tariffs tariff rules rule v seen.system new.system (option_map written_of before) (option_map written_of after))
+        → (let v : World = record st.so_far.now.world { lines = next ∷ [] } in BreaksFrom tariffs tariff rules rule Never v seen.system new.system (option_map written_of before) (option_map written_of after))
     item_breaks next true failure goes =
         let v : World = record st.so_far.now.world { lines = next ∷ [] } in
         goes v (with_left st.so_far.now.world (next ∷ []) seen st.so_far.matches) (record { phase = st.so_far.between.phase; turn = st.so_far.between.turn }) refl
@@ -224,7 +225,7 @@ module _ {F U : Type 0} (tariffs : Shared F (Bor Usage × Unit {0}) Charge) (tar
         → Broken tariffs tariff rules rule s old new.system from after log0 log'
     item_broken next timed failure whole put goes =
         let item = whole.item in
-        let b = subst (λ (t : Timed). Breaks tariffs tariff rules rule (with_lines (t ∷ []) st.so_far.now.world) seen.system new.system (option_map written_of before) (option_map written_of after)) whole.said
+        let b = subst (λ (t : Timed). BreaksFrom tariffs tariff rules rule Never (with_lines (t ∷ []) st.so_far.now.world) seen.system new.system (option_map written_of before) (option_map written_of after)) whole.said
         (item_breaks next timed failure goes) in
         let early : st.so_far.now.world.count ≤ item.turn =
         subst (λ (n : ℕ). n ≤ item.turn) (sym st.so_far.matches.count) (not_before seen.count item (when_of timed) whole.typed.first whole.typed.head) in

@@ -21,11 +21,12 @@ use Rattle.g_run_model.specs.Moves.{Move, MovesCounted}
 use Rattle.g_run_model.specs.World.{World, is_due, nothing_steps}
 use Rattle.g_run_model.proofs.CountLemmas.{event_none, moves_then}
 use Rattle.g_job_table.specs.Crew.{CrewState}
+use Rattle.g_day.specs.Losses.{Never}
 use Rattle.g_day.specs.Parts.{Matches, Seen, seen}
 use Rattle.g_day.specs.System.{Down, SystemFacts, devices_in}
 use Rattle.g_day.proofs.PutLemmas.{with_more-append, with_more-nil}
 use Rattle.g_ticks.specs.Tick.{IsBetween}
-use Rattle.g_ticks.specs.Parts.{Anything, Arrives, IsAtRest, Leads, PartGoes}
+use Rattle.g_ticks.specs.Parts.{Anything, IsAtRest, LeadsFrom, PartGoesFrom}
 use Rattle.g_typing.specs.Reader.{IsComplete, when_of}
 use Rattle.g_typing.specs.Typed.{AtOnce, AtTime, IsQuery, IsUnfinished}
 use Rattle.g_typing.specs.declared.item.ItemReader.{ItemReader}
@@ -95,7 +96,7 @@ module _ {F U : Type 0} (tariffs : Shared F (Bor Usage × Unit {0}) Charge) (tar
   -- what was counted, with a part more
   pub counted_on : (now : Moment) (old : Devices) (f g : SystemFacts) (moves : List Move) (next : World) (added : List ℕ) (lines : List Timed)
       → MovesCounted now.moves now.world.disc_stops now.world.tape_stops old (devices_in f)
-      → (let v : World = record now.world { lines = lines } in Leads tariffs tariff rules rule v f g moves next added)
+      → (let v : World = record now.world { lines = lines } in LeadsFrom tariffs tariff rules rule Never v f g moves next added)
       → MovesCounted (now.moves ++ moves) next.disc_stops next.tape_stops old (devices_in g)
   counted_on now old f g moves next added lines was l =
       subst (λ (ks : List ℕ). MovesCounted (now.moves ++ moves) ks next.tape_stops old (devices_in g)) (sym l.disc_stops)
@@ -117,7 +118,7 @@ module _ {F U : Type 0} (tariffs : Shared F (Bor Usage × Unit {0}) Charge) (tar
     moves : List Move
     last : World
     added : List ℕ
-    leads : (let v : World = record w { lines = next ∷ [] } in Leads tariffs tariff rules rule v old.system new.system moves last added)
+    leads : (let v : World = record w { lines = next ∷ [] } in LeadsFrom tariffs tariff rules rule Never v old.system new.system moves last added)
     matches : Matches last new
     between : IsBetween last
     none : last.lines ≡ []
@@ -217,7 +218,7 @@ module _ {F U : Type 0} (tariffs : Shared F (Bor Usage × Unit {0}) Charge) (tar
   -- AN EMPTY LINE MORE
   pub so_far_rested : (s : State) (old : Devices) (done : List Timed) (bad : Option ℕ) (was new : Seen) (log0 log before middle after : Option (List ℕ))
       → (f : SoFar tariffs tariff rules rule s old done bad was log0 log) → is_skipping f.said ≡ false → is_over f.said ≡ false
-      → PartGoes tariffs tariff rules rule IsAtRest [] [] was None new before middle → after ≡ with_more middle (tick_line new.count)
+      → PartGoesFrom tariffs tariff rules rule Never IsAtRest [] [] was None new before middle → after ≡ with_more middle (tick_line new.count)
       → Next s old done bad new log0 log f.now ([] ∷ []) false before after
   so_far_rested s old done bad was new log0 log before middle after f skips over goes put =
       let r = reaches tariffs tariff rules rule s f.said f.now f.comes in

@@ -12,18 +12,21 @@ use Rattle.g_run_model.specs.Top.{AreArmings}
 use Rattle.g_job_table.specs.Numbers.{AreOpen}
 use Rattle.g_day.specs.declared.progress.Failure.{Failure}
 use Rattle.g_day.specs.BeginningAnew.{beside, beside_new}
-use Rattle.g_day.specs.Parts.{IsReady, LineGoes, Matches, Seen}
+use Rattle.g_day.specs.Losses.{Never}
+use Rattle.g_day.specs.Parts.{IsReady, Matches, Seen}
 use Rattle.g_day.specs.Puts.{FaultCause, Puts}
-use Rattle.g_day.specs.System.{devices_in}
+use Rattle.g_day.specs.System.{SystemSafe, devices_in}
 use Rattle.g_day.proofs.LabelLemmas.{same_itself}
 use Rattle.g_day.proofs.PutLemmas.{grown_then, puts_grown, same_grown, with_more-append, with_more-nil}
 use Rattle.g_ticks.specs.Tick.{IsBetween, left}
-use Rattle.g_ticks.specs.Parts.{Anything, Arrives, BeginsBy, DidTicks, HasRoom, IsAtRest, Keeps, LinesGo, PartGoes, turn_of}
+use Rattle.g_ticks.specs.Parts.{Anything, BeginsBy, DidTicks, HasRoom, IsAtRest, Keeps, LinesGo, PartGoesFrom, turn_of}
 use Rattle.g_ticks.proofs.KeepLemmas.{kept_itself}
-use Rattle.g_ticks.proofs.PartLemmas.{arms_more, goes_then, keeps_then, leads_itself, leads_then, none_arm}
+use Rattle.g_ticks.proofs.PartLemmas.{arms_more, goes_then, keeps_then, leads_itself, none_arm, part_unclaimed}
+use Rattle.g_ticks.proofs.SurvivingLemmas.{never_runs}
 use Rattle.g_laws_sessions.specs.Session.{tick_line}
 use Rattle.g_run.specs.NextLine.{DidNext}
 use Rattle.g_run.proofs.AnewLemmas.{first_one, first_well}
+use Rattle.g_run.proofs.NextLemmas.{held_unclaimed}
 use Rattle.g_session.specs.Taking.{DidRest, DidRestAndTell, DidTake}
 
 -- THE COUNT HAS ROOM for what is left to do
@@ -74,7 +77,7 @@ module _ {F U : Type 0} (tariffs : Shared F (Bor Usage × Unit {0}) Charge) (tar
       moves = [];
       next = w;
       added = [];
-      leads = leads_itself tariffs tariff rules rule w s.system m.stands;
+      leads = leads_itself tariffs tariff rules rule Never never_runs w s.system m.stands;
       put = (0, omega arith, sym (with_more-nil before));
     };
     keeps = keeps_short failure s faults faults' cause;
@@ -85,7 +88,7 @@ module _ {F U : Type 0} (tariffs : Shared F (Bor Usage × Unit {0}) Charge) (tar
         moves = [];
         next = w;
         added = [];
-        leads = leads_itself tariffs tariff rules rule w (beside_new s.system) m.stands;
+        leads = leads_itself tariffs tariff rules rule Never never_runs w (beside_new s.system) m.stands;
         put = (0, omega arith, sym (with_more-nil before));
       },
     );
@@ -94,7 +97,7 @@ module _ {F U : Type 0} (tariffs : Shared F (Bor Usage × Unit {0}) Charge) (tar
   pub rest_done : (s : Seen) (failure : Option Failure) (new : Seen) (before after : Option (List ℕ)) (faults faults' : ℕ)
       → DidTicks tariffs tariff rules rule IsAtRest None s failure new before after faults faults' → DidRest tariffs tariff rules rule s failure new before after faults faults'
   rest_done s failure new before after faults faults' ticked = record {
-    goes = ticked.goes [] refl;
+    goes = part_unclaimed tariffs tariff rules rule SystemSafe IsAtRest [] [] s failure new before after (ticked.goes [] refl);
     keeps = ticked.keeps;
     grows = ticked.grows;
     aside = λ blank. let (blank_new, went) = ticked.aside blank in (blank_new, went [] refl);
@@ -129,12 +132,17 @@ module _ {F U : Type 0} (tariffs : Shared F (Bor Usage × Unit {0}) Charge) (tar
   -- AN ITEM with a time
   pub take_held : (next : Timed) (s : Seen) (failure : Option Failure) (new : Seen) (before after : Option (List ℕ)) (faults faults' : ℕ)
       → DidNext tariffs tariff rules rule next s failure new before after faults faults' → DidTake tariffs tariff rules rule true next s failure new before after faults faults'
-  take_held next s failure new before after faults faults' one = record { goes = one.holds; keeps = one.did.keeps; grows = one.did.grows; first = one.first }
+  take_held next s failure new before after faults faults' one = record {
+    goes = held_unclaimed tariffs tariff rules rule SystemSafe next s failure new before after one.holds;
+    keeps = one.did.keeps;
+    grows = one.did.grows;
+    first = one.first;
+  }
 
   -- on blank devices, with no tick after it
   first_short : (next : Timed) (s : Seen) (failure : Option Failure) (new : Seen) (before after : Option (List ℕ))
       → BeginsBy (λ x. LinesGo tariffs tariff rules rule (next ∷ []) s failure x before after) (next ∷ []) s failure new
-      → BeginsBy (λ x. PartGoes tariffs tariff rules rule Anything (next ∷ []) [] (beside s) failure x before after) (next ∷ []) s failure new
+      → BeginsBy (λ x. PartGoesFrom tariffs tariff rules rule Never Anything (next ∷ []) [] (beside s) failure x before after) (next ∷ []) s failure new
   first_short next s failure new before after (inl u) = inl (record { goes = λ w m between is. u.goes [] w m between is; blank = u.blank; unwell = u.unwell })
   first_short next s failure new before after (inr took) = inr (λ w m between is. took [] w m between is)
 
@@ -142,33 +150,38 @@ module _ {F U : Type 0} (tariffs : Shared F (Bor Usage × Unit {0}) Charge) (tar
   first_rested : (next : Timed) (s mid : Seen) (failure : Option Failure) (new : Seen) (before middle after : Option (List ℕ)) (faults1 faults2 : ℕ)
       → DidRest tariffs tariff rules rule mid failure new middle after faults1 faults2
       → BeginsBy (λ x. LinesGo tariffs tariff rules rule (next ∷ []) s None x before middle) (next ∷ []) s None mid
-      → BeginsBy (λ x. PartGoes tariffs tariff rules rule IsAtRest (next ∷ []) [] (beside s) failure x before after) (next ∷ []) s failure new
+      → BeginsBy (λ x. PartGoesFrom tariffs tariff rules rule Never IsAtRest (next ∷ []) [] (beside s) failure x before after) (next ∷ []) s failure new
   first_rested next s mid failure new before middle after faults1 faults2 rested (inl u) =
       let (blank_new, went) = rested.aside u.blank in inl (record {
         goes = λ w m between is.
             let a = u.goes [] w m between is in
-            goes_then tariffs tariff rules rule Anything IsAtRest w [] [] (beside s) (beside mid) before middle a failure (beside new) after (went a.next a.matches a.between a.lines);
+            goes_then tariffs tariff rules rule Never never_runs Anything IsAtRest w [] [] (beside s) (beside mid) before middle a failure (beside new) after (went a.next a.matches a.between a.lines);
         blank = blank_new;
         unwell = λ none begin well. u.unwell refl begin (first_well (devices_in s.system) (devices_in mid.system) (devices_in new.system) rested.keeps.same well);
       })
   first_rested next s mid failure new before middle after faults1 faults2 rested (inr took) = inr (λ w m between is.
       let a = took [] w m between is in
-      goes_then tariffs tariff rules rule Anything IsAtRest w [] [] (beside s) mid before middle a failure new after (rested.goes a.next a.matches a.between a.lines))
+      goes_then tariffs tariff rules rule Never never_runs Anything IsAtRest w [] [] (beside s) mid before middle a failure new after (rested.goes a.next a.matches a.between a.lines))
 
   -- one that failed
   pub take_short : (timed : Bool) (next : Timed) (s : Seen) (failure : Failure) (new : Seen) (before after : Option (List ℕ)) (faults faults' : ℕ)
       → DidNext tariffs tariff rules rule next s (Some failure) new before after faults faults' → DidTake tariffs tariff rules rule timed next s (Some failure) new before after faults faults'
-  take_short true next s failure new before after faults faults' one = record { goes = one.holds; keeps = one.did.keeps; grows = one.did.grows; first = one.first }
+  take_short true next s failure new before after faults faults' one = record {
+    goes = held_unclaimed tariffs tariff rules rule SystemSafe next s (Some failure) new before after one.holds;
+    keeps = one.did.keeps;
+    grows = one.did.grows;
+    first = one.first;
+  }
   take_short false next s failure new before after faults faults' one = record {
-    goes = λ w m between is. one.did.goes [] w m between is;
+    goes = λ w m between is. part_unclaimed tariffs tariff rules rule SystemSafe Anything (next ∷ []) [] s (Some failure) new before after (one.did.goes []) w m between is;
     keeps = one.did.keeps;
     grows = one.did.grows;
     first = λ is blank. cut_rest (first_short next s (Some failure) new before after (one.did.first (first_one next is) blank));
   }
     where
       -- a part that was cut short doesn't rest
-      cut_rest : BeginsBy (λ x. PartGoes tariffs tariff rules rule Anything (next ∷ []) [] (beside s) (Some failure) x before after) (next ∷ []) s (Some failure) new
-          → BeginsBy (λ x. PartGoes tariffs tariff rules rule IsAtRest (next ∷ []) [] (beside s) (Some failure) x before after) (next ∷ []) s (Some failure) new
+      cut_rest : BeginsBy (λ x. PartGoesFrom tariffs tariff rules rule Never Anything (next ∷ []) [] (beside s) (Some failure) x before after) (next ∷ []) s (Some failure) new
+          → BeginsBy (λ x. PartGoesFrom tariffs tariff rules rule Never IsAtRest (next ∷ []) [] (beside s) (Some failure) x before after) (next ∷ []) s (Some failure) new
       cut_rest (inl u) = inl (record { goes = λ w m between is. u.goes w m between is; blank = u.blank; unwell = u.unwell })
       cut_rest (inr took) = inr (λ w m between is. took w m between is)
 
@@ -178,8 +191,8 @@ module _ {F U : Type 0} (tariffs : Shared F (Bor Usage × Unit {0}) Charge) (tar
       → DidTake tariffs tariff rules rule false next s failure new before after faults faults2
   take_rested next s mid failure new before middle after faults faults1 faults2 one rested = record {
     goes = λ w m between is.
-        let a = one.did.goes [] w m between is in
-        goes_then tariffs tariff rules rule Anything IsAtRest w [] [] s mid before middle a failure new after (rested.goes a.next a.matches a.between a.lines);
+        let a = part_unclaimed tariffs tariff rules rule SystemSafe Anything (next ∷ []) [] s None mid before middle (one.did.goes []) w m between is in
+        goes_then tariffs tariff rules rule Never never_runs Anything IsAtRest w [] [] s mid before middle a failure new after (rested.goes a.next a.matches a.between a.lines);
     keeps = keeps_then (next ∷ []) [] s mid failure new faults faults1 faults2 one.did.keeps rested.keeps;
     grows = grown_then before middle after one.did.grows rested.grows;
     first = λ is blank. first_rested next s mid failure new before middle after faults1 faults2 rested (one.did.first (first_one next is) blank);

@@ -15,10 +15,11 @@ use Rattle.g_laws_runs.specs.BeginningAnew.{AreBlank, with_new_disc}
 use Rattle.g_laws_runs.specs.Filestores.{HasFilestore}
 use Rattle.g_day.specs.declared.progress.Failure.{Failure}
 use Rattle.g_day.specs.declared.progress.Failure.TheVariants as failures
+use Rattle.g_day.specs.Losses.{Never}
 use Rattle.g_day.specs.Parts.{Seen, seen}
 use Rattle.g_day.specs.Puts.{FaultCause, Puts}
 use Rattle.g_day.specs.System.{BelongTogether, Down, SameDevices}
-use Rattle.g_ticks.specs.Parts.{IsAtRest, Keeps, PartGoes}
+use Rattle.g_ticks.specs.Parts.{IsAtRest, Keeps, PartGoesFrom}
 use Rattle.g_typing.specs.declared.item.ItemReader.{ItemReader}
 use Rattle.g_typing.specs.declared.item.Place.{Place}
 use Rattle.g_typing.specs.declared.item.Place.TheVariants as place
@@ -92,7 +93,7 @@ module _ {F U : Type 0} (tariffs : Shared F (Bor Usage × Unit {0}) Charge) (tar
     pub was : Seen
     pub middle : Option Transcript
     pub last : Last tariffs tariff rules rule s old done bad was from middle log0 log
-    pub goes : PartGoes tariffs tariff rules rule IsAtRest [] [] was None new (option_map written_of middle) (option_map written_of transcript)
+    pub goes : PartGoesFrom tariffs tariff rules rule Never IsAtRest [] [] was None new (option_map written_of middle) (option_map written_of transcript)
 
   abbrev pub RestsAtEnd : State → Devices → Option Transcript → Option (List ℕ) → Course → Option ℕ → Seen → Option Transcript → Option (List ℕ) → Type 0
   RestsAtEnd s old from log0 (course.Breaks failure) bad seen transcript log = Broken tariffs tariff rules rule s old seen.system from transcript log0 log

@@ -1,4 +1,5 @@
--- WHAT A SESSION DOES for an item or an empty line. Internal: public contracts cite `Session` only.
+-- WHAT A SESSION DOES for an item or an empty line. Internal: public contracts cite `Session` only. Nothing is claimed about what a power loss
+-- leaves of its devices within it.
 use Rattle.std.specs.Prelude.{◌≡◌, ◌⊎◌, ℕ, Bool, true, false, List, [], ◌∷◌, Option, Some, None}
 use Rattle.std.specs.Fn.{Shared}
 use denote.Ref.{Bor}
@@ -11,26 +12,27 @@ use Rattle.g_laws_runs.specs.BeginningAnew.{is_first}
 use Rattle.g_laws_sessions.specs.Session.{tick_line}
 use Rattle.g_day.specs.declared.progress.Failure.{Failure}
 use Rattle.g_day.specs.BeginningAnew.{IsBlank, beside}
+use Rattle.g_day.specs.Losses.{Never}
 use Rattle.g_day.specs.Parts.{Seen}
 use Rattle.g_day.specs.Puts.{HasGrown}
-use Rattle.g_run.specs.NextLine.{HoldsGo}
-use Rattle.g_ticks.specs.Parts.{BeginsBy, IsAtRest, Keeps, PartGoes}
+use Rattle.g_run.specs.NextLine.{HoldsGoFrom}
+use Rattle.g_ticks.specs.Parts.{BeginsBy, IsAtRest, Keeps, PartGoesFrom}
 
 module _ {F U : Type 0} (tariffs : Shared F (Bor Usage × Unit {0}) Charge) (tariff : F) (rules : Shared U (Bor Standing × Unit {0}) ℕ) (rule : U) where
   -- THE SYSTEM RUNS until nothing can step
   pub record DidRest (old : Seen) (failure : Option Failure) (new : Seen) (before after : Option (List ℕ)) (faults faults' : ℕ) : Type 0 where
-    pub goes : PartGoes tariffs tariff rules rule IsAtRest [] [] old failure new before after
+    pub goes : PartGoesFrom tariffs tariff rules rule Never IsAtRest [] [] old failure new before after
     pub keeps : Keeps [] old failure new faults faults'
     pub grows : HasGrown before after
     -- with a new disc in place of a blank one
-    pub aside : IsBlank old.system → IsBlank new.system × PartGoes tariffs tariff rules rule IsAtRest [] [] (beside old) failure (beside new) before after
+    pub aside : IsBlank old.system → IsBlank new.system × PartGoesFrom tariffs tariff rules rule Never IsAtRest [] [] (beside old) failure (beside new) before after
 
   -- it does, and the count of ticks is printed
   abbrev pub RestsAndTells : Seen → Option Failure → Seen → Option (List ℕ) → Option (List ℕ) → Type 0
   RestsAndTells old None new before after =
-      (middle : Option (List ℕ)) × PartGoes tariffs tariff rules rule IsAtRest [] [] old None new before middle × (after ≡ with_more middle (tick_line new.count))
-  RestsAndTells old (Some failure) new before after = PartGoes tariffs tariff rules rule IsAtRest [] [] old (Some failure) new before after
-      ⊎ ((middle : Option (List ℕ)) × PartGoes tariffs tariff rules rule IsAtRest [] [] old None new before middle × HasPutPart middle (tick_line new.count) after)
+      (middle : Option (List ℕ)) × PartGoesFrom tariffs tariff rules rule Never IsAtRest [] [] old None new before middle × (after ≡ with_more middle (tick_line new.count))
+  RestsAndTells old (Some failure) new before after = PartGoesFrom tariffs tariff rules rule Never IsAtRest [] [] old (Some failure) new before after
+      ⊎ ((middle : Option (List ℕ)) × PartGoesFrom tariffs tariff rules rule Never IsAtRest [] [] old None new before middle × HasPutPart middle (tick_line new.count) after)
 
   pub record DidRestAndTell (old : Seen) (failure : Option Failure) (new : Seen) (before after : Option (List ℕ)) (faults faults' : ℕ) : Type 0 where
     pub goes : RestsAndTells old failure new before after
@@ -40,8 +42,8 @@ module _ {F U : Type 0} (tariffs : Shared F (Bor Usage × Unit {0}) Charge) (tar
 
   -- AN ITEM IS TAKEN: with a time as a line of a script; without one everything runs after it until nothing can step
   abbrev pub TakesItem : Bool → Timed → Seen → Option Failure → Seen → Option (List ℕ) → Option (List ℕ) → Type 0
-  TakesItem true next old failure new before after = HoldsGo tariffs tariff rules rule next old failure new before after
-  TakesItem false next old failure new before after = PartGoes tariffs tariff rules rule IsAtRest (next ∷ []) [] old failure new before after
+  TakesItem true next old failure new before after = HoldsGoFrom tariffs tariff rules rule Never next old failure new before after
+  TakesItem false next old failure new before after = PartGoesFrom tariffs tariff rules rule Never IsAtRest (next ∷ []) [] old failure new before after
 
   pub record DidTake (timed : Bool) (next : Timed) (old : Seen) (failure : Option Failure) (new : Seen) (before after : Option (List ℕ)) (faults faults' : ℕ) : Type 0 where
     pub goes : TakesItem timed next old failure new before after

@@ -1,4 +1,6 @@
 use Rattle.std.proofs.Common.{[], ◌∷◌, refl, arith}
+use Rattle.g_day.specs.System.{SystemSafe}
+use Rattle.g_ticks.proofs.SurvivingLemmas.{safe_runs}
 use Rattle.g_run.proofs.LineLemmas.{line_done, line_undone}
 use Rattle.g_operator.proofs.AnewLemmas.{first_line}
 use Rattle.g_run.proofs.NextLemmas.{first_held, holds_done, none_held}
@@ -9,7 +11,7 @@ returns-in-None g c =
     let ticked = rw c.in-None.is at c.tick_until_due-day.ensures in
     let did = line_done g.F.Fn c.args.rules.now.tariff.now g.U.Fn c.args.rules.now.weigh.now c.args.next _ _ c.operator_line.result.failure _ _ _ _ _ _ _ ticked c.operator_line.ensures.line.count c.operator_line.ensures.line c.operator_line.ensures.anew in record {
       did = did;
-      holds = holds_done g.F.Fn c.args.rules.now.tariff.now g.U.Fn c.args.rules.now.weigh.now c.args.next _ _ c.operator_line.result.failure _ _ _ _ ticked.goes c.operator_line.ensures.line.goes (λ w m between is. did.goes [] w m between is);
+      holds = holds_done g.F.Fn c.args.rules.now.tariff.now g.U.Fn c.args.rules.now.weigh.now SystemSafe safe_runs c.args.next _ _ c.operator_line.result.failure _ _ _ _ ticked.goes c.operator_line.ensures.line.safe c.operator_line.ensures.line.goes (λ w m between is. did.goes [] w m between is);
       first = λ is blank.
           let (blank_mid, went) = ticked.aside blank in
           first_held g.F.Fn c.args.rules.now.tariff.now g.U.Fn c.args.rules.now.weigh.now c.args.next _ _ c.operator_line.result.failure _ _ _ _ _ _ ticked.keeps.same went

@@ -7,7 +7,7 @@ use Rattle.g_script.specs.Script.{IsParsed}
 use Rattle.g_run.proofs.FilestoreLemmas.{keeps_filestore}
 use Rattle.g_ticks.proofs.KeepLemmas.{stay_as}
 use Rattle.g_run.proofs.ReadingLemmas.{parsed_few, parsed_within}
-use Rattle.g_run.proofs.TopLemmas.{anew_as, arms_as, cut_words, demo_found, ends_as, of_words, quiet_words}
+use Rattle.g_run.proofs.TopLemmas.{anew_as, arms_as, cut_words, demo_found, ends_as, of_words, quiet_words, survives_as}
 use Rattle.g_run.proofs.top.george.Goals as goal
 
 pub returns-clause-ends : goal.returns-clause-ends
@@ -23,6 +23,12 @@ returns-clause-anew g c = λ run left told.
     let parsed = subst (λ bytes. IsParsed (lines_of bytes) c.in-Ok-parse_script.parsed.lines c.in-Ok-parse_script.parsed.bad) (c.deref.ensures.value ∙ all.0) c.in-Ok-parse_script.ensures in
     rw c.run_status.ensures
     (anew_as g.F.Fn c.args.tariff.now g.U.Fn c.args.weigh.now c.in-Ok-parse_script.parsed.bad c.run_boxed-disc.result.failure left c.in-Ok-parse_script.parsed.lines _ _ _ _ parsed c.requires.size.0 c.run_boxed-disc.ensures.anew)
+
+pub returns-clause-survives : goal.returns-clause-survives
+returns-clause-survives g c = λ run safe left told.
+    let all = c.in-Ok.ensures.all left told in
+    let parsed = subst (λ bytes. IsParsed (lines_of bytes) c.in-Ok-parse_script.parsed.lines c.in-Ok-parse_script.parsed.bad) (c.deref.ensures.value ∙ all.0) c.in-Ok-parse_script.ensures in
+    survives_as g.F.Fn c.args.tariff.now g.U.Fn c.args.weigh.now left c.in-Ok-parse_script.parsed.lines c.in-Ok-parse_script.parsed.bad _ _ _ _ parsed (c.run_boxed-disc.ensures.survives safe)
 
 pub returns-clause-arms : goal.returns-clause-arms
 returns-clause-arms g c = λ run left told lines bad is.
@@ -75,6 +81,9 @@ returns-in-None-clause-ends g c = λ run left told. absurd (c.in-None.ensures as
 
 pub returns-in-None-clause-anew : goal.returns-in-None-clause-anew
 returns-in-None-clause-anew g c = λ run left told. absurd (c.in-None.ensures asked.Run tt run)
+
+pub returns-in-None-clause-survives : goal.returns-in-None-clause-survives
+returns-in-None-clause-survives g c = λ run safe left told. absurd (c.in-None.ensures asked.Run tt run)
 
 pub returns-in-None-clause-words : goal.returns-in-None-clause-words
 returns-in-None-clause-words g c = λ nothing. cut_words c.put_words-failure.result _ _ _ c.put_words-failure.ensures.puts.put
