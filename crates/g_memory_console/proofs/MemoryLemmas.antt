@@ -1,5 +1,5 @@
 -- The lines that came, and the bytes of the input that are left.
--- serves: MemoryConsole (note, put, take_line, text)
+-- serves: note (noted), put (put), take_line, text (lines)
 use Rattle.std.proofs.Common.{subst, ◌≡◌, ◌-◌, ℕ, Bool, true, false, List, [], ◌∷◌, ◌++◌, append_assoc, length, length-append, map, drop, take, refl, sym, ap, ◌∙◌, arith, Option, Some, None}
 use Rattle.std.proofs.lemmas.List.{append-nil, take-append-drop}
 use Rattle.std.specs.Prelude.{if◌then◌else◌}
