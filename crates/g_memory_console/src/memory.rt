@@ -1,9 +1,10 @@
 //! A console in memory, for rows of sessions.
-ghost use Rattle.std.specs.Prelude.{◌≡◌, ◌≢◌, ◌≤◌, All, Bool, None, OnErr, OnOk, length, option_map, refl, true, false};
+ghost use Rattle.std.specs.Prelude.{◌≡◌, ◌≢◌, ◌≤◌, ◌<◌, ◌∷◌, ◌++◌, All, Bool, List, None, OnErr, OnOk, Some, drop, length, option_map, refl, true, false, ℕ};
 ghost use Rattle.g_base.specs.Counts.{Rose};
 ghost use Rattle.g_io.specs.Streams.{CountsFault};
 ghost use Rattle.g_console.specs.Transcript.{Transcript, requesting, written_of};
-ghost use Rattle.g_memory_console.specs.Memory.{new_console, typed_of};
+ghost use Rattle.g_lines.specs.Lines.{lines_of};
+ghost use Rattle.g_memory_console.specs.Memory.{AreFirst, Leaves, new_console, typed_of};
 
 use g_base::{ReadFailed, WriteFailed, raised};
 use g_console::Console;
@@ -34,20 +35,25 @@ pub struct MemoryConsole {
 }
 
 impl Model for MemoryConsole {
-    ghost use Rattle.g_memory_console.specs.Memory.{ConsoleView, shown};
-    ghost use Rattle.std.specs.Prelude.{◌≤◌, vec_len};
+    ghost use Rattle.g_memory_console.specs.Memory.{AreFirstWhile, ConsoleView, shown};
+    ghost use Rattle.std.specs.Prelude.{◌≤◌, drop, length};
 
     ghost Value = { ConsoleView };
 
-    ghost view = { λ c. record { transcript = shown c.exposed c.requests.items c.text; faults = c.faults } };
+    ghost view = { λ c. record {
+      transcript = shown c.exposed c.requests.items c.text;
+      faults = c.faults;
+      input = c.input.items;
+      left = drop c.at c.input.items;
+    } };
 
-    ghost invariant = { λ c. c.at ≤ vec_len c.input };
+    ghost invariant = { λ c. (c.at ≤ length c.input.items) × AreFirstWhile c.exposed c.input.items (drop c.at c.input.items) c.requests.items };
 }
 
 impl MemoryConsole {
     /// A console at which these bytes will be typed.
     pub fn new(alloc: Global, input: Vec<u8>) -> MemoryConsole
-        ensures { result ≡ new_console }
+        ensures { result ≡ new_console input.items }
     {
         MemoryConsole {
             alloc,
@@ -60,9 +66,10 @@ impl MemoryConsole {
         }
     }
 
-    /// The printed text.
+    /// The printed text. The lines that came are then those of the input, the last one also if its byte 10 is missing.
     pub fn text(&self) -> &[u8]
-        ensures { (t : Transcript) → self.now.transcript ≡ Some t → result.now ≡ t.text }
+        ensures text { (t : Transcript) → self.now.transcript ≡ Some t → result.now ≡ t.text }
+        ensures lines { (t : Transcript) → self.now.transcript ≡ Some t → AreFirst self.now.input self.now.left t.requests }
     {
         self.text.as_slice()
     }
@@ -70,6 +77,7 @@ impl MemoryConsole {
     /// Counts a failure, and exposes nothing from now on.
     fn lose(&mut self) -> ReadFailed
         ensures lost { self.new.transcript ≡ None }
+        ensures input { self.new.input ≡ self.old.input }
         ensures faults { Rose self.old.faults self.new.faults }
     {
         self.exposed = false;
@@ -77,17 +85,22 @@ impl MemoryConsole {
         ReadFailed
     }
 
-    /// Notes a request for which this line came, or none.
-    fn note(&mut self, line: Option<Text>) -> Result<(), ReadFailed>
+    /// Notes a request for which this line came, or none; this many bytes of the input have been typed then.
+    fn note(&mut self, line: Option<Text>, at: usize) -> Result<(), ReadFailed>
+        requires within { at ≤ length self.old.input }
+        requires leaves { Leaves (typed_of line) self.old.left (drop at self.old.input) }
         ensures noted { OnOk result (self.new.transcript ≡ option_map (requesting (typed_of line)) self.old.transcript) }
         ensures lost { OnErr result (self.new.transcript ≡ None) }
+        ensures input { self.new.input ≡ self.old.input }
+        ensures left { OnOk result (self.new.left ≡ drop at self.old.input) }
         ensures faults { CountsFault result self.old.faults self.new.faults }
     {
         let printed = self.text.as_slice().len();
-        match self.requests.push(Noted { printed, line }) {
-            Ok(()) => Ok(()),
-            Err(_) => Err(self.lose()),
-        }
+        let Ok(()) = self.requests.push(Noted { printed, line }) else {
+            return Err(self.lose());
+        };
+        self.at = at;
+        Ok(())
     }
 }
 
@@ -113,7 +126,8 @@ impl Console for MemoryConsole {
     fn take_line(&mut self, _prompt: &[u8], into: &mut [u8]) -> Result<Option<usize>, ReadFailed> {
         let rest = &self.input[self.at..];
         if rest.is_empty() {
-            self.note(None)?;
+            let at = self.at;
+            self.note(None, at)?;
             return Ok(None);
         }
         let (line, after) = first_line(rest);
@@ -122,8 +136,7 @@ impl Console for MemoryConsole {
         let at = self.input.len() - after.len();
         match Text::from_slice(self.alloc, line) {
             Ok(line) => {
-                self.at = at;
-                self.note(Some(line))?;
+                self.note(Some(line), at)?;
                 Ok(Some(count))
             }
             Err(_) => Err(self.lose()),
@@ -135,8 +148,10 @@ impl Console for MemoryConsole {
 
 /// The first line of a text, and the bytes after its byte 10.
 fn first_line(text: &[u8]) -> (&[u8], &[u8])
+    requires { 0 < length text.now }
     ensures line { All (λ byte. byte ≢ 10) result.0.now }
-    ensures within { length result.1.now ≤ length text.now }
+    ensures lines { lines_of text.now ≡ result.0.now ∷ lines_of result.1.now }
+    ensures after { (front : List ℕ) × (text.now ≡ front ++ result.1.now) }
 {
     match split_at_byte(text, b'\n') {
         Some((line, after)) => (line, after),
