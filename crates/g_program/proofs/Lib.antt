@@ -1,3 +1,4 @@
 mod RuleLemmas
+mod SafeLemmas
 mod SessionRuleLemmas
 mod WordLemmas

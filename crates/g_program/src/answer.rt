@@ -1,6 +1,7 @@
 //! What the program does by its words: a run on image and rack, or on image and two racks, or what needs none of them.
 ghost use Rattle.std.specs.Prelude.{◌≡◌, ◌<◌, ◌≤◌, ◌⊎◌, IfOk};
 ghost use Rattle.g_demo.specs.Words.{AskNothing, texts_of};
+ghost use Rattle.g_files.specs.FileDisc.{disc_size};
 ghost use Rattle.g_run.specs.Input.{IsRun};
 ghost use Rattle.g_run.specs.Top.{IsOfRun, IsOfWords, code_of};
 ghost use Rattle.g_session.specs.Session.{IsOfSession};
@@ -12,6 +13,7 @@ use crate::checking::{check, check_words};
 use crate::console::{console, console_words};
 use crate::explain::tell_bad;
 use crate::noted::Noted;
+use crate::on_files::run_on;
 use crate::racks::open_racks;
 use crate::rules::run_by_rules;
 use crate::telling::{tell_lost, tell_missing, tell_rebuilt, tell_unusable, tell_usage};
@@ -116,10 +118,22 @@ fn run_on_files(rt: &HostRuntime, words: &[&str]) -> Result<u8, Unusable>
     }
     let tapes = open_rack(rt, RACK)?;
     tell_blank(rt, &mut disc, &tapes);
-    Ok(closed(run(rt, words, disc, tapes)))
+    Ok(run_on_rack(rt, disc, tapes))
 }
 
-/// Syncs image and rack, and returns the exit status of the run.
+/// Runs the script of standard input on image and rack, with the text to standard output, closes them, and returns the exit status.
+fn run_on_rack(rt: &HostRuntime, disc: FileDisc<HostFile>, tapes: HostTapes) -> u8
+    requires size { (2177 < disc_size disc) × (disc_size disc ≤ 1048576) }
+    ensures known { IsExit IsOfRun result }
+{
+    let mut script = Noted::new(rt.alloc(), StdSource::new(HostInput::new(rt.reader())));
+    let mut out = Advised::new(rt, StdSink::new(HostOutput::new(io::writer(rt))));
+    let ended = run_on(rt.alloc(), &mut script, &mut out, disc, tapes);
+    tell_bad(rt, ended.status, script.text());
+    ended.status.code()
+}
+
+/// Syncs image and rack, and returns the exit status of the session.
 pub(crate) fn closed(finish: Finish<FileDisc<HostFile>, HostTapes>) -> u8
     ensures { result ≡ code_of finish.status }
 {

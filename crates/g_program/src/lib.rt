@@ -10,6 +10,7 @@ mod console;
 mod explain;
 mod explained;
 mod noted;
+mod on_files;
 mod racks;
 mod rules;
 mod telling;
@@ -18,6 +19,7 @@ mod unusable;
 use crate::answer::answer;
 use g_devices::{placeholders, texts_of, words_of};
 use g_run::Status;
+pub use on_files::{Ended, run_on};
 pub use rules::{run_by_rules, session_by_rules};
 use std::process::ExitCode;
 

@@ -34,7 +34,7 @@ returns-clause-anew g c = λ is left told begins.
 
 pub returns-clause-survives : goal.returns-clause-survives
 returns-clause-survives g c = λ is safe left told.
-    survives_as (answering price) tt (answering share_used) tt _ _ _ _ _ (c.george.ensures.survives is safe left told)
+    survives_as (answering price) tt (answering share_used) tt left _ _ _ _ (c.george.ensures.survives is safe left told)
     (λ usage charge says.
     let met = says.says.met in
     let answered : charge ≡ price says.shown.now = search rules in
