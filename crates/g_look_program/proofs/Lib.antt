@@ -1,3 +1,4 @@
+mod BothLemmas
 mod LookLemmas
 mod MountLemmas
 mod ReportLemmas

@@ -25,7 +25,7 @@ use Rattle.g_look_program.specs.declared.status.Status.{Status}
 use Rattle.g_look_program.specs.declared.status.Status.TheVariants as status
 use Rattle.g_look_program.specs.declared.words.Asked.{Asked}
 use Rattle.g_look_program.specs.declared.words.Asked.TheVariants as asked
-use Rattle.g_look_program.specs.Telling.{Written, IsCut, IsFaultLine, IsQuiet, IsWhole, Puts, EndsQuietly, TellsFault, Tells, TellsBytes, TellsCheck, TellsGiven, TellsSeal, verdict, outcome, seal_status, HoldsOne, EndsCheck, EndsDumps, EndsGiven, EndsList, EndsSeal, EndsShow}
+use Rattle.g_look_program.specs.Telling.{Written, IsCut, IsFaultLine, IsQuiet, IsReadLine, IsWhole, Puts, EndsQuietly, TellsFault, Tells, TellsBytes, TellsCheck, TellsGiven, TellsSeal, verdict, outcome, seal_status, HoldsOne, EndsCheck, EndsDumps, EndsGiven, EndsList, EndsSeal, EndsShow}
 
 -- A TEXT WAS PRINTED, or the sink failed
 ends_put : (size : ℕ) (held : Option (List (List ℕ))) (reels : List Reel) (broken : Option Broken) (missing : Option ℕ) (filestore : Bool) (text : List ℕ) (w : Written)
@@ -36,7 +36,7 @@ ends_put size held reels None None true text w checked one whole = ((text, check
 ends_put size held reels None None false text w checked one whole = ((text, checked, whole), λ holds. let not : false ≡ true = one.1 holds in cc)
 
 ends_as : (size : ℕ) (held : Option (List (List ℕ))) (reels : List Reel) (due ended : Status) (text : List ℕ) (w : Written)
-    → (IsWhole text w → EndsCheck due size held reels w) → ((broken : Option Broken) × (missing : Option ℕ) × IsChecked size held reels broken missing text) ⊎ IsFaultLine text → Puts due text ended w → EndsCheck ended size held reels w
+    → (IsWhole text w → EndsCheck due size held reels w) → ((broken : Option Broken) × (missing : Option ℕ) × IsChecked size held reels broken missing text) ⊎ IsReadLine text → Puts due text ended w → EndsCheck ended size held reels w
 ends_as size held reels due ended text w good due_text (inl (is, whole)) = subst (λ (s : Status). EndsCheck s size held reels w) (sym is) (good whole)
 ends_as size held reels due ended text w good due_text (inr (is, cut)) = subst (λ (s : Status). EndsCheck s size held reels w) (sym is) (text, due_text, cut)
 
@@ -49,7 +49,7 @@ pub ends_fault : (size : ℕ) (held : Option (List (List ℕ))) (reels : List Re
 ends_fault size held reels why ended w (inl is) tells =
     ends_as size held reels status.Unread ended (codes "DISC READ\n") w (λ whole. inl whole) (inr (inl refl)) (subst (λ (f : LookFault). TellsFault f ended w) is tells)
 ends_fault size held reels why ended w (inr (inl is)) tells =
-    ends_as size held reels status.Unread ended (codes "TAPE READ\n") w (λ whole. inr whole) (inr (inr (inl refl))) (subst (λ (f : LookFault). TellsFault f ended w) is tells)
+    ends_as size held reels status.Unread ended (codes "TAPE READ\n") w (λ whole. inr whole) (inr (inr refl)) (subst (λ (f : LookFault). TellsFault f ended w) is tells)
 ends_fault size held reels why ended w (inr (inr is)) tells =
     let quiet : EndsQuietly status.NoMemory ended w = subst (λ (f : LookFault). TellsFault f ended w) is tells in
     subst (λ (s : Status). EndsCheck s size held reels w) (sym quiet.0) quiet.1

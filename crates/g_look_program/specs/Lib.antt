@@ -1,3 +1,4 @@
+pub mod BothRacks
 pub mod Exit
 pub mod Telling
 pub mod Words

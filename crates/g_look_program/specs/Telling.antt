@@ -62,6 +62,10 @@ IsCutOf IsSo w = (text : List ℕ) × IsSo text × IsCut text w
 abbrev pub IsFaultLine : List ℕ → Type 0
 IsFaultLine text = (text ≡ codes "DISC READ\n") ⊎ ((text ≡ codes "TAPE READ\n") ⊎ ((text ≡ codes "NO FILESTORE\n") ⊎ ((text ≡ codes "NO USER\n") ⊎ (text ≡ codes "NO COPY\n"))))
 
+-- The line of a check that couldn't read a device.
+abbrev pub IsReadLine : List ℕ → Type 0
+IsReadLine text = (text ≡ codes "DISC READ\n") ⊎ (text ≡ codes "TAPE READ\n")
+
 -- A TEXT IS PRINTED; the status is `due`, unless the sink fails.
 abbrev pub Puts : Status → List ℕ → Status → Written → Type 0
 Puts due text ended w = ((ended ≡ due) × IsWhole text w) ⊎ ((ended ≡ status.OutputFault) × IsCut text w)
@@ -149,7 +153,7 @@ EndsCheck status.Nothing size held reels w = IsTextOf size held reels None None 
 EndsCheck status.No size held reels w =
     ((b : Broken) × (missing : Option ℕ) × IsTextOf size held reels (Some b) missing w) ⊎ ((n : ℕ) × IsTextOf size held reels None (Some n) w)
 EndsCheck status.Unread size held reels w = IsWhole (codes "DISC READ\n") w ⊎ IsWhole (codes "TAPE READ\n") w
-EndsCheck status.OutputFault size held reels w = IsCutOf (λ text. ((broken : Option Broken) × (missing : Option ℕ) × IsChecked size held reels broken missing text) ⊎ IsFaultLine text) w
+EndsCheck status.OutputFault size held reels w = IsCutOf (λ text. ((broken : Option Broken) × (missing : Option ℕ) × IsChecked size held reels broken missing text) ⊎ IsReadLine text) w
 EndsCheck status.NoMemory size held reels w = IsQuiet w
 EndsCheck status.Words size held reels w = ⊥
 EndsCheck status.NoSeal size held reels w = ⊥
@@ -168,10 +172,10 @@ IsToldOf status.No = Unit {0}
 IsToldOf status.Nothing = Unit {0}
 IsToldOf ended = ⊥
 
--- The text is printed, and the status is No; or nothing is, if the text is empty. Or memory ran out.
+-- The text is printed, and the status is No; or memory for it ran out. If it is empty, nothing is printed, and no memory is needed.
 abbrev pub EndsLines : Status → List ℕ → Status → Written → Type 0
 EndsLines so_far text ended w =
-    ((text ≡ []) × EndsQuietly so_far ended w) ⊎ (((text ≢ []) × Puts status.No text ended w) ⊎ EndsQuietly status.NoMemory ended w)
+    ((text ≡ []) × EndsQuietly so_far ended w) ⊎ ((text ≢ []) × (Puts status.No text ended w ⊎ EndsQuietly status.NoMemory ended w))
 
 -- THE END OF A CHECK AGAINST A SEAL in a second rack, after one of the first that ended with the status `so_far`. After a failure nothing is printed.
 abbrev pub EndsRottenTwins : Status → List ℕ → Status → Written → Type 0

@@ -10,15 +10,15 @@ ghost use Rattle.g_look_program.specs.Telling as told;
 
 use crate::Status;
 use crate::answer::{IMAGE, NO_IMAGE, RACK, second_rack};
+use crate::both_racks::{Racks, look_against_both};
 use crate::mount::mount_all;
 use crate::tell::{put, tell_check, tell_refused, tell_report};
-use crate::twins::{tell_rotten_twins, tell_twins};
 use g_devices::look_at;
 use g_disc::Disc;
 use g_io::Sink;
 use g_known::KnownReels;
-use g_look::{LookFault, check};
-use g_seal::{Seal, SealFault, Twins, parse_seal, rotten, twins_of};
+use g_look::check;
+use g_seal::{Seal, SealFault, Twins, parse_seal, rotten};
 use g_tape::Tapes;
 use std::alloc::Global;
 use std::fs::File;
@@ -75,8 +75,8 @@ fn against_files<K: Sink>(rt: &HostRuntime, seal: Seal, out: &mut K) -> u8
         Err(fault) if fault.kind() == ErrorKind::OutOfMemory => return Status::NoMemory.code(),
         Err(_) => return NO_IMAGE,
     };
-    let mut tapes = KnownReels::new(rt.alloc(), tapes);
-    if !mount_all(&mut tapes) {
+    let mut first = KnownReels::new(rt.alloc(), tapes);
+    if !mount_all(&mut first) {
         return NO_IMAGE;
     }
     let alloc = rt.alloc();
@@ -88,29 +88,15 @@ fn against_files<K: Sink>(rt: &HostRuntime, seal: Seal, out: &mut K) -> u8
                 seal,
                 twins: &twins,
             };
-            return look_against(alloc, against, out, &mut disc, &mut tapes).code();
+            return look_against(alloc, against, out, &mut disc, &mut first).code();
         }
         Err(code) => return code,
     };
     if !mount_all(&mut second) {
         return NO_IMAGE;
     }
-    let twins = match twins_of(alloc, &mut second, &seal) {
-        Ok(twins) => twins,
-        Err(LookFault::TapeUnread) => return put(out, b"TAPE READ\n", Status::Unread).code(),
-        Err(_) => return Status::NoMemory.code(),
-    };
-    let against = Against {
-        seal,
-        twins: &twins,
-    };
-    let status = look_against(alloc, against, out, &mut disc, &mut tapes);
-    match status {
-        Status::Done | Status::No | Status::Nothing => {}
-        _ => return status.code(),
-    }
-    let status = tell_twins(alloc, out, &mut tapes, &mut second, status);
-    tell_rotten_twins(alloc, &twins, out, status).code()
+    let mut racks = Racks { first, second };
+    look_against_both(alloc, seal, out, &mut disc, &mut racks).code()
 }
 
 /// Checks disc and rack, and reports which bytes have changed since this seal: the text of a check is printed, and the report after it. The report is made
@@ -120,7 +106,7 @@ pub fn look_against<K: Sink, D: Disc, T: Tapes>(
     against: Against,
     out: &mut K,
     disc: &mut D,
-    tapes: &mut KnownReels<T>,
+    tapes: &mut T,
 ) -> Status
     requires size { 2177 < (D.state disc.old).size }
     requires mounted { All (λ r. r.mounted ≡ true) (T.rack tapes.old).reels }

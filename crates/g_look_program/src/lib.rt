@@ -3,6 +3,7 @@
 
 mod against;
 mod answer;
+mod both_racks;
 mod mount;
 mod status;
 mod tell;
@@ -12,6 +13,7 @@ mod words;
 use crate::answer::answer;
 pub use against::{Against, look_against};
 pub use answer::look;
+pub use both_racks::{Racks, look_against_both};
 use g_devices::{placeholders, texts_of, words_of};
 pub use status::Status;
 use std::process::ExitCode;
