@@ -1,6 +1,7 @@
 -- The same devices after an event: reads, writes, mounts and arming preserve the identity of disc and reels.
 -- serves: CauseLemmas, JobLemmas, LineLemmas, UpLemmas, crates above
-use Rattle.std.proofs.Common.{◌≡◌, ◌==◌, ◌≤◌, ℕ, Bool, true, false, List, [], ◌∷◌, map, refl, sym, ◌∙◌, ap, if◌then◌else◌, arith}
+use Rattle.std.proofs.Common.{◌≡◌, ◌==◌, ◌≤◌, ℕ, List, [], ◌∷◌, map, refl, sym, ◌∙◌, ap, if◌then◌else◌, arith}
+use Rattle.g_base.proofs.KeyLemmas.{map-change_same}
 use Rattle.g_script.specs.declared.operator.Operator.{Operator}
 use Rattle.g_script.specs.declared.operator.Operator.TheVariants as line
 use Rattle.g_tape.specs.Rack.{with_reel}
@@ -12,12 +13,7 @@ use Rattle.g_day.specs.System.{SameDevices, labels}
 
 -- what one changed reel preserves, all preserve
 pub parts_with : {X : Type 0} (part : Reel → X) (s : ℕ) (f : Reel → Reel) → ((r : Reel) → part (f r) ≡ part r) → (reels : List Reel) → map part (with_reel s f reels) ≡ map part reels
-parts_with part s f keeps [] = refl
-parts_with {X = X} part s f keeps (r ∷ reels) = by (s == r.serial) (parts_with part s f keeps reels)
-  where
-    by : (b : Bool) → map part (with_reel s f reels) ≡ map part reels → map part (if b then f r ∷ reels else r ∷ with_reel s f reels) ≡ map part (r ∷ reels)
-    by true rest = ap (λ (x : X). x ∷ map part reels) (keeps r)
-    by false rest = ap (λ (xs : List X). part r ∷ xs) rest
+parts_with part s f keeps reels = map-change_same (λ (r : Reel). s == r.serial) f part keeps reels
 
 -- a reel that is changed in neither
 pub labels_with : (s : ℕ) (f : Reel → Reel) → ((r : Reel) → (f r).serial ≡ r.serial) → ((r : Reel) → (f r).capacity ≡ r.capacity) → (reels : List Reel) → labels (with_reel s f reels) ≡ labels reels

@@ -1,12 +1,12 @@
 -- Copying a reel from its twin, block by block.
 -- serves: copy_block, copy_reel, RebuildLemmas
-use Rattle.std.proofs.Common.{◌≡◌, ℕ, zero, suc, ◌+◌, ◌<◌, ◌≤◌, List, [], ◌∷◌, ◌++◌, Bool, true, false, not, ◌&&◌, ◌==◌, Option, Some, None, option_map, Ok, Err, if◌then◌else◌, length, take, refl, sym, subst, ap, ◌∙◌, inl, inr, arith}
+use Rattle.std.proofs.Common.{◌≡◌, ℕ, zero, suc, ◌+◌, ◌<◌, ◌≤◌, List, [], ◌∷◌, ◌++◌, Bool, true, false, not, ◌&&◌, ◌==◌, Option, Some, None, option_map, Ok, Err, if◌then◌else◌, length, take, refl, sym, subst, ap, ◌∙◌, arith}
 use Rattle.std.specs.Option.{ForSome}
 use Rattle.std.specs.Prelude.{slice_get}
 use Rattle.std.proofs.lemmas.Bool.{lt-ltb, le-ltb}
-use Rattle.std.proofs.lemmas.Bool.Decides.{eqb_tells}
 use Rattle.std.proofs.lemmas.List.{take_all}
 use Rattle.g_base.specs.Counts.{Rose}
+use Rattle.g_base.proofs.KeyLemmas.{change-twice}
 use Rattle.g_tape.specs.declared.fault.TapeFault.{TapeFault}
 use Rattle.g_tape.specs.declared.fault.TapeFault.TheVariants as tape
 use Rattle.g_tape.specs.Reel.{Reel, Remains, Shortened, Torn, Unchanged, ending, left_by}
@@ -28,14 +28,7 @@ Blocks = List (List ℕ)
 
 -- One change after another.
 with_reel_twice : (s : ℕ) (g f : Reel → Reel) → ((r : Reel) → (f r).serial ≡ r.serial) → (rs : List Reel) → with_reel s g (with_reel s f rs) ≡ with_reel s (λ (r : Reel). g (f r)) rs
-with_reel_twice s g f keeps [] = refl
-with_reel_twice s g f keeps (r ∷ rs) =
-    elim (eqb_tells s r.serial) [
-      | inl here ↦
-          let there : (s == (f r).serial) ≡ true = ap (λ (n : ℕ). s == n) (keeps r) ∙ here.0 in
-          rw (here.0, there) refl
-      | inr apart ↦ rw (apart.0, apart.0) (ap (λ (xs : List Reel). r ∷ xs) (with_reel_twice s g f keeps rs))
-    ]
+with_reel_twice s g f keeps rs = change-twice (λ (r : Reel). s == r.serial) f g (λ (r : Reel). g (f r)) (λ r. ap (λ (n : ℕ). s == n) (keeps r)) (λ r. refl) rs
 
 keeps_nothing : KeepsLabel (λ (r : Reel). r)
 keeps_nothing = record { serial = λ r. refl; capacity = λ r. refl; mounted = λ r. refl }

@@ -3,6 +3,7 @@
 use Rattle.std.proofs.Common.{◌≡◌, ℕ, List, [], ◌∷◌, Bool, true, false, ◌==◌, Option, Some, None, Result, Ok, Err, if◌then◌else◌, map, refl, sym, subst, ap, ◌∙◌, inl, inr, ◌⊎◌}
 use Rattle.std.proofs.lemmas.Bool.{ne_eqb}
 use Rattle.std.proofs.lemmas.Bool.Decides.{eqb_tells}
+use Rattle.g_base.proofs.KeyLemmas.{change-same}
 use Rattle.g_tape.specs.declared.fault.TapeFault.{TapeFault}
 use Rattle.g_tape.specs.declared.fault.TapeFault.TheVariants.{NoTape, NotMounted}
 use Rattle.g_tape.specs.Reel.{Reel, with_mounted}
@@ -183,16 +184,11 @@ pair_refuses_mount s p first' fault paired (refused, left) =
 
 -- an unmount, however it is answered, leaves the reel unmounted
 unmounted_same : (s : ℕ) (xs : List Reel) (x : Reel) → reel s xs ≡ Some x → x.mounted ≡ false → with_reel s (with_mounted false) xs ≡ xs
-unmounted_same s [] x is down = refl
-unmounted_same s (y ∷ ys) x is down =
-    elim (eqb_tells s y.serial) [
-      | inl here ↦
-          let same : Some y ≡ Some x = rw here.0 at is in
-          let one : y ≡ x = cc in
-          let up : y.mounted ≡ false = ap (λ (r : Reel). r.mounted) one ∙ down in
-          rw here.0 (ap (λ (m : Bool). let r : Reel = record y { mounted = m } in r ∷ ys) (sym up))
-      | inr apart ↦ rw apart.0 (ap (λ (rs : List Reel). y ∷ rs) (unmounted_same s ys x (rw apart.0 at is) down))
-    ]
+unmounted_same s xs x is down = change-same (λ (y : Reel). s == y.serial) (with_mounted false) xs
+    (λ y at.
+    let both : Some y ≡ Some x = sym at ∙ is in
+    let one : y ≡ x = cc in
+    ap (λ (m : Bool). let r : Reel = record y { mounted = m } in r) (sym (ap (λ (r : Reel). r.mounted) one ∙ down)))
 
 unmount_down : (x : Reel) (fault : TapeFault) → refuses_unmount (Some x) ≡ Some fault → x.mounted ≡ false
 unmount_down x fault is = by x.mounted is

@@ -3,6 +3,7 @@
 use Rattle.std.proofs.Common.{◌≡◌, ℕ, List, [], ◌∷◌, true, false, ◌==◌, Option, Some, None, refl, sym, ap, ◌∙◌, inl, inr, eq-eqb, subst, length, map, arith}
 use Rattle.std.proofs.lemmas.Bool.{ne_eqb}
 use Rattle.std.proofs.lemmas.Bool.Decides.{eqb_tells}
+use Rattle.g_base.proofs.KeyLemmas.{change-same, map-change_same}
 use Rattle.g_tape.specs.Reel.{Reel}
 use Rattle.g_tape.specs.Rack.{reel, with_reel}
 use Rattle.g_duplex.specs.Twins.{AreTwins, pair_reel}
@@ -118,12 +119,7 @@ paired_changed s g h c (t ∷ ts) (a ∷ xs) (b ∷ ys) (twins, rest) each =
 
 -- nothing is changed by a change that keeps
 pub same_reels : (s : ℕ) (xs : List Reel) → with_reel s (λ (r : Reel). r) xs ≡ xs
-same_reels s [] = refl
-same_reels s (x ∷ xs) =
-    elim (eqb_tells s x.serial) [
-      | inl here ↦ rw here.0 refl
-      | inr apart ↦ rw apart.0 (ap (λ (rs : List Reel). x ∷ rs) (same_reels s xs))
-    ]
+same_reels s xs = change-same (λ (x : Reel). s == x.serial) (λ x. x) xs (λ x is. refl)
 
 pub same_standings : (s : ℕ) (xs : List Reel) (ts : List Standing) → length ts ≡ length xs → with_standing s (λ (t : Standing). t) xs ts ≡ ts
 same_standings s [] ts long = refl
@@ -136,9 +132,4 @@ same_standings s (x ∷ xs) (t ∷ ts) long =
 
 -- labels stay
 pub labels_kept : (s : ℕ) (g : Reel → Reel) → ((r : Reel) → (g r).serial ≡ r.serial) → (xs : List Reel) → map (λ (r : Reel). r.serial) (with_reel s g xs) ≡ map (λ (r : Reel). r.serial) xs
-labels_kept s g keeps [] = refl
-labels_kept s g keeps (x ∷ xs) =
-    elim (eqb_tells s x.serial) [
-      | inl here ↦ rw here.0 (ap (λ (n : ℕ). n ∷ map (λ (r : Reel). r.serial) xs) (keeps x))
-      | inr apart ↦ rw apart.0 (ap (λ (ns : List ℕ). x.serial ∷ ns) (labels_kept s g keeps xs))
-    ]
+labels_kept s g keeps xs = map-change_same (λ (x : Reel). s == x.serial) g (λ (x : Reel). x.serial) keeps xs

@@ -1,15 +1,17 @@
 -- Reels after a power loss have the dumps that survive it, and belong to the same states.
 -- serves: DeviceLemmas, EventLemmas, ProcessLossLemmas, ProcessStateLemmas, RefusalLemmas, StepLemmas, StepStateLemmas, SurvivalLemmas
-use Rattle.std.proofs.Common.{◌≡◌, ℕ, zero, suc, Bool, true, false, List, [], ◌∷◌, map, Option, Some, None, is_some, refl, sym, ◌∙◌, ap, arith, subst, inl, inr, if◌then◌else◌}
-use Rattle.std.specs.Prelude.{◌⊎◌, ◌==◌, All, Contains, IfSome}
+use Rattle.std.proofs.Common.{◌≡◌, ℕ, zero, suc, true, false, List, [], ◌∷◌, map, Option, Some, None, is_some, refl, sym, ◌∙◌, ap, arith, subst}
+use Rattle.std.specs.Prelude.{◌==◌, All, Contains, IfSome}
 use Rattle.std.specs.List.{AllZip}
 use Rattle.std.specs.Option.{ForSome}
-use Rattle.std.proofs.lemmas.Bool.{cases_Bool, eq-eqb, eqb-true}
-use Rattle.std.proofs.lemmas.List.Elements.{All-head, All-tail, All-weaker}
+use Rattle.std.proofs.lemmas.Bool.{eq-eqb}
+use Rattle.std.proofs.lemmas.List.Elements.{All-contains, All-weaker}
+use Rattle.g_base.proofs.KeyLemmas.{find-some}
 use Rattle.g_tape.specs.Durable.{AfterPowerLoss}
 use Rattle.g_tape.specs.Rack.{Rack, reel}
 use Rattle.g_tape.specs.Reads.{blocks_in, unread}
 use Rattle.g_tape.specs.Reel.{Reel}
+use Rattle.g_tape.proofs.PlaceLemmas.{reel-found}
 use Rattle.g_disc_contents.specs.Contents.{Contents, File, Holds}
 use Rattle.g_incr.specs.Layout.{Dump}
 use Rattle.g_shelf.specs.CompletedDumps.{AreCompleted, AreShelved}
@@ -19,45 +21,31 @@ use Rattle.g_store_meaning.specs.Belonging.{BelongWith}
 use Rattle.g_store_meaning.specs.Meaning.{told_reels}
 use Rattle.g_store_meaning.specs.Reading.{AllTold, DevicesStandFor, HasText, IsRackView, IsView, ReelsTold, View, row_of, state_down}
 use Rattle.g_laws_store.proofs.DumpingLemmas.{moved_disc, moved_dumps, moved_rack}
+use Rattle.g_laws_store.proofs.WaitingLemmas.{mapped_there}
 use Rattle.g_store_meaning.specs.Safety.{IsLike, IsRackLeft, IsReelLeft, IsRowLike, StandLike}
 
 -- A REEL AMONG OTHERS is found by its serial, if all of them expose their blocks
 found_told : (rs : List Reel) (r : Reel) → Contains rs r → All (λ x. is_some x.blocks ≡ true) (map unread rs) → (blocks : List (List ℕ)) × (blocks_in (reel r.serial rs) ≡ Some blocks)
-found_told [] r (i, inside, at) told = absurd (let no : ⊥ = omega (arith, inside) in no)
-found_told (x ∷ xs) r there told =
-    by_first (cases_Bool (r.serial == x.serial)) there (λ more. found_told xs r more (All-tail (λ (y : Reel). is_some y.blocks ≡ true) (unread x) (map unread xs) told))
+found_told rs r there told = by (reel r.serial rs) refl (find-some (λ (x : Reel). r.serial == x.serial) rs r there (eq-eqb r.serial r.serial refl))
   where
     some_in : (o : Option (List (List ℕ))) → is_some o ≡ true → (blocks : List (List ℕ)) × (o ≡ Some blocks)
     some_in None is = absurd (let no : ⊥ = cc in no)
     some_in (Some blocks) is = (blocks, refl)
 
-    by_first : ((r.serial == x.serial) ≡ true) ⊎ ((r.serial == x.serial) ≡ false) → Contains (x ∷ xs) r
-        → (Contains xs r → (blocks : List (List ℕ)) × (blocks_in (reel r.serial xs) ≡ Some blocks)) → (blocks : List (List ℕ)) × (blocks_in (reel r.serial (x ∷ xs)) ≡ Some blocks)
-    by_first (inl same) there rest =
-        let (blocks, is) = some_in x.blocks (All-head (λ (y : Reel). is_some y.blocks ≡ true) (unread x) (map unread xs) told) in
-        (blocks, ap (λ (b : Bool). blocks_in (if b then Some x else reel r.serial xs)) same ∙ is)
-    by_first (inr other) (zero, inside, at) rest =
-        absurd (let same : (r.serial == x.serial) ≡ true = eq-eqb r.serial x.serial (ap (λ (y : Reel). y.serial) (sym at)) in let no : ⊥ = cc in no)
-    by_first (inr other) (suc i, inside, at) rest =
-        let (blocks, is) = rest (i, omega (arith, inside), at) in
-        (blocks, ap (λ (b : Bool). blocks_in (if b then Some x else reel r.serial xs)) other ∙ is)
+    by : (o : Option Reel) → reel r.serial rs ≡ o → is_some o ≡ true → (blocks : List (List ℕ)) × (blocks_in (reel r.serial rs) ≡ Some blocks)
+    by None at some = absurd (let no : ⊥ = cc in no)
+    by (Some x) at some =
+        let among = mapped_there unread rs x (reel-found r.serial rs x at).0 in
+        let (blocks, is) = some_in x.blocks (All-contains (λ (y : Reel). is_some y.blocks ≡ true) (map unread rs) (unread x) told among) in
+        (blocks, ap blocks_in at ∙ is)
 
 -- it is one of the exposed reels
 there_told : (rs : List Reel) (n : ℕ) (blocks : List (List ℕ)) → blocks_in (reel n rs) ≡ Some blocks → (r : Reel) × Contains (map unread rs) r × (r.serial ≡ n) × (r.blocks ≡ Some blocks)
-there_told [] n blocks is = absurd (let no : ⊥ = cc in no)
-there_told (x ∷ xs) n blocks is = by_first (cases_Bool (n == x.serial)) (there_told xs n blocks)
+there_told rs n blocks is = by (reel n rs) refl is
   where
-    by_first : ((n == x.serial) ≡ true) ⊎ ((n == x.serial) ≡ false)
-        → (blocks_in (reel n xs) ≡ Some blocks → (r : Reel) × Contains (map unread xs) r × (r.serial ≡ n) × (r.blocks ≡ Some blocks)) → (r : Reel) × Contains (map unread (x ∷ xs)) r × (r.serial ≡ n) × (r.blocks ≡ Some blocks)
-    by_first (inl same) rest = (
-      unread x,
-      (0, omega arith, refl),
-      sym (eqb-true n x.serial same),
-      sym (ap (λ (b : Bool). blocks_in (if b then Some x else reel n xs)) same) ∙ is,
-    )
-    by_first (inr other) rest =
-        let (r, (i, inside, at), named, has) = rest (sym (ap (λ (b : Bool). blocks_in (if b then Some x else reel n xs)) other) ∙ is) in
-        (r, (suc i, omega (arith, inside), at), named, has)
+    by : (o : Option Reel) → reel n rs ≡ o → blocks_in o ≡ Some blocks → (r : Reel) × Contains (map unread rs) r × (r.serial ≡ n) × (r.blocks ≡ Some blocks)
+    by None at is = absurd (let no : ⊥ = cc in no)
+    by (Some x) at is = let (there, named) = reel-found n rs x at in (unread x, mapped_there unread rs x there, named, is)
 
 -- THE REELS ARE THE SAME ONES, and exposed
 pub serials_in : (old : Rack) (xs ys : List Reel) → AllZip (IsReelLeft old) xs ys → map (λ (r : Reel). r.serial) (map unread ys) ≡ map (λ (r : Reel). r.serial) (map unread xs)

@@ -1,7 +1,6 @@
 -- What is dumped stays dumped, so no RESTORE names what is lost.
 -- serves: nothing_is_lost
-use Rattle.std.proofs.Common.{◌≡◌, ◌==◌, ◌&&◌, ℕ, Bool, true, false, List, [], ◌∷◌, Option, Some, None, Result, Ok, Err, MatchOption, refl, sym, ◌∙◌, ap, subst, inl, inr, if◌then◌else◌}
-use Rattle.std.specs.Prelude.{◌⊎◌}
+use Rattle.std.proofs.Common.{◌≡◌, ℕ, Bool, true, false, List, [], ◌∷◌, Option, Some, None, Result, Ok, Err, MatchOption, refl, sym, ◌∙◌, ap, subst, inl, inr}
 use Rattle.std.specs.List.{list_all}
 use Rattle.std.specs.Fn.{Shared}
 use denote.Ref.{Bor}
@@ -19,7 +18,7 @@ use Rattle.g_run_model.specs.Laws.{HasDumped}
 use Rattle.g_run_model.specs.Moves.{Move, Run, Step}
 use Rattle.g_run_model.specs.World.{World, start}
 use Rattle.g_run_model.proofs.DeviceDumpLemmas.{devices_dumped}
-use Rattle.g_run_model.proofs.KeptDumpLemmas.{call_keeps, dump_keeps, format_keeps, migrate_keeps, mount_keeps, open_keeps, restore_keeps, start_keeps, unmount_keeps}
+use Rattle.g_run_model.proofs.KeptDumpLemmas.{call_keeps, changed_none, dump_keeps, format_keeps, migrate_keeps, mount_keeps, open_keeps, restore_keeps, start_keeps, unmount_keeps}
 use Rattle.g_run_model.proofs.ProcessedLemmas.{process_keeps}
 use Rattle.g_laws_runs.specs.NoLoss.{NothingIsLost}
 use Rattle.g_laws_runs.proofs.WalkLemmas.{AreKept, move_kept}
@@ -44,12 +43,7 @@ dumped_kept = record {
 
 -- a step of a dump that was cut
 used_none : (b : Bool) (at : ℕ) (rs : List ReelRow) → list_all has_none (with_reel at (with_used b) rs) ≡ list_all has_none rs
-used_none b at [] = refl
-used_none b at (r ∷ rs) = by (at == r.serial) (used_none b at rs)
-  where
-    by : (c : Bool) → list_all has_none (with_reel at (with_used b) rs) ≡ list_all has_none rs → list_all has_none (if c then with_used b r ∷ rs else r ∷ with_reel at (with_used b) rs) ≡ list_all has_none (r ∷ rs)
-    by true rest = refl
-    by false rest = ap (λ (c : Bool). has_none r && c) rest
+used_none b at rs = changed_none (with_used b) (λ r. refl) at rs
 
 has_at : (s new : State) → new ≡ s → HasDumped s → HasDumped new
 has_at s new is has = subst (λ (x : State). HasDumped x) (sym is) has

@@ -1,10 +1,11 @@
 -- The rules 5 to 9, for the dumps in memory and for the dumps themselves.
 -- serves: capacity_of, end_upto, judge_head (none, some), judge_intent (none, some), length_of, CheckedLemmas, CompareLemmas, CopyLemmas, and 7 more
 use Rattle.std.proofs.Common.{◌≡◌, ◌≢◌, ◌⊎◌, inl, inr, ℕ, zero, suc, ◌+◌, ◌<◌, ◌≤◌, Bool, true, false, cond, ◌&&◌, List, [], ◌∷◌, ◌++◌, length, filter, map, take, Option, Some, None, Result, Ok, Err, refl, sym, ◌∙◌, ap, arith, subst, All}
-use Rattle.std.specs.Prelude.{◌==◌, AllPairs, Contains, IfNone, IfSome, get_or, if◌then◌else◌, is_some, nat_le}
-use Rattle.std.proofs.lemmas.Bool.{cases_eq, cond-false, cond-true, eq-eqb, ne_eqb}
+use Rattle.std.specs.Prelude.{option_map, ◌==◌, AllPairs, Contains, IfNone, IfSome, get_or, if◌then◌else◌, is_some, nat_le}
+use Rattle.std.proofs.lemmas.Bool.{cond-false, cond-true, eq-eqb, ne_eqb}
 use Rattle.std.proofs.lemmas.List.{get_or-map, get_or_default, length-map, take_more}
 use Rattle.std.proofs.lemmas.List.Elements.{All-contains, filter-append}
+use Rattle.g_base.proofs.KeyLemmas.{AreApart-pairs, at_key-itself, find-some}
 use Rattle.g_entry.specs.declared.head.Head.{Head}
 use Rattle.g_entry.specs.declared.head.Intent.{Intent}
 use Rattle.g_entry.specs.HeadFields.{IsHead, IsIntent}
@@ -13,6 +14,8 @@ use Rattle.g_tape.specs.declared.fault.TapeFault.TheVariants as tape
 use Rattle.g_tape.specs.Rack.{Rack, reel, refuses_unmount, told_of}
 use Rattle.g_tape.specs.Reads.{blocks_in, blocks_of, unread}
 use Rattle.g_tape.specs.Reel.{Reel}
+use Rattle.g_tape.proofs.PlaceLemmas.{reel-found}
+use Rattle.g_tape.proofs.ReadLemmas.{reel-unread}
 use Rattle.g_tree.proofs.ListLemmas.{contains_cases, contains_first, contains_more, pairs_first, pairs_rest}
 use Rattle.g_disc_contents.specs.Contents.{Contents}
 use Rattle.g_incr.specs.Layout.{Dump, StandsOn, count_of, ends}
@@ -485,25 +488,18 @@ same_ok m n is = cc
 
 module _ (number : Reel → ℕ) where
   told_none : (rs : List Reel) (serial : ℕ) (e : TapeFault) → Err e ≡ told_of number (reel serial rs) → (r : Reel) → Contains rs r → r.serial ≡ serial → ⊥
-  told_none [] serial e is r (i, inside, at) on = let no : ⊥ = omega (arith, inside) in no
-  told_none (q ∷ qs) serial e is r there on = by_serial (cases_eq serial q.serial) (contains_cases q r qs there) (λ is_rest more. told_none qs serial e is_rest r more on)
+  told_none rs serial e is r there on = by (reel serial rs) is (find-some (λ (q : Reel). serial == q.serial) rs r there (eq-eqb serial r.serial (sym on)))
     where
-      by_serial : (serial ≡ q.serial) ⊎ (serial ≡ q.serial → ⊥) → (q ≡ r) ⊎ Contains qs r → (Err e ≡ told_of number (reel serial qs) → Contains qs r → ⊥) → ⊥
-      by_serial (inl same) where_r rest =
-          not_ok e (number q) (is ∙ ap (told_of number) (cond-true (serial == q.serial) (Some q) (reel serial qs) (eq-eqb serial q.serial same)))
-      by_serial (inr other) (inl here) rest = other (sym on ∙ ap (λ (x : Reel). x.serial) (sym here))
-      by_serial (inr other) (inr more) rest = rest (is ∙ ap (told_of number) (cond-false (serial == q.serial) (Some q) (reel serial qs) (ne_eqb serial q.serial other))) more
+      by : (o : Option Reel) → Err e ≡ told_of number o → is_some o ≡ true → ⊥
+      by None is some = cc
+      by (Some q) is some = not_ok e (number q) is
 
 told_some : (rs : List Reel) (serial n : ℕ) → Ok n ≡ told_of (λ r. r.len) (reel serial rs) → (r : Reel) × Contains rs r × (r.serial ≡ serial)
-told_some [] serial n is = absurd (let no : ⊥ = cc in no)
-told_some (q ∷ qs) serial n is = by_serial (cases_eq serial q.serial) (told_some qs serial n)
+told_some rs serial n is = by (reel serial rs) refl is
   where
-    by_serial : (serial ≡ q.serial) ⊎ (serial ≡ q.serial → ⊥) → (Ok n ≡ told_of (λ r. r.len) (reel serial qs) → (r : Reel) × Contains qs r × (r.serial ≡ serial))
-        → (r : Reel) × Contains (q ∷ qs) r × (r.serial ≡ serial)
-    by_serial (inl same) rest = (q, contains_first q qs, sym same)
-    by_serial (inr other) rest =
-        let (r, there, on) = rest (is ∙ ap (told_of (λ r. r.len)) (cond-false (serial == q.serial) (Some q) (reel serial qs) (ne_eqb serial q.serial other))) in
-        (r, contains_more q r qs there, on)
+    by : (o : Option Reel) → reel serial rs ≡ o → Ok n ≡ told_of (λ r. r.len) o → (r : Reel) × Contains rs r × (r.serial ≡ serial)
+    by None at is = absurd (let no : ⊥ = cc in no)
+    by (Some q) at is = let (there, on) = reel-found serial rs q at in (q, there, on)
 
 unread_there : (rs : List Reel) (r : Reel) → Contains (map unread rs) r → (q : Reel) × Contains rs q × (unread q ≡ r)
 unread_there [] r (i, inside, at) = absurd (let no : ⊥ = omega (arith, inside) in no)
@@ -539,38 +535,27 @@ is_reel rack serial n is =
     (unread q, there_unread rack.reels q there, on)
 
 -- the blocks of a reel in the rack
-blocks_at : (serial : ℕ) (r : Reel) → r.serial ≡ serial → (rs : List Reel) → AllPairs OtherSerial (map unread rs) → Contains (map unread rs) r → blocks_in (reel serial rs) ≡ r.blocks
-blocks_at serial r on [] apart (i, inside, at) = absurd (let no : ⊥ = omega (arith, inside) in no)
-blocks_at serial r on (q ∷ qs) apart there =
-    by_place (contains_cases (unread q) r (map unread qs) there) (blocks_at serial r on qs (pairs_rest OtherSerial (unread q) (map unread qs) apart))
+found_there : (serial : ℕ) (r : Reel) → r.serial ≡ serial → (rs : List Reel) → AllPairs OtherSerial (map unread rs) → Contains (map unread rs) r → (q : Reel) × (reel serial rs ≡ Some q) × (unread q ≡ r)
+found_there serial r on rs apart there =
+    let among : reel r.serial (map unread rs) ≡ Some r = at_key-itself (λ (x : Reel). x.serial) (map unread rs) r (AreApart-pairs (λ (x : Reel). x.serial) (map unread rs) apart) there in
+    by (reel serial rs) refl (sym (reel-unread serial rs) ∙ ap (λ (n : ℕ). reel n (map unread rs)) (sym on) ∙ among)
   where
-    by_place : (unread q ≡ r) ⊎ Contains (map unread qs) r → (Contains (map unread qs) r → blocks_in (reel serial qs) ≡ r.blocks) → blocks_in (reel serial (q ∷ qs)) ≡ r.blocks
-    by_place (inl is) rest =
-        ap blocks_in (cond-true (serial == q.serial) (Some q) (reel serial qs) (eq-eqb serial q.serial (sym on ∙ ap (λ (x : Reel). x.serial) (sym is)))) ∙ ap (λ (x : Reel). x.blocks) is
-    by_place (inr more) rest =
-        let other = All-contains (OtherSerial (unread q)) (map unread qs) r (pairs_first OtherSerial (unread q) (map unread qs) apart) more in
-        ap blocks_in (cond-false (serial == q.serial) (Some q) (reel serial qs) (ne_eqb serial q.serial (λ same. other (sym same ∙ sym on)))) ∙ rest more
+    by : (o : Option Reel) → reel serial rs ≡ o → option_map unread o ≡ Some r → (q : Reel) × (reel serial rs ≡ Some q) × (unread q ≡ r)
+    by None at is = absurd (let no : ⊥ = cc in no)
+    by (Some q) at is =
+        let both : Some (unread q) ≡ Some r = is in
+        let same : unread q ≡ r = cc in
+        (q, at, same)
 
 pub blocks_there : (rack : Rack) (serial : ℕ) (r : Reel) → AllPairs OtherSerial (told_reels rack) → Contains (told_reels rack) r → r.serial ≡ serial → blocks_of serial rack ≡ r.blocks
-blocks_there rack serial r apart there on = blocks_at serial r on rack.reels apart there
+blocks_there rack serial r apart there on = let (q, at, is) = found_there serial r on rack.reels apart there in ap blocks_in at ∙ ap (λ (x : Reel). x.blocks) is
 
 -- and so is the rack's answer
 module _ (number : Reel → ℕ) (same : (q : Reel) → number (unread q) ≡ number q) where
-  number_at : (serial n : ℕ) (r : Reel) → r.serial ≡ serial → (rs : List Reel) → AllPairs OtherSerial (map unread rs) → Contains (map unread rs) r → Ok n ≡ told_of number (reel serial rs) → n ≡ number r
-  number_at serial n r on [] apart (i, inside, at) is = absurd (let no : ⊥ = omega (arith, inside) in no)
-  number_at serial n r on (q ∷ qs) apart there is =
-      by_place (contains_cases (unread q) r (map unread qs) there) (number_at serial n r on qs (pairs_rest OtherSerial (unread q) (map unread qs) apart))
-    where
-      by_place : (unread q ≡ r) ⊎ Contains (map unread qs) r → (Contains (map unread qs) r → Ok n ≡ told_of number (reel serial qs) → n ≡ number r) → n ≡ number r
-      by_place (inl here) rest =
-          same_ok n (number q) (is ∙ ap (told_of number) (cond-true (serial == q.serial) (Some q) (reel serial qs) (eq-eqb serial q.serial (sym on ∙ ap (λ (x : Reel). x.serial) (sym here)))))
-          ∙ sym (same q) ∙ ap number here
-      by_place (inr more) rest =
-          let other = All-contains (OtherSerial (unread q)) (map unread qs) r (pairs_first OtherSerial (unread q) (map unread qs) apart) more in
-          rest more (is ∙ ap (told_of number) (cond-false (serial == q.serial) (Some q) (reel serial qs) (ne_eqb serial q.serial (λ on_q. other (sym on_q ∙ sym on)))))
-
   pub number_there : (rack : Rack) (serial n : ℕ) → AllPairs OtherSerial (told_reels rack) → Ok n ≡ told_of number (reel serial rack.reels) → (r : Reel) → Contains (told_reels rack) r → r.serial ≡ serial → n ≡ number r
-  number_there rack serial n apart is r there on = number_at serial n r on rack.reels apart there is
+  number_there rack serial n apart is r there on =
+      let (q, at, here) = found_there serial r on rack.reels apart there in
+      same_ok n (number q) (is ∙ ap (told_of number) at) ∙ sym (same q) ∙ ap number here
 
 -- THE RESULTS of the parts, combined
 pub intent_some : (found : List Found) (reels : List Reel) (i : Intent) (last end : ℕ) (o : Option Broken) → (All EndsLow found → end ≡ end_upto i.serial last 0 found)

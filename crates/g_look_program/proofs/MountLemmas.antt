@@ -1,6 +1,7 @@
 -- A rack on which reels were mounted, and nothing else changed.
 -- serves: mount_all
-use Rattle.std.proofs.Common.{◌≡◌, ◌==◌, ℕ, Bool, true, false, List, [], ◌∷◌, Result, Ok, Err, map, refl, sym, ◌∙◌, ap, subst, if◌then◌else◌}
+use Rattle.std.proofs.Common.{◌≡◌, ◌==◌, ℕ, true, List, Result, Ok, Err, map, refl, sym, ◌∙◌, ap, subst}
+use Rattle.g_base.proofs.KeyLemmas.{map-change_same}
 use Rattle.g_tape.specs.declared.fault.TapeFault.{TapeFault}
 use Rattle.g_tape.specs.Reel.{Reel, with_mounted}
 use Rattle.g_tape.specs.Rack.{Mounting, Rack, refuses_mount, with_reel}
@@ -9,13 +10,7 @@ abbrev pub OnlyMounts : Rack → Rack → Type 0
 OnlyMounts old new = (map (with_mounted true) new.reels ≡ map (with_mounted true) old.reels) × (let t : Rack = record old { reels = new.reels } in new ≡ t)
 
 mounted_one : (s : ℕ) (rs : List Reel) → map (with_mounted true) (with_reel s (with_mounted true) rs) ≡ map (with_mounted true) rs
-mounted_one s [] = refl
-mounted_one s (r ∷ rs) = by (s == r.serial) (mounted_one s rs)
-  where
-    by : (b : Bool) → map (with_mounted true) (with_reel s (with_mounted true) rs) ≡ map (with_mounted true) rs
-        → map (with_mounted true) (if b then with_mounted true r ∷ rs else r ∷ with_reel s (with_mounted true) rs) ≡ map (with_mounted true) (r ∷ rs)
-    by true rest = refl
-    by false rest = ap (λ (xs : List Reel). with_mounted true r ∷ xs) rest
+mounted_one s rs = map-change_same (λ (r : Reel). s == r.serial) (with_mounted true) (with_mounted true) (λ r. refl) rs
 
 -- one call
 mounts_one : (s : ℕ) (old : Rack) (result : Result (Unit {0}) TapeFault) (new : Rack) → Mounting refuses_mount true s old result new → OnlyMounts old new

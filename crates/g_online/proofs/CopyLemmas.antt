@@ -2,7 +2,8 @@
 -- serves: make_ready (same), read_filestore (ok), BegunLemmas, BringStepLemmas, ChangeLemmas, ContentLemmas, CopiedPlaces, EntryLemmas, NeedLemmas, and 6 more
 use Rattle.std.proofs.Common.{◌≡◌, ◌≢◌, ℕ, ◌==◌, Bool, true, false, List, [], ◌∷◌, ◌++◌, find, filter, Option, Some, None, refl, sym, ◌∙◌, ap, inl, inr, arith, if◌then◌else◌, option_map}
 use Rattle.std.specs.Prelude.{nat_lt}
-use Rattle.std.proofs.lemmas.Bool.{cases_Bool, cases_eq, cases_order, cond-false, cond-true, eq-eqb, ne_eqb, lt-ltb, le-ltb, true≢false}
+use Rattle.std.proofs.lemmas.Bool.{cases_eq, cases_order, eq-eqb, ne_eqb, lt-ltb, le-ltb, true≢false}
+use Rattle.g_base.proofs.KeyLemmas.{filter-none, find-filter}
 use Rattle.g_copy.specs.declared.copy.DiscCopy.{DiscCopy}
 use Rattle.g_dirs.specs.Directory.{copy_at}
 use Rattle.g_online.specs.Copies.{with_copy_at}
@@ -20,35 +21,17 @@ copy_behind c online n other = ap (λ (b : Bool). option_map (λ (d : ℕ × Dis
 abbrev pub passing : (ℕ → Bool) → Copies → Copies
 passing p online = filter (λ c. p c.0) online
 
-passing_in : (p : ℕ → Bool) (c : ℕ × DiscCopy) (online : Copies) → p c.0 ≡ true → passing p (c ∷ online) ≡ c ∷ passing p online
-passing_in p c online is = cond-true (p c.0) (c ∷ passing p online) (passing p online) is
-
-passing_out : (p : ℕ → Bool) (c : ℕ × DiscCopy) (online : Copies) → p c.0 ≡ false → passing p (c ∷ online) ≡ passing p online
-passing_out p c online is = cond-false (p c.0) (c ∷ passing p online) (passing p online) is
-
 -- a number that passes finds what it found
 pub copy_at-passing : (p : ℕ → Bool) (online : Copies) (n : ℕ) → p n ≡ true → copy_at (passing p online) n ≡ copy_at online n
-copy_at-passing p [] n yes_n = refl
-copy_at-passing p (c ∷ online) n yes_n =
-    elim (cases_Bool (p c.0)) as (λ _. copy_at (passing p (c ∷ online)) n ≡ copy_at (c ∷ online) n) [
-      | inl is ↦ ap (λ (l : Copies). copy_at l n) (passing_in p c online is) ∙
-          (elim (cases_eq c.0 n) as (λ _. copy_at (c ∷ passing p online) n ≡ copy_at (c ∷ online) n) [
-            | inl same ↦ copy_here c (passing p online) n same ∙ sym (copy_here c online n same)
-            | inr other ↦ copy_behind c (passing p online) n other ∙ copy_at-passing p online n yes_n ∙ sym (copy_behind c online n other)
-          ])
-      | inr is ↦ ap (λ (l : Copies). copy_at l n) (passing_out p c online is) ∙ copy_at-passing p online n yes_n
-          ∙ sym (copy_behind c online n (λ same. true≢false (sym yes_n ∙ ap p (sym same) ∙ is)))
-    ]
+copy_at-passing p online n yes_n =
+    ap (option_map (λ (c : ℕ × DiscCopy). c.1))
+    (find-filter (λ (c : ℕ × DiscCopy). c.0 == n) (λ (c : ℕ × DiscCopy). p c.0) (λ c out. ne_eqb c.0 n (λ same. true≢false (sym yes_n ∙ ap p (sym same) ∙ out))) online)
 
 -- one that doesn't finds none
 pub copy_at-failing : (p : ℕ → Bool) (online : Copies) (n : ℕ) → p n ≡ false → copy_at (passing p online) n ≡ None
-copy_at-failing p [] n no_n = refl
-copy_at-failing p (c ∷ online) n no_n =
-    elim (cases_Bool (p c.0)) as (λ _. copy_at (passing p (c ∷ online)) n ≡ None) [
-      | inl is ↦ ap (λ (l : Copies). copy_at l n) (passing_in p c online is)
-          ∙ copy_behind c (passing p online) n (λ same. true≢false (sym is ∙ ap p same ∙ no_n)) ∙ copy_at-failing p online n no_n
-      | inr is ↦ ap (λ (l : Copies). copy_at l n) (passing_out p c online is) ∙ copy_at-failing p online n no_n
-    ]
+copy_at-failing p online n no_n =
+    ap (option_map (λ (c : ℕ × DiscCopy). c.1))
+    (filter-none (λ (c : ℕ × DiscCopy). c.0 == n) (λ (c : ℕ × DiscCopy). p c.0) (λ c is. ne_eqb c.0 n (λ same. true≢false (sym is ∙ ap p same ∙ no_n))) online)
 
 -- one list followed by another
 pub copy_at-front : (xs ys : Copies) (n : ℕ) (copy : DiscCopy) → copy_at xs n ≡ Some copy → copy_at (xs ++ ys) n ≡ Some copy

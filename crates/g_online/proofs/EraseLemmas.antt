@@ -7,6 +7,7 @@ use Rattle.std.proofs.lemmas.Bool.{cases_Bool, cases_eq, cond-false, cond-true, 
 use Rattle.std.proofs.lemmas.List.Elements.{All-cons, All-contains, All-filter, All-weaker, filter_passes}
 use Rattle.std.proofs.lemmas.List.{get_or_default, get_or-map, length-map}
 use Rattle.std.proofs.lemmas.List.Kept.{AllPairs-filter}
+use Rattle.g_base.proofs.KeyLemmas.{find-without}
 use Rattle.g_blocks.specs.Pool.{IsTaken}
 use Rattle.g_copy.specs.declared.copy.DiscCopy.{DiscCopy}
 use Rattle.g_disc.specs.Disc.{DiscState}
@@ -48,14 +49,10 @@ pub entries_without : (n : ℕ) (files : List FileRec) (online : List (ℕ × Di
 entries_without n files online = made-erased {X = FileEntry} (λ e. e) (λ e. e.0.number) (λ e. refl) n files online
 
 -- the others are found unchanged
-other_found : (n i : ℕ) (b : Bool) (f : FileEntry) (fs : List FileEntry) → i ≢ n → (f.0.number == n) ≡ b → entry_at (without_entry n fs) i ≡ entry_at fs i → entry_at (if not b then f ∷ without_entry n fs else without_entry n fs) i ≡ entry_at (f ∷ fs) i
-other_found n i true f fs other is rest =
-    rest ∙ sym (cond-false (f.0.number == i) (Some f) (entry_at fs i) (ne_eqb f.0.number i (λ same. other (sym same ∙ eqb-true f.0.number n is))))
-other_found n i false f fs other is rest = ap (λ (r : Option FileEntry). if f.0.number == i then Some f else r) rest
 
 others_found : (n i : ℕ) (fs : List FileEntry) → i ≢ n → entry_at (without_entry n fs) i ≡ entry_at fs i
-others_found n i [] other = refl
-others_found n i (f ∷ fs) other = other_found n i (f.0.number == n) f fs other refl (others_found n i fs other)
+others_found n i fs other =
+    find-without (λ (f : FileEntry). f.0.number == i) (λ (f : FileEntry). f.0.number == n) (λ f out. ne_eqb f.0.number i (λ same. other (sym same ∙ eqb-true f.0.number n out))) fs
 
 -- the other numbers are there
 other_number : (n k : ℕ) (r : FileRec) (files : List FileRec) → Contains (map (λ (s : FileRec). s.number) (without_file n files)) k → Contains (map (λ (s : FileRec). s.number) (without_file n (r ∷ files))) k

@@ -1,18 +1,18 @@
 -- What became of each reel, but for reads; and that serials, capacities and mountings never change.
 -- serves: release, AnswerLemmas, BelongLemmas, CarryLemmas, DoneLemmas, EndLemmas, ExitLemmas, LossLemmas, PrepareLemmas, ProcessLemmas, crates above
-use Rattle.std.proofs.Common.{◌≡◌, ℕ, zero, suc, ◌<◌, ◌≤◌, ◌==◌, Bool, true, false, List, [], ◌∷◌, ◌++◌, map, take, Option, Some, None, refl, sym, ◌∙◌, ap, arith, inl, inr, option_map, if◌then◌else◌, eq-eqb}
-use Rattle.std.specs.Prelude.{All, AllPairs, Contains, is_some}
+use Rattle.std.proofs.Common.{◌≡◌, ℕ, zero, suc, ◌≤◌, ◌==◌, Bool, true, false, List, [], ◌∷◌, ◌++◌, map, take, Option, Some, None, refl, sym, ◌∙◌, ap, arith, inl, inr, option_map, if◌then◌else◌, eq-eqb}
+use Rattle.std.specs.Prelude.{All, Contains, is_some}
 use Rattle.std.specs.List.{AllZip}
 use Rattle.std.specs.List.Sorted.{IsStrictlyIncreasing}
 use Rattle.std.proofs.lemmas.Bool.{cond-false, cond-true, ne_eqb}
 use Rattle.std.proofs.lemmas.Bool.Decides.{eqb_tells}
-use Rattle.std.proofs.lemmas.List.Elements.{All-contains, All-head, All-tail}
+use Rattle.std.proofs.lemmas.List.Elements.{All-head, All-tail}
 use Rattle.std.proofs.lemmas.List.Kept.{AllPairs-from_increasing}
+use Rattle.g_base.proofs.KeyLemmas.{AreApart-rising, change_key-map, map-change_same}
 use Rattle.g_tape.specs.Rack.{Rack, changed, reel, with_reel}
 use Rattle.g_tape.specs.Reads.{count_at, time_of, times_in, unread}
 use Rattle.g_tape.specs.Reel.{Reel, Remains, Shortened, Torn, Unchanged, ending, left_by}
 use Rattle.g_disc_contents.specs.Contents.{has}
-use Rattle.g_laws_store.proofs.WaitingLemmas.{mapped_there}
 use Rattle.g_process.specs.Releases.{AreReleased, released, zeros}
 use Rattle.g_process.specs.Progress.{IsBeside, filled}
 use Rattle.g_process.proofs.ReelLemmas.{times_changed, unread_filled}
@@ -30,12 +30,7 @@ labels_unread [] = refl
 labels_unread (r ∷ rs) = ap (λ (ls : List (ℕ × ℕ × Bool × Bool)). label r ∷ ls) (labels_unread rs)
 
 pub labels_with : (s : ℕ) (f : Reel → Reel) → ((r : Reel) → label (f r) ≡ label r) → (rs : List Reel) → labels (with_reel s f rs) ≡ labels rs
-labels_with s f same [] = refl
-labels_with s f same (r ∷ rs) =
-    elim (eqb_tells s r.serial) [
-      | inl h ↦ ap (λ (b : Bool). labels (if b then f r ∷ rs else r ∷ with_reel s f rs)) h.0 ∙ ap (λ (l : ℕ × ℕ × Bool × Bool). l ∷ labels rs) (same r)
-      | inr h ↦ ap (λ (b : Bool). labels (if b then f r ∷ rs else r ∷ with_reel s f rs)) h.0 ∙ ap (λ (ls : List (ℕ × ℕ × Bool × Bool)). label r ∷ ls) (labels_with s f same rs)
-    ]
+labels_with s f same rs = map-change_same (λ (r : Reel). s == r.serial) f label same rs
 
 mapped_some : (f : List (List ℕ) → List (List ℕ)) (o : Option (List (List ℕ))) → is_some (option_map f o) ≡ is_some o
 mapped_some f None = refl
@@ -116,16 +111,7 @@ same_told (x ∷ xs) (y ∷ ys) same all =
 
 -- no two reels have one serial
 pub apart_of : (rs : List Reel) → IsStrictlyIncreasing (map (λ (r : Reel). r.serial) rs) → AreApart rs
-apart_of rs rising = by_pairs rs (AllPairs-from_increasing (map (λ (r : Reel). r.serial) rs) rising)
-  where
-    by_pairs : (xs : List Reel) → AllPairs (λ (m n : ℕ). m < n) (map (λ (r : Reel). r.serial) xs) → AreApart xs
-    by_pairs [] all = tt
-    by_pairs (x ∷ xs) all = (
-      (λ q there same.
-          let below = All-contains (λ (n : ℕ). x.serial < n) (map (λ (r : Reel). r.serial) xs) q.serial (λ k d within. all 0 (suc k) d (omega arith) (omega (arith, within))) (mapped_there (λ (x : Reel). x.serial) xs q there) in
-          (let no : ⊥ = omega (arith, below, same) in no)),
-      by_pairs xs (λ i j d less within. all (suc i) (suc j) d (omega (arith, less)) (omega (arith, within))),
-    )
+apart_of rs rising = AreApart-rising (λ (r : Reel). r.serial) rs (AllPairs-from_increasing (map (λ (r : Reel). r.serial) rs) rising)
 
 -- WHAT BECOMES of each reel, but for reads
 abbrev pub at_serial : ℕ → (Reel → Reel) → Reel → Reel
@@ -151,25 +137,9 @@ pub becomes_read : (old new : Rack) → map unread new.reels ≡ map unread old.
 becomes_read old new same = record { all = same }
 
 with_as_map : (s : ℕ) (f : Reel → Reel) (rs : List Reel) → AreApart rs → with_reel s f rs ≡ map (at_serial s f) rs
-with_as_map s f [] apart = refl
-with_as_map s f (r ∷ rs) (here, apart) =
-    elim (eqb_tells s r.serial) [
-      | inl h ↦
-          cond-true (s == r.serial) (f r ∷ rs) (r ∷ with_reel s f rs) h.0 ∙ ap (λ (xs : List Reel). f r ∷ xs) (sym (others rs (λ q there same. here q there (sym same ∙ h.1))))
-          ∙ ap (λ (x : Reel). x ∷ map (at_serial s f) rs) (sym (cond-true (s == r.serial) (f r) r h.0))
-      | inr h ↦
-          cond-false (s == r.serial) (f r ∷ rs) (r ∷ with_reel s f rs) h.0 ∙ ap (λ (xs : List Reel). r ∷ xs) (with_as_map s f rs apart)
-          ∙ ap (λ (x : Reel). x ∷ map (at_serial s f) rs) (sym (cond-false (s == r.serial) (f r) r h.0))
-    ]
-  where
-    others : (xs : List Reel) → ((q : Reel) → Contains xs q → s ≡ q.serial → ⊥) → map (at_serial s f) xs ≡ xs
-    others [] none = refl
-    others (x ∷ xs) none =
-        ap (λ (y : Reel). y ∷ map (at_serial s f) xs) (cond-false (s == x.serial) (f x) x (ne_eqb s x.serial (none x (0, omega arith, refl))))
-        ∙ ap (λ (ys : List Reel). x ∷ ys) (others xs (λ q there. none q (later q there)))
-      where
-        later : (q : Reel) → Contains xs q → Contains (x ∷ xs) q
-        later q (i, within, is) = (suc i, omega (arith, within), is)
+with_as_map s f rs apart =
+    change_key-map (λ (r : Reel). r.serial) s f (at_serial s f)
+    (λ r is. sym (cond-true (s == r.serial) (f r) r (eq-eqb s r.serial (sym is)))) (λ r off. sym (cond-false (s == r.serial) (f r) r (ne_eqb s r.serial (λ is. off (sym is))))) rs apart
 
 at_unread : (s : ℕ) (f : Reel → Reel) → ((r : Reel) → unread (f r) ≡ f (unread r)) → (r : Reel) → unread (at_serial s f r) ≡ at_serial s f (unread r)
 at_unread s f same r = by_case (s == r.serial)

@@ -11,6 +11,7 @@ use Rattle.std.proofs.lemmas.List.{length-append, length-take, take_all}
 use Rattle.std.proofs.lemmas.List.Elements.{All-contains, All-head, All-tail, Contains-get_or}
 use Rattle.std.proofs.lemmas.Option.{none-some, same_Some}
 use Rattle.g_base.specs.Block.{IsBlock}
+use Rattle.g_base.proofs.KeyLemmas.{at_key-itself}
 use Rattle.g_entry.specs.declared.file_rec.FileRec.{FileRec}
 use Rattle.g_tape.specs.Rack.{AreReels, Rack, reel}
 use Rattle.g_tape.specs.Reads.{OnlyReads, blocks_in, unread}
@@ -239,11 +240,7 @@ shelved_same old new a b serials same shelved = record {
 
 -- a reel is found by its serial
 pub found_itself : (xs : List Reel) (x : Reel) → AreApart xs → Contains xs x → reel x.serial xs ≡ Some x
-found_itself [] x all (i, inside, at) = absurd (let no : ⊥ = omega (arith, inside) in no)
-found_itself (y ∷ ys) x (here, all) (zero, inside, at) =
-    cond-true (x.serial == y.serial) (Some y) (reel x.serial ys) (eq-eqb x.serial y.serial (ap (λ (z : Reel). z.serial) (sym at))) ∙ ap Some at
-found_itself (y ∷ ys) x (here, all) (suc i, inside, at) =
-    cond-false (x.serial == y.serial) (Some y) (reel x.serial ys) (ne_eqb x.serial y.serial (here x (i, omega (arith, inside), at))) ∙ found_itself ys x all (i, omega (arith, inside), at)
+found_itself xs x all there = at_key-itself (λ (r : Reel). r.serial) xs x all there
 
 abbrev Keeps : (ℕ → List Dump) → Reel → Type 0
 Keeps shelf r = ForSome r.blocks (λ bs. AreCompleted r.serial bs (shelf r.serial))

@@ -1,8 +1,10 @@
 -- A reel that is filled block by block from its first one on, while the others are only read.
 -- serves: AnswerLemmas, BecomeLemmas, DoneLemmas, EndLemmas, ExitLemmas, SafeLemmas, WriteLemmas
-use Rattle.std.proofs.Common.{◌≡◌, ℕ, ◌+◌, ◌<◌, ◌≤◌, Bool, List, [], ◌∷◌, ◌++◌, length, map, take, Option, Some, None, refl, sym, ◌∙◌, ap, arith, subst, inl, inr, option_map, eq-eqb, if◌then◌else◌}
+use Rattle.std.proofs.Common.{◌≡◌, ℕ, ◌==◌, ◌+◌, ◌<◌, ◌≤◌, List, [], ◌∷◌, ◌++◌, length, map, take, Option, Some, None, refl, sym, ◌∙◌, ap, arith, subst, inl, inr, option_map}
 use Rattle.std.proofs.lemmas.Bool.Decides.{eqb_tells}
 use Rattle.std.proofs.lemmas.List.{length-append, take_all}
+use Rattle.g_base.proofs.KeyLemmas.{change-twice, map-change}
+use Rattle.g_tape.proofs.DurableLemmas.{with_reel-same}
 use Rattle.g_tape.specs.Rack.{Rack, changed, reel, with_reel}
 use Rattle.g_tape.specs.Reads.{HasRead, OnlyReads, blocks_in, blocks_of, count_at, time_of, times_in, unread}
 use Rattle.g_tape.specs.Reel.{Reel, ending}
@@ -59,44 +61,10 @@ unread_filled (b ∷ bs) r = refl
 
 -- CHANGES OF ONE REEL
 pub unread_with : (s : ℕ) (f : Reel → Reel) → ((r : Reel) → unread (f r) ≡ f (unread r)) → (rs : List Reel) → map unread (with_reel s f rs) ≡ with_reel s f (map unread rs)
-unread_with s f same [] = refl
-unread_with s f same (r ∷ rs) =
-    elim (eqb_tells s r.serial) [
-      | inl h ↦
-          ap (λ (b : Bool). map unread (if b then f r ∷ rs else r ∷ with_reel s f rs)) h.0
-          ∙ ap (λ (x : Reel). x ∷ map unread rs) (same r)
-          ∙ sym (ap (λ (b : Bool). if b then f (unread r) ∷ map unread rs else unread r ∷ with_reel s f (map unread rs)) h.0)
-      | inr h ↦
-          ap (λ (b : Bool). map unread (if b then f r ∷ rs else r ∷ with_reel s f rs)) h.0
-          ∙ ap (λ (xs : List Reel). unread r ∷ xs) (unread_with s f same rs)
-          ∙ sym (ap (λ (b : Bool). if b then f (unread r) ∷ map unread rs else unread r ∷ with_reel s f (map unread rs)) h.0)
-    ]
+unread_with s f same rs = map-change (λ (r : Reel). s == r.serial) f (λ (r : Reel). s == r.serial) f unread (λ r. refl) same rs
 
 pub with_twice : (s : ℕ) (f g h : Reel → Reel) → ((r : Reel) → (g r).serial ≡ r.serial) → ((r : Reel) → f (g r) ≡ h r) → (rs : List Reel) → with_reel s f (with_reel s g rs) ≡ with_reel s h rs
-with_twice s f g h keeps same [] = refl
-with_twice s f g h keeps same (r ∷ rs) =
-    elim (eqb_tells s r.serial) [
-      | inl e ↦
-          ap (λ (b : Bool). with_reel s f (if b then g r ∷ rs else r ∷ with_reel s g rs)) e.0
-          ∙ ap (λ (b : Bool). if b then f (g r) ∷ rs else g r ∷ with_reel s f rs) (eq-eqb s (g r).serial (e.1 ∙ sym (keeps r)))
-          ∙ ap (λ (x : Reel). x ∷ rs) (same r)
-          ∙ sym (ap (λ (b : Bool). if b then h r ∷ rs else r ∷ with_reel s h rs) e.0)
-      | inr e ↦
-          ap (λ (b : Bool). with_reel s f (if b then g r ∷ rs else r ∷ with_reel s g rs)) e.0
-          ∙ ap (λ (b : Bool). if b then f r ∷ with_reel s g rs else r ∷ with_reel s f (with_reel s g rs)) e.0
-          ∙ ap (λ (xs : List Reel). r ∷ xs) (with_twice s f g h keeps same rs)
-          ∙ sym (ap (λ (b : Bool). if b then h r ∷ rs else r ∷ with_reel s h rs) e.0)
-    ]
-
-pub with_nothing : (s : ℕ) (rs : List Reel) → with_reel s (λ r. r) rs ≡ rs
-with_nothing s [] = refl
-with_nothing s (r ∷ rs) =
-    elim (eqb_tells s r.serial) [
-      | inl h ↦ ap (λ (b : Bool). if b then r ∷ rs else r ∷ with_reel s (λ r. r) rs) h.0
-      | inr h ↦
-          ap (λ (b : Bool). if b then r ∷ rs else r ∷ with_reel s (λ r. r) rs) h.0
-          ∙ ap (λ (xs : List Reel). r ∷ xs) (with_nothing s rs)
-    ]
+with_twice s f g h keeps same rs = change-twice (λ (r : Reel). s == r.serial) g f h (λ r. ap (λ (n : ℕ). s == n) (keeps r)) same rs
 
 -- COUNTS OF READS stay, if the change keeps them
 mapped_times : (f : Reel → Reel) → ((r : Reel) → (f r).times_read ≡ r.times_read) → (o : Option Reel) → times_in (option_map f o) ≡ times_in o
@@ -115,13 +83,13 @@ times_changed s t f serial times rs =
 
 pub beside_none : (s : ℕ) (rack : Rack) → IsBeside (changed s (filled []) rack) rack
 beside_none s rack = record {
-  reels = ap (map unread) (sym (with_nothing s rack.reels));
+  reels = ap (map unread) (sym (with_reel-same s rack.reels));
   write_faults = refl;
   fuse = refl;
   arms = refl;
   read_faults = omega arith;
   times = λ t k. subst (λ (o : Option (List ℕ)). count_at k o ≤ time_of t k rack) (sym (times_changed s t (filled []) (λ r. refl) (λ r. refl) rack.reels)) (omega arith);
-  durable = same_risks _ rack (ap (map unread) (sym (with_nothing s rack.reels))) refl;
+  durable = same_risks _ rack (ap (map unread) (sym (with_reel-same s rack.reels))) refl;
 }
 
 pub beside_more : (old mid new : Rack) → IsBeside old mid → OnlyReads mid new → IsBeside old new

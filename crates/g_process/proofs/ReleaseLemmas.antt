@@ -3,10 +3,10 @@
 use Rattle.std.proofs.Common.{◌≡◌, ℕ, zero, suc, ◌+◌, ◌≤◌, ◌==◌, Bool, true, false, List, [], ◌∷◌, ◌++◌, map, take, Option, Some, None, Ok, Err, refl, sym, ◌∙◌, ap, arith, subst, inl, inr, option_map, if◌then◌else◌, slice_get, eq-eqb}
 use Rattle.std.specs.Prelude.{◌⊎◌, ◌||◌, All, Contains, filter}
 use Rattle.std.proofs.lemmas.Bool.{cases_Bool, cond-false, cond-true, ne_eqb}
-use Rattle.std.proofs.lemmas.Bool.Decides.{eqb_tells}
 use Rattle.std.proofs.lemmas.Option.{same_Some}
 use Rattle.std.proofs.lemmas.List.Elements.{All-contains}
 use Rattle.g_base.specs.Counts.{Rose}
+use Rattle.g_base.proofs.KeyLemmas.{AreApart as AreApartBy, at_key-among, change_key-each, find-map}
 use Rattle.g_tape.specs.declared.fault.TapeFault.TheVariants.{WriteFailed}
 use Rattle.g_tape.specs.Durable.{WritesDurably}
 use Rattle.g_tape.specs.Rack.{AreReels, Rack, changed, reel, refuses_write, with_reel}
@@ -103,61 +103,25 @@ released_still ss s r apart = ap (λ (b : Bool). if b then ending 0 zeros r else
 abbrev serials : List Reel → List ℕ
 serials rs = map (λ (r : Reel). r.serial) rs
 
-still_all : (ss : List ℕ) (s : ℕ) (rs : List Reel) → ((r : Reel) → Contains rs r → s ≡ r.serial → ⊥) → map (released ss) rs ≡ map (released (ss ++ s ∷ [])) rs
-still_all ss s [] apart = refl
-still_all ss s (r ∷ rs) apart =
-    ap (λ (x : Reel). x ∷ map (released ss) rs) (released_still ss s r (apart r (0, omega arith, refl)))
-    ∙ ap (λ (xs : List Reel). released (ss ++ s ∷ []) r ∷ xs) (still_all ss s rs (λ q there. apart q (later q there)))
-  where
-    later : (q : Reel) → Contains rs q → Contains (r ∷ rs) q
-    later q (i, within, is) = (suc i, omega (arith, within), is)
-
 -- no later serial equals the first
 abbrev pub AreApart : List Reel → Type 0
-AreApart [] = Unit {0}
-AreApart (r ∷ rs) = ((q : Reel) → Contains rs q → (q.serial ≡ r.serial → ⊥)) × AreApart rs
+AreApart rs = AreApartBy (λ (r : Reel). r.serial) rs
+
+released_apart : (ss : List ℕ) (rs : List Reel) → AreApart rs → AreApartBy (λ (r : Reel). (released ss r).serial) rs
+released_apart ss [] apart = tt
+released_apart ss (r ∷ rs) (here, apart) = ((λ q there same. here q there (sym (released_serial ss q) ∙ same ∙ released_serial ss r)), released_apart ss rs apart)
 
 pub with_released : (s : ℕ) (ss : List ℕ) (rs : List Reel) → AreApart rs → with_reel s (ending 0 zeros) (map (released ss) rs) ≡ map (released (ss ++ s ∷ [])) rs
-with_released s ss [] apart = refl
-with_released s ss (r ∷ rs) (here, apart) =
-    elim (eqb_tells s r.serial) [
-      | inl h ↦
-          cond-true (s == (released ss r).serial) (ending 0 zeros (released ss r) ∷ map (released ss) rs) (released ss r ∷ with_reel s (ending 0 zeros) (map (released ss) rs))
-          (eq-eqb s (released ss r).serial (h.1 ∙ sym (released_serial ss r)))
-          ∙ ap (λ (x : Reel). x ∷ map (released ss) rs) (released_now ss s r h.1)
-          ∙ ap (λ (xs : List Reel). released (ss ++ s ∷ []) r ∷ xs) (still_all ss s rs (λ q there same. here q there (sym same ∙ h.1)))
-      | inr h ↦
-          cond-false (s == (released ss r).serial) (ending 0 zeros (released ss r) ∷ map (released ss) rs) (released ss r ∷ with_reel s (ending 0 zeros) (map (released ss) rs))
-          (ne_eqb s (released ss r).serial (λ e. h.1 (e ∙ released_serial ss r)))
-          ∙ ap (λ (x : Reel). x ∷ with_reel s (ending 0 zeros) (map (released ss) rs)) (released_still ss s r h.1)
-          ∙ ap (λ (xs : List Reel). released (ss ++ s ∷ []) r ∷ xs) (with_released s ss rs apart)
-    ]
+with_released s ss rs apart =
+    change_key-each (λ (r : Reel). r.serial) s (ending 0 zeros) (released ss) (released (ss ++ s ∷ []))
+    (λ r is. released_now ss s r (sym is ∙ released_serial ss r)) (λ r off. released_still ss s r (λ is. off (released_serial ss r ∙ sym is))) rs (released_apart ss rs apart)
 
 -- THE REEL OF A SERIAL that is there
 pub reel_among : (s : ℕ) (rs : List Reel) → Contains (serials rs) s → (r : Reel) × (reel s rs ≡ Some r)
-reel_among s [] (i, within, is) = absurd (let no : ⊥ = omega (arith, within) in no)
-reel_among s (r ∷ rs) there = by_serial (eqb_tells s r.serial) there (λ it. reel_among s rs it)
-  where
-    by_serial : (((s == r.serial) ≡ true) × (s ≡ r.serial)) ⊎ (((s == r.serial) ≡ false) × (s ≡ r.serial → ⊥)) → Contains (serials (r ∷ rs)) s
-        → (Contains (serials rs) s → (q : Reel) × (reel s rs ≡ Some q)) → (q : Reel) × (reel s (r ∷ rs) ≡ Some q)
-    by_serial (inl h) it rest = (r, cond-true (s == r.serial) (Some r) (reel s rs) h.0)
-    by_serial (inr h) (zero, within, is) rest = absurd (h.1 (sym is))
-    by_serial (inr h) (suc i, within, is) rest =
-        let (q, at) = rest (i, omega (arith, within), is) in
-        (q, cond-false (s == r.serial) (Some r) (reel s rs) h.0 ∙ at)
+reel_among s rs there = at_key-among (λ (r : Reel). r.serial) s rs there
 
 pub reel_released : (s : ℕ) (ss : List ℕ) (rs : List Reel) → reel s (map (released ss) rs) ≡ option_map (released ss) (reel s rs)
-reel_released s ss [] = refl
-reel_released s ss (r ∷ rs) =
-    elim (eqb_tells s r.serial) [
-      | inl h ↦
-          cond-true (s == (released ss r).serial) (Some (released ss r)) (reel s (map (released ss) rs)) (eq-eqb s (released ss r).serial (h.1 ∙ sym (released_serial ss r)))
-          ∙ sym (ap (λ (b : Bool). option_map (released ss) (if b then Some r else reel s rs)) h.0)
-      | inr h ↦
-          cond-false (s == (released ss r).serial) (Some (released ss r)) (reel s (map (released ss) rs)) (ne_eqb s (released ss r).serial (λ e. h.1 (e ∙ released_serial ss r)))
-          ∙ reel_released s ss rs
-          ∙ sym (ap (λ (b : Bool). option_map (released ss) (if b then Some r else reel s rs)) h.0)
-    ]
+reel_released s ss rs = find-map (λ (r : Reel). s == r.serial) (λ (r : Reel). s == r.serial) (released ss) (λ r. ap (λ (n : ℕ). s == n) (released_serial ss r)) rs
 
 released_mounted : (ss : List ℕ) (r : Reel) → (released ss r).mounted ≡ r.mounted
 released_mounted ss r = released_keeps (λ (x : Reel). x.mounted) ss r refl

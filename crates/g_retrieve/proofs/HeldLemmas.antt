@@ -1,17 +1,15 @@
 -- What the bytes of a copy are where disc and rack belong together, and that it isn't lost then.
 -- serves: BackLemmas, KeepsLemmas, crates above
-use Rattle.std.proofs.Common.{◌≡◌, ℕ, ◌-◌, ◌==◌, true, false, List, [], ◌∷◌, length, Option, Some, None, is_some, refl, sym, ◌∙◌, ap, subst, inl, inr}
-use Rattle.std.specs.Prelude.{◌⊎◌, Contains, IfSome}
-use Rattle.std.proofs.lemmas.Bool.{cases_Bool, cond-false, cond-true, eqb-true}
+use Rattle.std.proofs.Common.{◌≡◌, ℕ, ◌-◌, true, false, List, length, Option, Some, None, is_some, refl, sym, ◌∙◌, ap, subst}
+use Rattle.std.specs.Prelude.{Contains, IfSome}
 use Rattle.std.proofs.lemmas.List.Elements.{All-contains}
-use Rattle.std.proofs.lemmas.Option.{same_Some}
 use Rattle.g_name.specs.declared.full.Full.{Full}
 use Rattle.g_entry.specs.declared.file_rec.TapeCopy.{TapeCopy}
 use Rattle.g_tape.specs.Rack.{Rack, is_mounted, reel}
 use Rattle.g_tape.specs.Reads.{blocks_in, blocks_of, unread}
 use Rattle.g_tape.specs.Reel.{Reel}
+use Rattle.g_tape.proofs.PlaceLemmas.{reel-found}
 use Rattle.g_tree.specs.Records.{full_of}
-use Rattle.g_tree.proofs.ListLemmas.{contains_first, contains_more}
 use Rattle.g_disc_contents.specs.Contents.{File}
 use Rattle.g_disc_contents.specs.Facts.{OnlineFacts}
 use Rattle.g_incr.specs.Layout.{Dump}
@@ -27,19 +25,6 @@ use Rattle.g_laws_store.proofs.WaitingLemmas.{mapped_there}
 use Rattle.g_retrieve.specs.Retrieval.{HasCopied, IsOnTape, IsNowhere}
 use Rattle.g_retrieve.specs.Invariant.{HasLostCopy, IsOver}
 
--- THE REEL of a serial
-reel_there : (s : ℕ) (rs : List Reel) (q : Reel) → reel s rs ≡ Some q → Contains rs q × (q.serial ≡ s)
-reel_there s [] q is = let no : ⊥ = cc in absurd no
-reel_there s (r ∷ rs) q is = by_case (cases_Bool (s == r.serial)) (reel_there s rs q)
-  where
-    by_case : ((s == r.serial) ≡ true) ⊎ ((s == r.serial) ≡ false) → (reel s rs ≡ Some q → Contains rs q × (q.serial ≡ s)) → Contains (r ∷ rs) q × (q.serial ≡ s)
-    by_case (inl here) later =
-        let same : r ≡ q = same_Some r q (sym (cond-true (s == r.serial) (Some r) (reel s rs) here) ∙ is) in
-        (subst (Contains (r ∷ rs)) same (contains_first r rs), ap (λ (x : Reel). x.serial) (sym same) ∙ sym (eqb-true s r.serial here))
-    by_case (inr other) later =
-        let (there, at) = later (sym (cond-false (s == r.serial) (Some r) (reel s rs) other) ∙ is) in
-        (contains_more r q rs there, at)
-
 -- the shelf has its completed dumps, if it exposes its contents
 pub shelf_of : (shelf : ℕ → List Dump) (s : ℕ) (rack : Rack) (blocks : List (List ℕ)) → AreShelved shelf (told_reels rack) → blocks_of s rack ≡ Some blocks → AreCompleted s blocks (shelf s)
 shelf_of shelf s rack blocks shelved told = by_reel (reel s rack.reels) refl
@@ -47,7 +32,7 @@ shelf_of shelf s rack blocks shelved told = by_reel (reel s rack.reels) refl
     by_reel : (o : Option Reel) → reel s rack.reels ≡ o → AreCompleted s blocks (shelf s)
     by_reel None none = let wrong : None ≡ Some blocks = sym (ap blocks_in none) ∙ told in (let no : ⊥ = cc in absurd no)
     by_reel (Some q) some =
-        let (there, at) = reel_there s rack.reels q some in
+        let (there, at) = reel-found s rack.reels q some in
         let tells : q.blocks ≡ Some blocks = sym (ap blocks_in some) ∙ told in
         subst (λ (n : ℕ). AreCompleted n blocks (shelf n)) at (shelved.each (unread q) (mapped_there unread rack.reels q there) blocks tells)
 
@@ -63,7 +48,7 @@ tells_reel shelf s rack all mounted = by_reel (reel s rack.reels) refl mounted
     by_blocks : (q : Reel) → reel s rack.reels ≡ Some q → (b : Option (List (List ℕ))) → q.blocks ≡ b → is_some b ≡ true → TellsReel shelf s rack
     by_blocks q some None none is = let no : ⊥ = cc in absurd no
     by_blocks q some (Some blocks) tells is =
-        let (there, at) = reel_there s rack.reels q some in
+        let (there, at) = reel-found s rack.reels q some in
         record {
           blocks = blocks;
           told = ap blocks_in some ∙ tells;
@@ -73,7 +58,7 @@ tells_reel shelf s rack all mounted = by_reel (reel s rack.reels) refl mounted
     by_reel : (o : Option Reel) → reel s rack.reels ≡ o → is_mounted o ≡ true → TellsReel shelf s rack
     by_reel None none is = let no : ⊥ = cc in absurd no
     by_reel (Some q) some is =
-        let (there, at) = reel_there s rack.reels q some in
+        let (there, at) = reel-found s rack.reels q some in
         by_blocks q some q.blocks refl (All-contains (λ (r : Reel). is_some r.blocks ≡ true) (told_reels rack) (unread q) all.each (mapped_there unread rack.reels q there))
 
 -- CONTENT of all dumps is that of the dumps of its reel

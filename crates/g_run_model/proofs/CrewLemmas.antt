@@ -1,7 +1,8 @@
 -- Lists of jobs: each has a number of its own, new ones are added after the others, and the others remain when one is
 -- removed.
 -- serves: EndsLemmas, OneTextLemmas, PieceLemmas, PricedLemmas, PutLemmas, ReadLemmas, ShareLemmas, TakenLemmas, crates above
-use Rattle.std.proofs.Common.{◌≡◌, ◌<◌, ◌≤◌, ◌+◌, ◌==◌, ◌⊎◌, ℕ, zero, suc, Bool, true, false, cond, not, List, [], ◌∷◌, ◌++◌, filter, find, Option, Some, None, slice_get, refl, sym, ◌∙◌, ap, subst, inl, inr, if◌then◌else◌, le_trans, eq-eqb, ne_eqb, eqb-true, arith}
+use Rattle.std.proofs.Common.{◌≡◌, ◌<◌, ◌≤◌, ◌+◌, ◌==◌, ◌⊎◌, ℕ, zero, suc, Bool, true, false, cond, List, [], ◌∷◌, ◌++◌, filter, find, option_map, Option, Some, None, slice_get, refl, sym, ◌∙◌, ap, subst, inl, inr, if◌then◌else◌, le_trans, eq-eqb, ne_eqb, eqb-true, arith}
+use Rattle.g_base.proofs.KeyLemmas.{find-put, find-put_other, find-without, without-none}
 use Rattle.g_job.specs.State.{JobState}
 use Rattle.g_run_model.specs.World.{with_job, without_job}
 
@@ -109,41 +110,22 @@ number_of number low (j ∷ jobs) top job r found = by (j.number == number) refl
 -- which job is found after one was replaced by another: the new one, under its number, and the same as before under all
 -- others
 pub found_same : (j : JobState) (jobs : List JobState) (job : JobState) → numbered j.number (with_job j jobs) ≡ Some job → job ≡ j
-found_same j [] job found = no_job job found
-found_same j (k ∷ jobs) job found = by (k.number == j.number) refl found (λ e. found_same j jobs job e)
+found_same j jobs job found = by (numbered j.number jobs) (sym (find-put (λ (k : JobState). k.number) j jobs) ∙ found)
   where
-    by : (b : Bool) → (k.number == j.number) ≡ b → numbered j.number ((if b then j else k) ∷ with_job j jobs) ≡ Some job → (numbered j.number (with_job j jobs) ≡ Some job → job ≡ j) → job ≡ j
-    by true e found again = sym (one_job j job (sym (ap (λ (c : Bool). cond c (Some j) (numbered j.number (with_job j jobs))) (itself j.number)) ∙ found))
-    by false e found again = again (sym (ap (λ (c : Bool). cond c (Some k) (numbered j.number (with_job j jobs))) e) ∙ found)
+    by : (o : Option JobState) → option_map (λ (k : JobState). j) o ≡ Some job → job ≡ j
+    by None is = no_job job is
+    by (Some k) is = sym (one_job j job is)
 
 pub found_other : (j : JobState) (number : ℕ) → (j.number == number) ≡ false → (jobs : List JobState) → numbered number (with_job j jobs) ≡ numbered number jobs
-found_other j number other [] = refl
-found_other j number other (k ∷ jobs) = by (k.number == j.number) refl (found_other j number other jobs)
-  where
-    by : (b : Bool) → (k.number == j.number) ≡ b → numbered number (with_job j jobs) ≡ numbered number jobs → numbered number ((if b then j else k) ∷ with_job j jobs) ≡ numbered number (k ∷ jobs)
-    by true e rest =
-        let same : k.number ≡ j.number = eqb-true k.number j.number e in
-        ap (λ (c : Bool). cond c (Some j) (numbered number (with_job j jobs))) other ∙ rest
-        ∙ sym (ap (λ (c : Bool). cond c (Some k) (numbered number jobs)) (ap (λ (n : ℕ). n == number) same ∙ other))
-    by false e rest = ap (λ (r : Option JobState). cond (k.number == number) (Some k) r) rest
+found_other j number other jobs = find-put_other (λ (k : JobState). k.number) j number other jobs
 
 -- which job is found after the job of a number is removed: none under that number, and the same as before under all others
 pub left_none : (number : ℕ) (jobs : List JobState) → numbered number (without_job number jobs) ≡ None
-left_none number [] = refl
-left_none number (k ∷ jobs) = by (k.number == number) refl (left_none number jobs)
-  where
-    by : (b : Bool) → (k.number == number) ≡ b → numbered number (without_job number jobs) ≡ None → numbered number (cond (not b) (k ∷ without_job number jobs) (without_job number jobs)) ≡ None
-    by true e rest = rest
-    by false e rest = ap (λ (c : Bool). cond c (Some k) (numbered number (without_job number jobs))) e ∙ rest
+left_none number jobs = without-none (λ (k : JobState). k.number == number) jobs
 
 pub left_other : (gone number : ℕ) → (gone == number) ≡ false → (jobs : List JobState) → numbered number (without_job gone jobs) ≡ numbered number jobs
-left_other gone number other [] = refl
-left_other gone number other (k ∷ jobs) = by (k.number == gone) refl (left_other gone number other jobs)
-  where
-    by : (b : Bool) → (k.number == gone) ≡ b → numbered number (without_job gone jobs) ≡ numbered number jobs → numbered number (cond (not b) (k ∷ without_job gone jobs) (without_job gone jobs)) ≡ numbered number (k ∷ jobs)
-    by true e rest =
-        rest ∙ sym (ap (λ (c : Bool). cond c (Some k) (numbered number jobs)) (ap (λ (n : ℕ). n == number) (eqb-true k.number gone e) ∙ other))
-    by false e rest = ap (λ (r : Option JobState). cond (k.number == number) (Some k) r) rest
+left_other gone number other jobs =
+    find-without (λ (k : JobState). k.number == number) (λ (k : JobState). k.number == gone) (λ k out. ap (λ (n : ℕ). n == number) (eqb-true k.number gone out) ∙ other) jobs
 
 -- which job is found after one was added: an old one, or the new one
 pub found_push : (number : ℕ) (jobs : List JobState) (job found : JobState) → numbered number (jobs ++ job ∷ []) ≡ Some found

@@ -1,7 +1,8 @@
 -- After each event a tree is dumped if a reel has a dump, provided that this was so before.
 -- serves: OneTextLemmas, ProcessedLemmas, crates above
-use Rattle.std.proofs.Common.{◌≡◌, ◌==◌, ◌&&◌, ◌||◌, ℕ, Bool, true, false, List, [], ◌∷◌, Option, Some, None, option_map, Result, Ok, Err, refl, sym, ◌∙◌, ap, subst, inl, inr, if◌then◌else◌}
+use Rattle.std.proofs.Common.{◌≡◌, ◌==◌, ◌||◌, ℕ, Bool, true, false, List, Option, Some, None, option_map, Result, Ok, Err, refl, sym, ◌∙◌, ap, subst, inl, inr, if◌then◌else◌}
 use Rattle.std.specs.List.{list_all}
+use Rattle.g_base.proofs.KeyLemmas.{list_all-change}
 use Rattle.g_name.specs.declared.full.Full.{Full}
 use Rattle.g_plain.specs.declared.calls.StoreCall.{StoreCall}
 use Rattle.g_plain.specs.declared.calls.StoreReply.{StoreReply}
@@ -43,13 +44,8 @@ pub migrate_keeps : (s : State) (k : Holding) (user : Option (List ℕ)) (full :
 migrate_keeps s k user full o r new event = event_keeps _ _ s _ r new (λ has. has) event
 
 -- a reel that is changed, but for its dumps
-changed_none : (f : ReelRow → ReelRow) → ((r : ReelRow) → has_none (f r) ≡ has_none r) → (at : ℕ) (rs : List ReelRow) → list_all has_none (with_reel at f rs) ≡ list_all has_none rs
-changed_none f same at [] = refl
-changed_none f same at (r ∷ rs) = by (at == r.serial) (changed_none f same at rs)
-  where
-    by : (b : Bool) → list_all has_none (with_reel at f rs) ≡ list_all has_none rs → list_all has_none (if b then f r ∷ rs else r ∷ with_reel at f rs) ≡ list_all has_none (r ∷ rs)
-    by true rest = ap (λ (b : Bool). b && list_all has_none rs) (same r)
-    by false rest = ap (λ (b : Bool). has_none r && b) rest
+pub changed_none : (f : ReelRow → ReelRow) → ((r : ReelRow) → has_none (f r) ≡ has_none r) → (at : ℕ) (rs : List ReelRow) → list_all has_none (with_reel at f rs) ≡ list_all has_none rs
+changed_none f same at rs = list_all-change (λ (r : ReelRow). at == r.serial) f has_none same rs
 
 pub mount_keeps : (s : State) (serial : ℕ) (r : Result (Unit {0}) StoreFault) (new : State) → MountStep s serial r new → KeepsDumps s new
 mount_keeps s serial r new event = event_keeps _ _ s _ r new (λ has none. changed_none (with_mounted true) (λ row. refl) serial s.reels ∙ has none) event

@@ -1,6 +1,6 @@
 -- What a PROCESS leaves, case by case: what is so of each of the states that it may leave is so of the one that it left.
 -- serves: DumpedLemmas, EndsLemmas, OneTextLemmas, PricedLemmas, TreeLemmas, crates above
-use Rattle.std.proofs.Common.{◌≡◌, ◌==◌, ◌&&◌, ◌⊎◌, ℕ, Bool, true, false, List, [], ◌∷◌, map, Option, Some, None, Result, Err, MatchOption, option_map, refl, sym, ◌∙◌, ap, subst, inl, inr, if◌then◌else◌}
+use Rattle.std.proofs.Common.{◌≡◌, ◌==◌, ◌⊎◌, ℕ, Bool, true, false, List, [], ◌∷◌, map, Option, Some, None, Result, Err, MatchOption, option_map, refl, sym, ◌∙◌, ap, subst, inl, inr, if◌then◌else◌}
 use Rattle.std.specs.List.{list_all}
 use Rattle.std.specs.Ordering.{nat_cmp}
 use Rattle.std.specs.FinMap.{FinMap}
@@ -13,7 +13,7 @@ use Rattle.g_store_model.specs.Process.{LeftByRead, ProcessLeft, ProcessStep, Pr
 use Rattle.g_store_model.specs.Rising.{has_none}
 use Rattle.g_store_model.specs.State.{Dumped as DumpedTree, Holding, Place, ReelRow, State, mounted_in, reel_at, with_reel}
 use Rattle.g_run_model.specs.Laws.{AreShort, IsShort}
-use Rattle.g_run_model.proofs.KeptDumpLemmas.{KeepsDumps}
+use Rattle.g_run_model.proofs.KeptDumpLemmas.{KeepsDumps, changed_none}
 use Rattle.g_run_model.proofs.MountLemmas.{NoMount, changed_mounts}
 use Rattle.g_run_model.proofs.ShortLemmas.{KeepsShort, held_short, short_down}
 use Rattle.g_run_model.proofs.StepLemmas.{tree_held}
@@ -117,13 +117,7 @@ some_dumped : (d : DumpedTree) (x : Option DumpedTree) (A : Type 0) → x ≡ So
 some_dumped d x A some none = let e : (let one : Option DumpedTree = Some d in one ≡ None) = sym some ∙ none in absurd (let no : ⊥ = cc in no)
 
 used_dumps : (serial : ℕ) (used : Bool) (rs : List ReelRow) → list_all has_none (with_reel serial (with_used used) rs) ≡ list_all has_none rs
-used_dumps serial used [] = refl
-used_dumps serial used (r ∷ rs) = by (serial == r.serial) (used_dumps serial used rs)
-  where
-    by : (b : Bool) → list_all has_none (with_reel serial (with_used used) rs) ≡ list_all has_none rs
-        → list_all has_none (if b then with_used used r ∷ rs else r ∷ with_reel serial (with_used used) rs) ≡ list_all has_none (r ∷ rs)
-    by true rest = refl
-    by false rest = ap (λ (c : Bool). has_none r && c) rest
+used_dumps serial used rs = changed_none (with_used used) (λ r. refl) serial rs
 
 pub process_keeps : (s : State) (k : Holding) (serial : ℕ) (o : Outcome) (r : Result ℕ StoreFault) (new : State) → ProcessStep s k serial o r new → KeepsDumps s new
 process_keeps s k serial o r new step =

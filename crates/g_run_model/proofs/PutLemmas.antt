@@ -3,9 +3,12 @@
 use Rattle.std.proofs.Common.{◌≡◌, ◌<◌, ◌≤◌, ◌+◌, ◌==◌, ◌&&◌, ℕ, Bool, true, false, cond, nat_le, not, List, [], ◌∷◌, ◌++◌, Option, Some, None, Result, Ok, Err, MatchBool, append_assoc, append-nil, codes, refl, sym, ◌∙◌, ap, subst, inl, inr, if◌then◌else◌, eqb-true, ne_eqb, arith}
 use Rattle.std.proofs.lemmas.Bool.{leb-false, leb-true}
 use Rattle.std.specs.List.{AllByRecursion}
+use Rattle.std.specs.Option.{option_map, option_or}
 use Rattle.std.specs.Fmt.{decimal}
 use Rattle.std.specs.Fn.{Shared}
 use denote.Ref.{Bor}
+use Rattle.std.proofs.lemmas.List.Folds.{find-append}
+use Rattle.g_base.proofs.KeyLemmas.{find-put}
 use Rattle.g_rules.specs.declared.tariff.Charge.{Charge}
 use Rattle.g_rules.specs.declared.tariff.Usage.{Usage}
 use Rattle.g_rules.specs.declared.rule.Standing.{Standing}
@@ -35,7 +38,7 @@ use Rattle.g_run_model.specs.Texts.{broken_files, closing, dump_text, job_text, 
 use Rattle.g_run_model.specs.World.{World, closed, job_of, shows, start, with_job, without_job}
 use Rattle.g_script.specs.declared.operator.Timed.{Timed}
 use Rattle.g_run_model.proofs.CrewLemmas.{AreRising, found_by, found_other, left_none, left_other, no_job, number_of, numbered, rising_filter, rising_push, rising_with}
-use Rattle.g_run_model.proofs.PieceLemmas.{Grown, Last, added_is, eqb_same, files_none, files_one, files_others, files_text, its_number, other_number, output_append, pieces_of, text_append, turn_grown}
+use Rattle.g_run_model.proofs.PieceLemmas.{Grown, Last, added_is, files_none, files_one, files_others, files_text, its_number, other_number, output_append, pieces_of, text_append, turn_grown}
 use Rattle.g_run_model.proofs.TickLemmas.{turn_added, turn_adds}
 
 -- how a number's job continues with what was printed for it at t
@@ -150,21 +153,10 @@ shut_puts w new false rising is = puts_is w new _ is (refused_puts NotStarted w 
 
 -- a job is added after the others
 push_some : (number : ℕ) (jobs : List JobState) (job k : JobState) → numbered number jobs ≡ Some k → numbered number (jobs ++ job ∷ []) ≡ Some k
-push_some number [] job k is = no_job k is
-push_some number (x ∷ jobs) job k is = by (x.number == number) is (λ e. push_some number jobs job k e)
-  where
-    by : (b : Bool) → cond b (Some x) (numbered number jobs) ≡ Some k → (numbered number jobs ≡ Some k → numbered number (jobs ++ job ∷ []) ≡ Some k) → cond b (Some x) (numbered number (jobs ++ job ∷ [])) ≡ Some k
-    by true is again = is
-    by false is again = again is
+push_some number jobs job k is = find-append (λ (j : JobState). j.number == number) jobs (job ∷ []) ∙ ap (λ (o : Option JobState). option_or o (numbered number (job ∷ []))) is
 
 push_none : (number : ℕ) (jobs : List JobState) (job : JobState) → numbered number jobs ≡ None → numbered number (jobs ++ job ∷ []) ≡ numbered number (job ∷ [])
-push_none number [] job is = refl
-push_none number (x ∷ jobs) job is = by (x.number == number) is (λ e. push_none number jobs job e)
-  where
-    by : (b : Bool) → cond b (Some x) (numbered number jobs) ≡ None → (numbered number jobs ≡ None → numbered number (jobs ++ job ∷ []) ≡ numbered number (job ∷ []))
-        → cond b (Some x) (numbered number (jobs ++ job ∷ [])) ≡ numbered number (job ∷ [])
-    by true is again = absurd (let no : ⊥ = cc in no)
-    by false is again = again is
+push_none number jobs job is = find-append (λ (j : JobState). j.number == number) jobs (job ∷ []) ∙ ap (λ (o : Option JobState). option_or o (numbered number (job ∷ []))) is
 
 -- what is printed for a new job: its first line, at a terminal
 abbrev coming : Option ℕ → ℕ → List ℕ → List Piece
@@ -235,13 +227,7 @@ login_by_puts t user time w false rising = refused_puts NotStarted w rising
 
 -- a job continues as another one of its number
 with_found : (after : JobState) (jobs : List JobState) (job : JobState) → numbered after.number jobs ≡ Some job → numbered after.number (with_job after jobs) ≡ Some after
-with_found after [] job is = no_job job is
-with_found after (k ∷ jobs) job is = by (k.number == after.number) refl is (λ e. with_found after jobs job e)
-  where
-    by : (b : Bool) → (k.number == after.number) ≡ b → cond b (Some k) (numbered after.number jobs) ≡ Some job → (numbered after.number jobs ≡ Some job → numbered after.number (with_job after jobs) ≡ Some after)
-        → numbered after.number ((if b then after else k) ∷ with_job after jobs) ≡ Some after
-    by true e is again = ap (λ (b : Bool). cond b (Some after) (numbered after.number (with_job after jobs))) (eqb_same after.number)
-    by false e is again = ap (λ (b : Bool). cond b (Some k) (numbered after.number (with_job after jobs))) e ∙ again is
+with_found after jobs job is = find-put (λ (j : JobState). j.number) after jobs ∙ ap (option_map (λ (j : JobState). after)) is
 
 changed_puts : (t : ℕ) (change : Stack → Stack) (w : World) (j : Option JobState) → open_at t w.jobs ≡ j → AreRising 0 w.jobs w.next_job → Puts w (changed_at t (with_stack change) j w)
 changed_puts t change w None is rising = puts_line w _ w.count _ rising refl refl refl

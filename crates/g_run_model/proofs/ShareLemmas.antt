@@ -2,6 +2,7 @@
 -- serves: PieceLemmas, crates above
 use Rattle.std.proofs.Common.{◌≡◌, ◌<◌, ◌≤◌, ◌+◌, ◌-◌, ◌==◌, ℕ, Bool, true, false, cond, not, List, [], ◌∷◌, sum_by, Some, None, refl, ◌∙◌, ap, if◌then◌else◌, eqb-true, ne_eqb, arith}
 use Rattle.std.proofs.lemmas.List.Sums.{sum_by-cons}
+use Rattle.g_base.proofs.KeyLemmas.{filter-absent, put-none}
 use Rattle.g_job.specs.State.{JobState}
 use Rattle.g_run_model.specs.World.{with_job, without_job}
 use Rattle.g_run_model.proofs.CrewLemmas.{AreRising, no_job, numbered, one_job}
@@ -20,20 +21,10 @@ below_none number low (j ∷ jobs) top less r =
 
 -- if no job has the number, replacing and removing it leaves the list unchanged
 with_none : (j : JobState) (jobs : List JobState) → numbered j.number jobs ≡ None → with_job j jobs ≡ jobs
-with_none j [] none = refl
-with_none j (k ∷ jobs) none = by (k.number == j.number) none (λ e. with_none j jobs e)
-  where
-    by : (b : Bool) → cond b (Some k) (numbered j.number jobs) ≡ None → (numbered j.number jobs ≡ None → with_job j jobs ≡ jobs) → (if b then j else k) ∷ with_job j jobs ≡ k ∷ jobs
-    by true e again = absurd (let no : ⊥ = cc in no)
-    by false e again = ap (λ (js : List JobState). k ∷ js) (again e)
+with_none j jobs none = put-none (λ (k : JobState). k.number) j jobs none
 
 without_none : (number : ℕ) (jobs : List JobState) → numbered number jobs ≡ None → without_job number jobs ≡ jobs
-without_none number [] none = refl
-without_none number (k ∷ jobs) none = by (k.number == number) none (λ e. without_none number jobs e)
-  where
-    by : (b : Bool) → cond b (Some k) (numbered number jobs) ≡ None → (numbered number jobs ≡ None → without_job number jobs ≡ jobs) → cond (not b) (k ∷ without_job number jobs) (without_job number jobs) ≡ k ∷ jobs
-    by true e again = absurd (let no : ⊥ = cc in no)
-    by false e again = ap (λ (js : List JobState). k ∷ js) (again e)
+without_none number jobs none = filter-absent (λ (k : JobState). k.number == number) jobs none
 
 module _ (f : JobState → ℕ) where
   -- a job continues as another

@@ -1,16 +1,16 @@
 -- Bytes of a reel that were added to a sum, and what a rack holds of a copy.
 -- serves: has_all, reel_sum (sum), sum_from (sum), RottenLemmas
-use Rattle.std.proofs.Common.{◌≡◌, ◌⊎◌, inl, inr, ℕ, zero, suc, ◌+◌, ◌-◌, ◌^◌, ◌<◌, ◌≤◌, true, List, [], ◌∷◌, ◌++◌, length, take, drop, min, Option, Some, None, Result, Ok, Err, refl, sym, ◌∙◌, ap, subst, arith, length-append, slice_get, All}
+use Rattle.std.proofs.Common.{◌≡◌, ℕ, zero, suc, ◌+◌, ◌-◌, ◌^◌, ◌<◌, ◌≤◌, true, List, [], ◌++◌, length, take, drop, min, Option, Some, None, Result, Ok, Err, refl, sym, ◌∙◌, ap, subst, arith, length-append, slice_get, All}
 use Rattle.std.specs.Prelude.{◌==◌, is_some, option_map}
 use Rattle.std.specs.Option.{ForSome}
-use Rattle.std.proofs.lemmas.Bool.{cases_eq, cond-false, cond-true, eq-eqb, ne_eqb}
+use Rattle.std.proofs.lemmas.Bool.{cond-true}
 use Rattle.std.proofs.lemmas.List.{length-take}
-use Rattle.std.proofs.lemmas.List.Elements.{All-head, All-tail}
 use Rattle.std.proofs.lemmas.Option.{same_Some}
 use Rattle.sha2.specs.Hashers.{Holds256}
 use Rattle.sha2.specs.Sha256.{sha256}
 use Rattle.sha2.specs.declared.Sha256.{Sha256}
 use Rattle.g_base.specs.Block.{blocks_for}
+use Rattle.g_base.proofs.KeyLemmas.{find-all}
 use Rattle.g_entry.specs.declared.file_rec.TapeCopy.{TapeCopy}
 use Rattle.g_tape.specs.declared.fault.TapeFault.{TapeFault}
 use Rattle.g_tape.specs.declared.fault.TapeFault.TheVariants as tape
@@ -84,12 +84,7 @@ there_in rack s r is = by_reel (reel s rack.reels) refl (sym (reel-unread s rack
     by_reel (Some q) at some = (q, at, same_Some (unread q) r some)
 
 pub all_reel : (P : Reel → Type 0) (s : ℕ) (rs : List Reel) (r : Reel) → All P rs → reel s rs ≡ Some r → P r
-all_reel P s [] r all is = absurd (let no : ⊥ = cc in no)
-all_reel P s (q ∷ qs) r all is = by_serial (cases_eq s q.serial) (all_reel P s qs r (All-tail P q qs all))
-  where
-    by_serial : (s ≡ q.serial) ⊎ (s ≡ q.serial → ⊥) → (reel s qs ≡ Some r → P r) → P r
-    by_serial (inl same) rest = subst P (same_Some q r (sym (cond-true (s == q.serial) (Some q) (reel s qs) (eq-eqb s q.serial same)) ∙ is)) (All-head P q qs all)
-    by_serial (inr other) rest = rest (sym (cond-false (s == q.serial) (Some q) (reel s qs) (ne_eqb s q.serial other)) ∙ is)
+all_reel P s rs r all is = find-all P (λ (q : Reel). s == q.serial) rs r all is
 
 same_ok : (a b : ℕ) → (let x : Result ℕ TapeFault = Ok a in x ≡ Ok b) → a ≡ b
 same_ok a b is = cc

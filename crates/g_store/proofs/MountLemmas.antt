@@ -1,10 +1,11 @@
 -- A reel is mounted or unmounted: nothing else in what a rack means changes.
 -- serves: OpenedLemmas, ProcessedStepLemmas, StartLemmas, SteppedLemmas, TurnLemmas, crates above
-use Rattle.std.proofs.Common.{◌≡◌, ◌≢◌, ℕ, Bool, true, false, List, [], ◌∷◌, ◌++◌, Option, Some, None, refl, sym, ◌∙◌, ap, inl, inr}
-use Rattle.std.specs.Prelude.{◌⊎◌, ◌==◌, All, Contains, map, if◌then◌else◌, is_none, is_some}
+use Rattle.std.proofs.Common.{◌≡◌, ◌≢◌, ℕ, Bool, true, false, List, [], ◌∷◌, Option, Some, None, refl, sym, ◌∙◌, ap}
+use Rattle.std.specs.Prelude.{◌==◌, All, Contains, map, if◌then◌else◌, is_none, is_some}
 use Rattle.std.specs.Option.{ForSome, option_map}
-use Rattle.std.proofs.lemmas.Bool.{cases_eq, cond-false, cond-true, eq-eqb, ne_eqb}
 use Rattle.std.proofs.lemmas.List.Elements.{All-cons, All-contains, All-contains_itself, All-head, All-tail, All-weaker}
+use Rattle.g_base.proofs.KeyLemmas.{find-map, flat_map-change, map-change, map-change_same}
+use Rattle.g_tape.proofs.ReadLemmas.{reel-unread, reel-with_reel, reel-with_reel_other}
 use Rattle.g_tape.specs.Reel.{Reel, with_mounted}
 use Rattle.g_tape.specs.Rack.{is_mounted, reel, with_reel}
 use Rattle.g_tape.specs.Reads.{unread}
@@ -23,29 +24,14 @@ module _ (s : ℕ) (is : Bool) where
 
   -- whether reads are counted or not
   pub told_turned : (reels : List Reel) → map unread (turned reels) ≡ turned (map unread reels)
-  told_turned [] = refl
-  told_turned (r ∷ rs) = pick (s == r.serial) (told_turned rs)
-    where
-      pick : (b : Bool) → map unread (turned rs) ≡ turned (map unread rs) → map unread (if b then with_mounted is r ∷ rs else r ∷ turned rs) ≡ (if b then with_mounted is (unread r) ∷ map unread rs else unread r ∷ turned (map unread rs))
-      pick true rest = refl
-      pick false rest = ap (λ (l : List Reel). unread r ∷ l) rest
+  told_turned reels = map-change (λ (r : Reel). s == r.serial) (with_mounted is) (λ (r : Reel). s == r.serial) (with_mounted is) unread (λ r. refl) (λ r. refl) reels
 
   -- serials and dumps stay
   pub serials_stay : (reels : List Reel) → serials (turned reels) ≡ serials reels
-  serials_stay [] = refl
-  serials_stay (r ∷ rs) = pick (s == r.serial) (serials_stay rs)
-    where
-      pick : (b : Bool) → serials (turned rs) ≡ serials rs → serials (if b then with_mounted is r ∷ rs else r ∷ turned rs) ≡ r.serial ∷ serials rs
-      pick true rest = refl
-      pick false rest = ap (λ (l : List ℕ). r.serial ∷ l) rest
+  serials_stay reels = map-change_same (λ (r : Reel). s == r.serial) (with_mounted is) (λ (r : Reel). r.serial) (λ r. refl) reels
 
   pub dumps_stay : (shelf : ℕ → List Dump) (reels : List Reel) → all_dumps shelf (turned reels) ≡ all_dumps shelf reels
-  dumps_stay shelf [] = refl
-  dumps_stay shelf (r ∷ rs) = pick (s == r.serial) (dumps_stay shelf rs)
-    where
-      pick : (b : Bool) → all_dumps shelf (turned rs) ≡ all_dumps shelf rs → all_dumps shelf (if b then with_mounted is r ∷ rs else r ∷ turned rs) ≡ shelf r.serial ++ all_dumps shelf rs
-      pick true rest = refl
-      pick false rest = ap (λ (l : List Dump). shelf r.serial ++ l) rest
+  dumps_stay shelf reels = flat_map-change (λ (r : Reel). s == r.serial) (with_mounted is) (λ (r : Reel). shelf r.serial) (λ r. refl) reels
 
   -- what is so of each reel, mounted or not
   all_turned : (P : Reel → Type 0) → ((r : Reel) → P r → P (with_mounted is r)) → (reels : List Reel) → All P reels → All P (turned reels)
@@ -81,62 +67,22 @@ module _ (s : ℕ) (is : Bool) where
 
   -- the rows of the state
   pub rows_turned : (shelf : ℕ → List Dump) (reels : List Reel) → map (row_of shelf) (turned reels) ≡ state.with_reel s (dumps.with_mounted is) (map (row_of shelf) reels)
-  rows_turned shelf [] = refl
-  rows_turned shelf (r ∷ rs) = pick (s == r.serial) (rows_turned shelf rs)
-    where
-      pick : (b : Bool) → map (row_of shelf) (turned rs) ≡ state.with_reel s (dumps.with_mounted is) (map (row_of shelf) rs) → map (row_of shelf) (if b then with_mounted is r ∷ rs else r ∷ turned rs)
-          ≡ (if b then dumps.with_mounted is (row_of shelf r) ∷ map (row_of shelf) rs else row_of shelf r ∷ state.with_reel s (dumps.with_mounted is) (map (row_of shelf) rs))
-      pick true rest = refl
-      pick false rest = ap (λ (l : List state.ReelRow). row_of shelf r ∷ l) rest
+  rows_turned shelf reels = map-change (λ (r : Reel). s == r.serial) (with_mounted is) (λ (r : state.ReelRow). s == r.serial) (dumps.with_mounted is) (row_of shelf) (λ r. refl) (λ r. refl) reels
 
   -- another reel, and the same
   pub other_reel : (t : ℕ) (reels : List Reel) → t ≢ s → reel t (turned reels) ≡ reel t reels
-  other_reel t [] other = refl
-  other_reel t (r ∷ rs) other = by_case (cases_eq s r.serial) (other_reel t rs other)
-    where
-      by_case : (s ≡ r.serial) ⊎ (s ≡ r.serial → ⊥) → reel t (turned rs) ≡ reel t rs → reel t (turned (r ∷ rs)) ≡ reel t (r ∷ rs)
-      by_case (inl same) rest =
-          ap (reel t) (cond-true (s == r.serial) (with_mounted is r ∷ rs) (r ∷ turned rs) (eq-eqb s r.serial same))
-          ∙ cond-false (t == r.serial) (Some (with_mounted is r)) (reel t rs) (ne_eqb t r.serial (λ e. other (e ∙ sym same)))
-          ∙ sym (cond-false (t == r.serial) (Some r) (reel t rs) (ne_eqb t r.serial (λ e. other (e ∙ sym same))))
-      by_case (inr isnt) rest =
-          ap (reel t) (cond-false (s == r.serial) (with_mounted is r ∷ rs) (r ∷ turned rs) (ne_eqb s r.serial isnt))
-          ∙ ap (λ (o : Option Reel). if t == r.serial then Some r else o) rest
+  other_reel t reels other = reel-with_reel_other s t (with_mounted is) (λ r. refl) (λ same. other (sym same)) reels
 
   pub same_reel : (reels : List Reel) → reel s (turned reels) ≡ option_map (with_mounted is) (reel s reels)
-  same_reel [] = refl
-  same_reel (r ∷ rs) = by_case (cases_eq s r.serial) (same_reel rs)
-    where
-      by_case : (s ≡ r.serial) ⊎ (s ≡ r.serial → ⊥) → reel s (turned rs) ≡ option_map (with_mounted is) (reel s rs) → reel s (turned (r ∷ rs)) ≡ option_map (with_mounted is) (reel s (r ∷ rs))
-      by_case (inl same) rest =
-          ap (reel s) (cond-true (s == r.serial) (with_mounted is r ∷ rs) (r ∷ turned rs) (eq-eqb s r.serial same))
-          ∙ cond-true (s == r.serial) (Some (with_mounted is r)) (reel s rs) (eq-eqb s r.serial same)
-          ∙ ap (option_map (with_mounted is)) (sym (cond-true (s == r.serial) (Some r) (reel s rs) (eq-eqb s r.serial same)))
-      by_case (inr isnt) rest =
-          ap (reel s) (cond-false (s == r.serial) (with_mounted is r ∷ rs) (r ∷ turned rs) (ne_eqb s r.serial isnt))
-          ∙ cond-false (s == r.serial) (Some r) (reel s (turned rs)) (ne_eqb s r.serial isnt)
-          ∙ rest
-          ∙ ap (option_map (with_mounted is)) (sym (cond-false (s == r.serial) (Some r) (reel s rs) (ne_eqb s r.serial isnt)))
+  same_reel reels = reel-with_reel s (with_mounted is) (λ r. refl) reels
 
 -- WHAT THE STATE SEES of a reel
-pub reel_unread : (s : ℕ) (reels : List Reel) → reel s (map unread reels) ≡ option_map unread (reel s reels)
-reel_unread s [] = refl
-reel_unread s (r ∷ rs) = pick (s == r.serial) (reel_unread s rs)
-  where
-    pick : (b : Bool) → reel s (map unread rs) ≡ option_map unread (reel s rs) → (if b then Some (unread r) else reel s (map unread rs)) ≡ option_map unread (if b then Some r else reel s rs)
-    pick true rest = refl
-    pick false rest = rest
 
 pub row_found : (shelf : ℕ → List Dump) (s : ℕ) (reels : List Reel) → state.reel_at s (map (row_of shelf) reels) ≡ option_map (row_of shelf) (reel s reels)
-row_found shelf s [] = refl
-row_found shelf s (r ∷ rs) = pick (s == r.serial) (row_found shelf s rs)
-  where
-    pick : (b : Bool) → state.reel_at s (map (row_of shelf) rs) ≡ option_map (row_of shelf) (reel s rs) → (if b then Some (row_of shelf r) else state.reel_at s (map (row_of shelf) rs)) ≡ option_map (row_of shelf) (if b then Some r else reel s rs)
-    pick true rest = refl
-    pick false rest = rest
+row_found shelf s reels = find-map (λ (r : state.ReelRow). s == r.serial) (λ (r : Reel). s == r.serial) (row_of shelf) (λ r. refl) reels
 
 row_told : (shelf : ℕ → List Dump) (s : ℕ) (reels : List Reel) → state.reel_at s (map (row_of shelf) (map unread reels)) ≡ option_map (λ (r : Reel). row_of shelf (unread r)) (reel s reels)
-row_told shelf s reels = row_found shelf s (map unread reels) ∙ ap (option_map (row_of shelf)) (reel_unread s reels) ∙ both (reel s reels)
+row_told shelf s reels = row_found shelf s (map unread reels) ∙ ap (option_map (row_of shelf)) (reel-unread s reels) ∙ both (reel s reels)
   where
     both : (r : Option Reel) → option_map (row_of shelf) (option_map unread r) ≡ option_map (λ (q : Reel). row_of shelf (unread q)) r
     both None = refl

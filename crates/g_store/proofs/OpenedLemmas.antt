@@ -19,7 +19,7 @@ use Rattle.g_entry.specs.HeadFields.{IsSerial}
 use Rattle.g_tape.specs.declared.fault.TapeFault.{TapeFault}
 use Rattle.g_tape.specs.declared.fault.TapeFault.TheVariants as tape
 use Rattle.g_tape.specs.Rack.{AreReels, Rack, is_mounted, reel, refuses_unmount}
-use Rattle.g_tape.proofs.ReadLemmas.{is_reel, nothing_read, reel_after_reads}
+use Rattle.g_tape.proofs.ReadLemmas.{is_reel, nothing_read, reel-unread, reel_after_reads}
 use Rattle.g_tape.specs.Reads.{OnlyReads, blocks_in, unread}
 use Rattle.g_tape.specs.Reel.{Reel}
 use Rattle.g_plain.specs.declared.faults.StoreFault.{StoreFault}
@@ -63,7 +63,7 @@ use Rattle.g_store.specs.Events.{IsAnsweredBy, IsOfOpening, LeadsBy, Opens, Step
 use Rattle.g_store.specs.Refusing.{IsExact, capacity_of, needs_now, number_in, open_refuses as refuses_now}
 use Rattle.g_store.specs.Dumping.{is_stop_at}
 use Rattle.g_store.proofs.EventLemmas.{leads_same, none_written, refused}
-use Rattle.g_store.proofs.MountLemmas.{lacks_by, mounted_by, reel_unread, row_found}
+use Rattle.g_store.proofs.MountLemmas.{lacks_by, mounted_by, row_found}
 use Rattle.g_store_calls.proofs.SeenLemmas.{Seen, seen, stands}
 use Rattle.g_store_calls.proofs.SurvivalLemmas.{stays_durable}
 use Rattle.g_store.proofs.LossLemmas.{IsStoppedWith, commit_survives}
@@ -142,7 +142,7 @@ module _ (serial : ℕ) (o : OnlineFacts) (rack : Rack) (on : Reel) (on_is : ree
     k = held_in v o
 
     row_is : state.reel_at serial (map (row_of v.shelf) reels) ≡ Some (row_of v.shelf (unread on))
-    row_is = row_found v.shelf serial reels ∙ ap (option_map (row_of v.shelf)) (reel_unread serial rack.reels ∙ ap (option_map unread) on_is)
+    row_is = row_found v.shelf serial reels ∙ ap (option_map (row_of v.shelf)) (reel-unread serial rack.reels ∙ ap (option_map unread) on_is)
 
     abbrev room : ℕ
     room = on.capacity - end_of (v.shelf serial)

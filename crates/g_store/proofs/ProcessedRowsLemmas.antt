@@ -1,13 +1,13 @@
 -- The rows of the state after PROCESS: of the reel that was written, and of those that were released.
 -- serves: MovedLemmas, ProcessedStepLemmas
 use Rattle.std.proofs.Common.{◌≡◌, ◌≢◌, ℕ, suc, ◌+◌, ◌<◌, ◌≤◌, ◌==◌, Bool, true, false, List, [], ◌∷◌, ◌++◌, map, Option, Some, None, refl, sym, ◌∙◌, ap, arith, subst, inl, inr}
-use Rattle.std.specs.Prelude.{◌⊎◌, ◌&&◌, All, AllPairs, Contains, if◌then◌else◌, nat_lt, not}
+use Rattle.std.specs.Prelude.{◌⊎◌, ◌&&◌, AllPairs, Contains, if◌then◌else◌, nat_lt, not}
 use Rattle.std.specs.List.{AllZip}
 use Rattle.std.proofs.lemmas.Bool.{cond-false, cond-true, eq-eqb, le-ltb, lt-ltb, ne_eqb}
 use Rattle.std.proofs.lemmas.Bool.Decides.{eqb_tells}
 use Rattle.std.proofs.lemmas.List.{map-append}
-use Rattle.std.proofs.lemmas.List.Elements.{All-head, All-tail}
 use Rattle.std.proofs.lemmas.Option.{none-some, same_Some}
+use Rattle.g_base.proofs.KeyLemmas.{AreApart-rising, change_key-map}
 use Rattle.g_tape.specs.Rack.{Rack, reel}
 use Rattle.g_tape.specs.Reads.{unread}
 use Rattle.g_tape.specs.Reel.{Reel}
@@ -18,7 +18,6 @@ use Rattle.g_store_model.specs.Process.{released_before}
 use Rattle.g_store_model.specs.Rising.{has_none}
 use Rattle.g_store_meaning.specs.Reading.{row_of, shelved_of}
 use Rattle.g_store_meaning.specs.StoreInvariant.{with_dump}
-use Rattle.g_laws_store.proofs.RecordLemmas.{pairs_head, pairs_tail}
 use Rattle.g_process.specs.Exits.{IsBesideDump, IsClearedBy, IsReadBy, cleared}
 use Rattle.g_process.specs.ProcessPlan.{IsFree, IsTaken}
 use Rattle.g_process.proofs.ExitLemmas.{found_itself, two_true}
@@ -50,25 +49,10 @@ abbrev pub at_row : ℕ → (state.ReelRow → state.ReelRow) → state.ReelRow 
 at_row n g r = if n == r.serial then g r else r
 
 with_as_map : (n : ℕ) (g : state.ReelRow → state.ReelRow) (rs : List state.ReelRow) → AllPairs Below (names rs) → state.with_reel n g rs ≡ map (at_row n g) rs
-with_as_map n g [] rising = refl
-with_as_map n g (r ∷ rs) rising =
-    elim (eqb_tells n r.serial) [
-      | inl h ↦
-          cond-true (n == r.serial) (g r ∷ rs) (r ∷ state.with_reel n g rs) h.0
-          ∙ ap (λ (xs : List state.ReelRow). g r ∷ xs) (sym (others rs (λ k d within. let less = pairs_head Below r.serial (names rs) rising k d within in (let e = h.1 in omega (arith, less, e)))))
-          ∙ ap (λ (x : state.ReelRow). x ∷ map (at_row n g) rs) (sym (cond-true (n == r.serial) (g r) r h.0))
-      | inr h ↦
-          cond-false (n == r.serial) (g r ∷ rs) (r ∷ state.with_reel n g rs) h.0
-          ∙ ap (λ (xs : List state.ReelRow). r ∷ xs) (with_as_map n g rs (pairs_tail Below r.serial (names rs) rising))
-          ∙ ap (λ (x : state.ReelRow). x ∷ map (at_row n g) rs) (sym (cond-false (n == r.serial) (g r) r h.0))
-    ]
-  where
-    others : (xs : List state.ReelRow) → All (λ (m : ℕ). n < m) (names xs) → map (at_row n g) xs ≡ xs
-    others [] above = refl
-    others (x ∷ xs) above =
-        ap (λ (y : state.ReelRow). y ∷ map (at_row n g) xs)
-        (cond-false (n == x.serial) (g x) x (ne_eqb n x.serial (λ e. let less = All-head (λ (m : ℕ). n < m) x.serial (names xs) above in (let no : ⊥ = omega (arith, less, e) in no))))
-        ∙ ap (λ (ys : List state.ReelRow). x ∷ ys) (others xs (All-tail (λ (m : ℕ). n < m) x.serial (names xs) above))
+with_as_map n g rs rising =
+    change_key-map (λ (r : state.ReelRow). r.serial) n g (at_row n g)
+    (λ r is. sym (cond-true (n == r.serial) (g r) r (eq-eqb n r.serial (sym is)))) (λ r off. sym (cond-false (n == r.serial) (g r) r (ne_eqb n r.serial (λ is. off (sym is))))) rs
+    (AreApart-rising (λ (r : state.ReelRow). r.serial) rs rising)
 
 row_names : (shelf : ℕ → List Dump) (xs : List Reel) → names (rows shelf xs) ≡ serials xs
 row_names shelf [] = refl

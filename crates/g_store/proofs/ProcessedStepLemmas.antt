@@ -16,7 +16,7 @@ use Rattle.g_entry.specs.declared.user_rec.UserRec.{UserRec}
 use Rattle.g_tape.specs.Rack.{AreReels, Rack, reel}
 use Rattle.g_tape.specs.Reads.{blocks_in, unread, blocks_of}
 use Rattle.g_tape.specs.Reel.{Reel}
-use Rattle.g_tape.proofs.ReadLemmas.{is_reel}
+use Rattle.g_tape.proofs.ReadLemmas.{is_reel, reel-unread}
 use Rattle.g_tape.proofs.PlaceLemmas.{reel-found}
 use Rattle.g_plain.specs.declared.faults.StoreFault.{StoreFault}
 use Rattle.g_plain.specs.declared.faults.StoreFault.TheVariants.{CountersSpent, DiscReadFault, DumpOpen, NoCopy, NoMemory, NoTape, RackNotMounted, ReelNotFree, Stopped, TapeFull, TapeReadFault}
@@ -64,7 +64,7 @@ use Rattle.g_process.proofs.ExitLemmas.{found_itself, gone_all, stays_all}
 use Rattle.g_process.proofs.ReleaseLemmas.{AreApart}
 use Rattle.g_store.specs.Events.{LeadsBy, StepsBy}
 use Rattle.g_store.proofs.EventLemmas.{leads_at, leads_same}
-use Rattle.g_store.proofs.MountLemmas.{lacks_by, reel_unread, row_found}
+use Rattle.g_store.proofs.MountLemmas.{lacks_by, row_found}
 use Rattle.g_store.proofs.NotedLemmas.{kept_all}
 use Rattle.g_store.proofs.OpenedLemmas.{spent_holding}
 use Rattle.g_store.proofs.ProcessedLemmas.{IsEarly}
@@ -318,7 +318,7 @@ module _ (serial : ℕ) (o : OnlineFacts) (old : Rack) (reels : AreReels old.ree
   some_at r there taken = taken_some o old reels told shelf shelved_as r there taken
 
   row_at : (n : ℕ) (r : Reel) → reel n old.reels ≡ Some r → state.reel_at n s.reels ≡ Some (row_of shelf (unread r))
-  row_at n r found = row_found shelf n rs ∙ ap (option_map (row_of shelf)) (reel_unread n old.reels ∙ ap (option_map unread) found)
+  row_at n r found = row_found shelf n rs ∙ ap (option_map (row_of shelf)) (reel-unread n old.reels ∙ ap (option_map unread) found)
 
   end_at : (n : ℕ) (r : Reel) → reel n old.reels ≡ Some r → (ds : List Dump) → shelf r.serial ≡ ds → state.end_of s n ≡ state.end_of_dumps (map shelved_of ds)
   end_at n r found ds is = ap state.end_in (row_at n r found) ∙ ap (λ (es : List Dump). state.end_of_dumps (map shelved_of es)) is

@@ -16,6 +16,7 @@ use Rattle.g_entry.specs.declared.user_rec.UserRec.{UserRec}
 use Rattle.g_tape.specs.Rack.{Rack, is_mounted, reel}
 use Rattle.g_tape.specs.Reads.{blocks_in, blocks_of, unread}
 use Rattle.g_tape.specs.Reel.{Reel}
+use Rattle.g_tape.proofs.ReadLemmas.{reel-unread}
 use Rattle.g_plain.specs.PlainTree.{FileRow, Tree}
 use Rattle.g_plain.specs.PlainStep.{first_fault}
 use Rattle.g_plain.specs.declared.faults.StoreFault.TheVariants.{MountFirst, Stopped, TapeReadFault}
@@ -39,7 +40,7 @@ use Rattle.g_dumper.proofs.BeginLemmas.{reel_named}
 use Rattle.g_dumper.proofs.ShelfLemmas.{reel_there, told_is}
 use Rattle.g_store.specs.Starting.{HasNamed, IsNamed, NamesNone, copies_named}
 use Rattle.g_store.proofs.GreatestLemmas.{own_kept}
-use Rattle.g_store.proofs.MountLemmas.{mounted_by, reel_unread, row_found}
+use Rattle.g_store.proofs.MountLemmas.{mounted_by, row_found}
 use Rattle.g_store.proofs.NamedLemmas.{named_seen, none_seen}
 use Rattle.g_store.proofs.OwnPlaceLemmas.{GoBeside, named_all, own_copies_of, own_places}
 
@@ -161,7 +162,7 @@ module _ (disc : DiscState) (rack : Rack) (told : AllTold disc.held (told_reels 
           (blocks, ap blocks_in on.found ∙ was)
 
       row_is : state.reel_at i.serial there.reels ≡ Some (row_of belong.shelf (unread the_reel.0))
-      row_is = row_found belong.shelf i.serial reels ∙ ap (option_map (row_of belong.shelf)) (reel_unread i.serial rack.reels ∙ ap (option_map unread) the_reel.1.found)
+      row_is = row_found belong.shelf i.serial reels ∙ ap (option_map (row_of belong.shelf)) (reel-unread i.serial rack.reels ∙ ap (option_map unread) the_reel.1.found)
 
       completed_is : is_completed there k.intent ≡ is_some (find (is_intended i) (map shelved_of (belong.shelf i.serial)))
       completed_is =

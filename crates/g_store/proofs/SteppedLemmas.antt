@@ -16,6 +16,7 @@ use Rattle.g_entry.specs.declared.user_rec.UserRec.{UserRec}
 use Rattle.g_tape.specs.Rack.{AreReels, Rack, changed, reel, with_reel}
 use Rattle.g_tape.specs.Reads.{unread}
 use Rattle.g_tape.specs.Reel.{Reel, Remains, Torn, left_by}
+use Rattle.g_tape.proofs.ReadLemmas.{reel-unread}
 use Rattle.g_plain.specs.declared.faults.StoreFault.{StoreFault}
 use Rattle.g_plain.specs.declared.faults.StoreFault.TheVariants.{DiscReadFault, Stopped}
 use Rattle.g_plain.specs.PlainTree.{FileRow, Tree}
@@ -54,7 +55,7 @@ use Rattle.g_dumper.proofs.ShelfLemmas.{counts, cut_shelf, left_serial, marked_s
 use Rattle.g_process.proofs.EndLemmas.{left_long}
 use Rattle.g_store.specs.Events.{IsStepOfDump, LeadsBy}
 use Rattle.g_store.proofs.EventLemmas.{leads_at}
-use Rattle.g_store.proofs.MountLemmas.{reel_unread, row_found}
+use Rattle.g_store.proofs.MountLemmas.{row_found}
 use Rattle.g_store.proofs.NotedLemmas.{content_written, kept_after, last_is, noted_in, plan_stamps}
 use Rattle.g_store.proofs.OpenedLemmas.{spent_holding}
 use Rattle.g_store.proofs.WrittenLemmas.{rows_marked, rows_used, used_same}
@@ -89,7 +90,7 @@ tree_copied text users copies files next =
 row_of_reel : (shelf : ℕ → List Dump) (serial : ℕ) (reels : List Reel) (on : Reel) → reel serial reels ≡ Some on → (r : state.ReelRow)
     → state.reel_at serial (map (row_of shelf) (map unread reels)) ≡ Some r → row_of shelf (unread on) ≡ r
 row_of_reel shelf serial reels on on_is r at =
-    same_Some (row_of shelf (unread on)) r (sym (row_found shelf serial (map unread reels) ∙ ap (option_map (row_of shelf)) (reel_unread serial reels ∙ ap (option_map unread) on_is)) ∙ at)
+    same_Some (row_of shelf (unread on)) r (sym (row_found shelf serial (map unread reels) ∙ ap (option_map (row_of shelf)) (reel-unread serial reels ∙ ap (option_map unread) on_is)) ∙ at)
 
 on_long : (n : ℕ) (d : DumpFacts) (o : OnlineFacts) (old : Rack) (is : IsOpen d o old) → d.done ≡ n → 0 < d.plan.place + d.done → 0 < is.on.len
 on_long zero d o old is none more = let from = is.from in omega (arith, none, more, from)

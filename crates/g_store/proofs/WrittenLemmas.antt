@@ -7,6 +7,7 @@ use Rattle.std.proofs.lemmas.List.{map-append}
 use Rattle.std.proofs.lemmas.List.Elements.{All-head, All-tail}
 use Rattle.std.proofs.lemmas.List.Kept.{AllPairs-from_increasing}
 use Rattle.std.proofs.lemmas.Option.{same_Some}
+use Rattle.g_base.proofs.KeyLemmas.{change-twice}
 use Rattle.g_tape.specs.Rack.{AreReels, reel, with_reel}
 use Rattle.g_tape.specs.Reads.{unread}
 use Rattle.g_tape.specs.Reel.{Reel, Remains, Shortened, Torn, Unchanged, left_by}
@@ -79,21 +80,8 @@ module _ (serial : ℕ) (f : Reel → Reel) (g : state.ReelRow → state.ReelRow
 -- TWO CHANGES of one row
 with_both : (serial : ℕ) (b : Bool) (x : state.Shelved) (rs : List state.ReelRow)
     → state.with_reel serial (λ r. with_used b (with_shelved x r)) rs ≡ state.with_reel serial (with_used b) (state.with_reel serial (with_shelved x) rs)
-with_both serial b x [] = refl
-with_both serial b x (r ∷ rs) = by_serial (cases_Bool (serial == r.serial)) (with_both serial b x rs)
-  where
-    by_serial : ((serial == r.serial) ≡ true) ⊎ ((serial == r.serial) ≡ false)
-        → state.with_reel serial (λ q. with_used b (with_shelved x q)) rs ≡ state.with_reel serial (with_used b) (state.with_reel serial (with_shelved x) rs)
-        → state.with_reel serial (λ q. with_used b (with_shelved x q)) (r ∷ rs) ≡ state.with_reel serial (with_used b) (state.with_reel serial (with_shelved x) (r ∷ rs))
-    by_serial (inl same) rest =
-        cond-true (serial == r.serial) (with_used b (with_shelved x r) ∷ rs) (r ∷ state.with_reel serial (λ q. with_used b (with_shelved x q)) rs) same
-        ∙ sym (cond-true (serial == r.serial) (with_used b (with_shelved x r) ∷ rs) (with_shelved x r ∷ state.with_reel serial (with_used b) rs) same)
-        ∙ ap (state.with_reel serial (with_used b)) (sym (cond-true (serial == r.serial) (with_shelved x r ∷ rs) (r ∷ state.with_reel serial (with_shelved x) rs) same))
-    by_serial (inr other) rest =
-        cond-false (serial == r.serial) (with_used b (with_shelved x r) ∷ rs) (r ∷ state.with_reel serial (λ q. with_used b (with_shelved x q)) rs) other
-        ∙ ap (λ (qs : List state.ReelRow). r ∷ qs) rest
-        ∙ sym (cond-false (serial == r.serial) (with_used b r ∷ state.with_reel serial (with_shelved x) rs) (r ∷ state.with_reel serial (with_used b) (state.with_reel serial (with_shelved x) rs)) other)
-        ∙ ap (state.with_reel serial (with_used b)) (sym (cond-false (serial == r.serial) (with_shelved x r ∷ rs) (r ∷ state.with_reel serial (with_shelved x) rs) other))
+with_both serial b x rs =
+    sym (change-twice (λ (r : state.ReelRow). serial == r.serial) (with_shelved x) (with_used b) (λ (r : state.ReelRow). with_used b (with_shelved x r)) (λ r. refl) (λ r. refl) rs)
 
 used_by : state.ReelRow → Bool → state.ReelRow
 used_by r b = record r { used = b }

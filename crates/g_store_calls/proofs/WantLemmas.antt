@@ -1,8 +1,9 @@
 -- The file that a call reads, as the state of a store has it: where its bytes lie, how many they are, and whether its reel is mounted.
 -- serves: AppendCallLemmas, AppendLemmas, AppendedLemmas, BroughtLemmas, FetchLemmas, HereLemmas, TapeLemmas
-use Rattle.std.proofs.Common.{◌≡◌, ℕ, Bool, true, false, List, [], ◌∷◌, length, map, Option, Some, None, unwrap_or, refl, sym, ◌∙◌, ap}
-use Rattle.std.specs.Prelude.{◌==◌, Contains, not, if◌then◌else◌}
+use Rattle.std.proofs.Common.{◌≡◌, ℕ, true, List, length, map, Option, Some, None, unwrap_or, refl, sym, ◌∙◌, ap}
+use Rattle.std.specs.Prelude.{◌==◌, Contains, not}
 use Rattle.std.specs.Option.{option_map}
+use Rattle.g_base.proofs.KeyLemmas.{find-map}
 use Rattle.g_name.specs.declared.full.Full.{Full}
 use Rattle.g_entry.specs.declared.file_rec.FileRec.{FileRec}
 use Rattle.g_entry.specs.declared.file_rec.TapeCopy.{TapeCopy}
@@ -18,7 +19,7 @@ use Rattle.g_tree.proofs.RightLemmas.{row_is}
 use Rattle.g_disc_contents.specs.Contents.{File, recs_in}
 use Rattle.g_disc_contents.specs.Facts.{OnlineFacts}
 use Rattle.g_incr.specs.Layout.{Dump}
-use Rattle.g_store_model.specs.State.{Holding, Place, State, is_mounted, mounted_in, place_at, reel_at}
+use Rattle.g_store_model.specs.State.{Holding, Place, ReelRow, State, is_mounted, mounted_in, place_at, reel_at}
 use Rattle.g_store_model.specs.CallStep.{copy_serial, is_offline, len_of, place_of, reel_of, stamp_of, version_read}
 use Rattle.g_store_meaning.specs.Meaning.{told_reels}
 use Rattle.g_store_meaning.specs.Reading.{AllTold, IsView, View, place_of as place_by, row_of, state_up}
@@ -38,13 +39,7 @@ pub record Wants (o : OnlineFacts) (who : List ℕ) (call : StoreCall) (f : File
 
 -- A REEL is mounted in the state if it is in the rack
 row_found : (shelf : ℕ → List Dump) (n : ℕ) (reels : List Reel) → reel_at n (map (row_of shelf) reels) ≡ option_map (row_of shelf) (reel n reels)
-row_found shelf n [] = refl
-row_found shelf n (r ∷ rs) = pick (n == r.serial) (row_found shelf n rs)
-  where
-    pick : (b : Bool) → reel_at n (map (row_of shelf) rs) ≡ option_map (row_of shelf) (reel n rs)
-        → (if b then Some (row_of shelf r) else reel_at n (map (row_of shelf) rs)) ≡ option_map (row_of shelf) (if b then Some r else reel n rs)
-    pick true rest = refl
-    pick false rest = rest
+row_found shelf n reels = find-map (λ (r : ReelRow). n == r.serial) (λ (r : Reel). n == r.serial) (row_of shelf) (λ r. refl) reels
 
 row_mounted : (shelf : ℕ → List Dump) (r : Option Reel) → mounted_in (option_map (row_of shelf) (option_map unread r)) ≡ is_on r
 row_mounted shelf None = refl

@@ -5,7 +5,8 @@ use Rattle.std.specs.Prelude.{◌⊎◌, ◌==◌, Bool, true, false, not, ◌&&
 use Rattle.std.specs.FinMap.{FinMap}
 use Rattle.std.specs.List.{AllZip}
 use Rattle.std.specs.Ordering.{nat_cmp}
-use Rattle.std.proofs.lemmas.Bool.{both_ways, cases_Bool, cond-false, cond-true, eq-eqb, eqb-true, ne_eqb}
+use Rattle.std.proofs.lemmas.Bool.{both_ways, cases_Bool, cond-false, cond-true, eq-eqb, eqb-true}
+use Rattle.g_base.proofs.KeyLemmas.{at_key-other, find-change}
 use Rattle.g_plain.specs.declared.faults.StoreFault.{StoreFault}
 use Rattle.g_plain.specs.declared.faults.StoreFault.TheVariants.{DiscReadFault, TapeReadFault, Stopped}
 use Rattle.g_store_model.specs.State.{State, Holding, Dumped, Place, Shelved, ReelRow, reel_at, with_reel}
@@ -149,33 +150,11 @@ found_behind on r rs isnt = cond-false (on == r.serial) (Some r) (reel_at on rs)
 
 -- What is found after one reel was changed.
 pub found_with : (on : ℕ) (f : ReelRow → ReelRow) → ((r : ReelRow) → (f r).serial ≡ r.serial) → (rs : List ReelRow) → reel_at on (with_reel on f rs) ≡ option_map f (reel_at on rs)
-found_with on f same [] = refl
-found_with on f same (r ∷ rs) = by_serial (cases_Bool (on == r.serial)) (found_with on f same rs)
-  where
-    by_serial : ((on == r.serial) ≡ true) ⊎ ((on == r.serial) ≡ false) → reel_at on (with_reel on f rs) ≡ option_map f (reel_at on rs)
-        → reel_at on (with_reel on f (r ∷ rs)) ≡ option_map f (reel_at on (r ∷ rs))
-    by_serial (inl is) rest =
-        ap (reel_at on) (cond-true (on == r.serial) (f r ∷ rs) (r ∷ with_reel on f rs) is)
-        ∙ found_here on (f r) rs (eqb-true on r.serial is ∙ sym (same r)) ∙ ap (option_map f) (sym (found_here on r rs (eqb-true on r.serial is)))
-    by_serial (inr isnt) rest =
-        ap (reel_at on) (cond-false (on == r.serial) (f r ∷ rs) (r ∷ with_reel on f rs) isnt)
-        ∙ found_behind on r (with_reel on f rs) isnt ∙ rest ∙ ap (option_map f) (sym (found_behind on r rs isnt))
+found_with on f same rs = find-change (λ (r : ReelRow). on == r.serial) f (λ r. ap (λ (n : ℕ). on == n) (same r)) rs
 
 -- another reel's change leaves it
 found_apart : (on n : ℕ) (f : ReelRow → ReelRow) → ((r : ReelRow) → (f r).serial ≡ r.serial) → on ≢ n → (rs : List ReelRow) → reel_at on (with_reel n f rs) ≡ reel_at on rs
-found_apart on n f same apart [] = refl
-found_apart on n f same apart (r ∷ rs) = by_serial (cases_Bool (n == r.serial)) (found_apart on n f same apart rs)
-  where
-    other : (q : ReelRow) → n ≡ q.serial → (on == q.serial) ≡ false
-    other q is = ne_eqb on q.serial (λ e. apart (e ∙ sym is))
-
-    by_serial : ((n == r.serial) ≡ true) ⊎ ((n == r.serial) ≡ false) → reel_at on (with_reel n f rs) ≡ reel_at on rs → reel_at on (with_reel n f (r ∷ rs)) ≡ reel_at on (r ∷ rs)
-    by_serial (inl is) rest =
-        ap (reel_at on) (cond-true (n == r.serial) (f r ∷ rs) (r ∷ with_reel n f rs) is)
-        ∙ found_behind on (f r) rs (other (f r) (eqb-true n r.serial is ∙ sym (same r))) ∙ sym (found_behind on r rs (other r (eqb-true n r.serial is)))
-    by_serial (inr isnt) rest =
-        ap (reel_at on) (cond-false (n == r.serial) (f r ∷ rs) (r ∷ with_reel n f rs) isnt)
-        ∙ ap (λ (o : Option ReelRow). let x : Option ReelRow = if on == r.serial then Some r else o in x) rest
+found_apart on n f same apart rs = at_key-other (λ (r : ReelRow). r.serial) n on f same (λ e. apart (sym e)) rs
 
 -- The same for the release of other reels.
 released_serial : (on until : ℕ) (r : ReelRow) → (released_before on until r).serial ≡ r.serial

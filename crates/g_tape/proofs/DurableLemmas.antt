@@ -1,10 +1,10 @@
 -- What survives a power loss.
 -- serves: MemoryLemmas, crates above
-use Rattle.std.proofs.Common.{◌≡◌, ℕ, ◌+◌, ◌-◌, ◌<◌, ◌≤◌, List, [], ◌∷◌, ◌++◌, Bool, true, ◌==◌, if◌then◌else◌, Option, Some, None, is_some, Result, Ok, Err, All, length, take, min, option_map, map, refl, subst, sym, ap, ◌∙◌, inl, inr, arith}
-use Rattle.std.specs.Prelude.{◌⊎◌, OnOk}
+use Rattle.std.proofs.Common.{◌≡◌, ℕ, ◌+◌, ◌-◌, ◌≤◌, List, [], ◌∷◌, ◌++◌, true, ◌==◌, Option, Some, None, Result, Ok, Err, length, take, option_map, refl, subst, sym, ap, ◌∙◌, inl, inr, arith}
+use Rattle.std.specs.Prelude.{◌⊎◌}
 use Rattle.std.specs.Option.{ForSome}
-use Rattle.std.proofs.lemmas.Bool.Decides.{eqb_tells}
-use Rattle.std.proofs.lemmas.List.{take-take, take_all, length-take, length-take-le, take-append-le, length-append}
+use Rattle.std.proofs.lemmas.List.{take-take, length-take, length-take-le, take-append-le, length-append}
+use Rattle.g_base.proofs.KeyLemmas.{change-same}
 use Rattle.g_tape.specs.declared.fault.TapeFault.{TapeFault}
 use Rattle.g_tape.specs.declared.fault.TapeFault.TheVariants.{NoTape, NotMounted, End, ReadFailed, WriteFailed}
 use Rattle.g_tape.specs.Reel.{IsReel, Reel, Remains, Unchanged, Shortened, Torn, ending, left_by}
@@ -79,13 +79,9 @@ enough k (Some r) was is free at =
 begun : (s k : ℕ) (block : List ℕ) (old : Rack) (was left : List (List ℕ)) → blocks_of s old ≡ Some was → length left ≤ k + 1 → take k left ≡ take k was → MayBeBegun s k block old left
 begun s k block old was left at short front = record { short = short; synced = λ synced able. has_front k s old was left at front }
 
-with_reel-same : (s : ℕ) (rs : List Reel) → with_reel s (λ r. r) rs ≡ rs
-with_reel-same s [] = refl
-with_reel-same s (r ∷ rs) =
-    elim (eqb_tells s r.serial) [
-      | inl h ↦ ap (λ (b : Bool). if b then r ∷ rs else r ∷ with_reel s (λ r. r) rs) h.0
-      | inr h ↦ ap (λ (b : Bool). if b then r ∷ rs else r ∷ with_reel s (λ r. r) rs) h.0 ∙ ap (λ (xs : List Reel). r ∷ xs) (with_reel-same s rs)
-    ]
+-- the change that changes nothing
+pub with_reel-same : (s : ℕ) (rs : List Reel) → with_reel s (λ r. r) rs ≡ rs
+with_reel-same s rs = change-same (λ (r : Reel). s == r.serial) (λ r. r) rs (λ r is. refl)
 
 module _ (s k : ℕ) (block : List ℕ) (old new : Rack) (before : old.risks ≡ []) (after : new.risks ≡ []) (are : AreReels old.reels) where
   same_before : (left : List (List ℕ)) → new.reels ≡ old.reels → ForSome (blocks_of s new) (λ blocks. left ≡ blocks → MayLeave s old left)

@@ -1,18 +1,15 @@
 -- The first reel of a serial, found by place.
 -- serves: place_of, ReadLemmas, crates above
-use Rattle.std.proofs.Common.{◌≡◌, ℕ, zero, suc, ◌<◌, List, [], ◌∷◌, Some, None, Bool, true, false, ◌==◌, if◌then◌else◌, Contains, length, get_or, inl, inr, sym, ap, ◌∙◌, refl, arith, eq-eqb}
+use Rattle.std.proofs.Common.{◌≡◌, ℕ, zero, suc, ◌<◌, List, [], ◌∷◌, Some, None, Bool, true, false, ◌==◌, if◌then◌else◌, Contains, length, get_or, sym, ap, ◌∙◌, arith, eq-eqb}
 use Rattle.std.proofs.lemmas.Bool.{ne_eqb}
-use Rattle.std.proofs.lemmas.Bool.Decides.{eqb_tells}
+use Rattle.g_base.proofs.KeyLemmas.{at_key-found, at_key-none}
 use Rattle.g_tape.specs.Reel.{Reel}
 use Rattle.g_tape.specs.Rack.{reel, with_reel}
 use Rattle.g_tape.specs.Place.{IsPlaceOf}
 
 -- the serial is on no reel
 pub reel-none : (s : ℕ) (reels : List Reel) → ((k : ℕ) (d : Reel) → k < length reels → (get_or reels k d).serial ≡ s → ⊥) → reel s reels ≡ None
-reel-none s [] other = refl
-reel-none s (r ∷ rs) other =
-    let differs : (s == r.serial) ≡ false = ne_eqb s r.serial (λ e. other 0 r (omega arith) (sym e)) in
-    ap (λ (b : Bool). if b then Some r else reel s rs) differs ∙ reel-none s rs (λ k d h. other (suc k) d (omega (arith, h)))
+reel-none s reels other = at_key-none (λ (r : Reel). r.serial) s reels other
 
 -- the reel at place i is the first of the serial
 pub reel-first : (s : ℕ) (reels : List Reel) (i : ℕ) → i < length reels → ((d : Reel) → (get_or reels i d).serial ≡ s) → ((k : ℕ) (d : Reel) → k < i → (get_or reels k d).serial ≡ s → ⊥) → IsPlaceOf s reels i
@@ -35,14 +32,4 @@ reel-first s (r ∷ rs) (suc i) within here before =
 
 -- the reel of a serial is among the reels, and has it
 pub reel-found : (s : ℕ) (reels : List Reel) (r : Reel) → reel s reels ≡ Some r → Contains reels r × (r.serial ≡ s)
-reel-found s [] r is = absurd (cc)
-reel-found s (q ∷ qs) r is =
-    elim (eqb_tells s q.serial) [
-      | inl h ↦
-          let found : Some q ≡ Some r = sym (ap (λ (b : Bool). if b then Some q else reel s qs) h.0) ∙ is in
-          let same : q ≡ r = cc in
-          ((0, omega arith, same), ap (λ (x : Reel). x.serial) (sym same) ∙ sym h.1)
-      | inr h ↦
-          let ((k, within, at), named) = reel-found s qs r (sym (ap (λ (b : Bool). if b then Some q else reel s qs) h.0) ∙ is) in
-          ((suc k, omega (arith, within), at), named)
-    ]
+reel-found s reels r is = at_key-found (λ (r : Reel). r.serial) s reels r is

@@ -1,13 +1,13 @@
 -- What reads preserve, and how they compose.
 -- serves: reads_only_read, DurableLemmas, MemoryLemmas, SecureLemmas, crates above
-use Rattle.std.proofs.Common.{◌≡◌, ℕ, ◌<◌, ◌≤◌, List, [], ◌∷◌, Bool, true, false, ◌==◌, nat_lt, if◌then◌else◌, Option, Some, None, Result, Ok, Err, All, length, map, get_or, option_map, refl, subst, sym, ap, ◌∙◌, inl, inr, eq-eqb, arith}
+use Rattle.std.proofs.Common.{◌≡◌, ℕ, ◌<◌, ◌≤◌, List, [], Bool, true, false, ◌==◌, nat_lt, if◌then◌else◌, Option, Some, None, Result, Ok, Err, All, length, map, get_or, option_map, refl, subst, sym, ap, ◌∙◌, inl, inr, arith}
 use Rattle.std.proofs.Math.ListN.{set, get_or-eq_default}
 use Rattle.std.specs.Option.{ForSome}
-use Rattle.std.proofs.lemmas.Bool.{ne_eqb, cases_eq, cases_lt, ltb-true}
-use Rattle.std.proofs.lemmas.Bool.Decides.{eqb_tells}
+use Rattle.std.proofs.lemmas.Bool.{cases_eq, cases_lt, ltb-true}
 use Rattle.std.proofs.lemmas.List.Elements.{All-contains}
 use Rattle.std.proofs.lemmas.List.{get_or-set_same, get_or-set_other}
 use Rattle.g_base.specs.Counts.{one_more, Rose}
+use Rattle.g_base.proofs.KeyLemmas.{at_key-other, find-change, find-map, map-change_same}
 use Rattle.g_tape.specs.declared.fault.TapeFault.{TapeFault}
 use Rattle.g_tape.specs.declared.fault.TapeFault.TheVariants.{NoTape, NotMounted, End, ReadFailed, WriteFailed}
 use Rattle.g_tape.specs.Reel.{Reel, IsReel, read_at}
@@ -19,46 +19,15 @@ use Rattle.g_tape.proofs.PlaceLemmas.{reel-found}
 
 -- the changed reel is found changed
 pub reel-with_reel : (s : ℕ) (f : Reel → Reel) → ((r : Reel) → (f r).serial ≡ r.serial) → (rs : List Reel) → reel s (with_reel s f rs) ≡ option_map f (reel s rs)
-reel-with_reel s f keeps [] = refl
-reel-with_reel s f keeps (r ∷ rs) =
-    elim (eqb_tells s r.serial) [
-      | inl h ↦
-          ap (λ (b : Bool). reel s (if b then f r ∷ rs else r ∷ with_reel s f rs)) h.0
-          ∙ ap (λ (b : Bool). if b then Some (f r) else reel s rs) (eq-eqb s (f r).serial (h.1 ∙ sym (keeps r)))
-          ∙ sym (ap (λ (b : Bool). option_map f (if b then Some r else reel s rs)) h.0)
-      | inr h ↦
-          ap (λ (b : Bool). reel s (if b then f r ∷ rs else r ∷ with_reel s f rs)) h.0
-          ∙ ap (λ (b : Bool). if b then Some r else reel s (with_reel s f rs)) h.0
-          ∙ reel-with_reel s f keeps rs
-          ∙ sym (ap (λ (b : Bool). option_map f (if b then Some r else reel s rs)) h.0)
-    ]
+reel-with_reel s f keeps rs = find-change (λ (r : Reel). s == r.serial) f (λ r. ap (λ (n : ℕ). s == n) (keeps r)) rs
 
 -- The other reels are found unchanged.
 pub reel-with_reel_other : (s t : ℕ) (f : Reel → Reel) → ((r : Reel) → (f r).serial ≡ r.serial) → (s ≡ t → ⊥) → (rs : List Reel) → reel t (with_reel s f rs) ≡ reel t rs
-reel-with_reel_other s t f keeps apart [] = refl
-reel-with_reel_other s t f keeps apart (r ∷ rs) =
-    elim (eqb_tells s r.serial) [
-      | inl h ↦
-          ap (λ (b : Bool). reel t (if b then f r ∷ rs else r ∷ with_reel s f rs)) h.0
-          ∙ ap (λ (b : Bool). if b then Some (f r) else reel t rs) (ne_eqb t (f r).serial (λ e. apart (h.1 ∙ sym (keeps r) ∙ sym e)))
-          ∙ sym (ap (λ (b : Bool). if b then Some r else reel t rs) (ne_eqb t r.serial (λ e. apart (h.1 ∙ sym e))))
-      | inr h ↦
-          ap (λ (b : Bool). reel t (if b then f r ∷ rs else r ∷ with_reel s f rs)) h.0
-          ∙ ap (λ (o : Option Reel). if t == r.serial then Some r else o) (reel-with_reel_other s t f keeps apart rs)
-    ]
+reel-with_reel_other s t f keeps apart rs = at_key-other (λ (r : Reel). r.serial) s t f keeps apart rs
 
 -- a change that only counts reads isn't seen without the counts
 pub unread-with_reel : (s : ℕ) (f : Reel → Reel) → ((r : Reel) → unread (f r) ≡ unread r) → (rs : List Reel) → map unread (with_reel s f rs) ≡ map unread rs
-unread-with_reel s f same [] = refl
-unread-with_reel s f same (r ∷ rs) =
-    elim (eqb_tells s r.serial) [
-      | inl h ↦
-          ap (λ (b : Bool). map unread (if b then f r ∷ rs else r ∷ with_reel s f rs)) h.0
-          ∙ ap (λ (x : Reel). x ∷ map unread rs) (same r)
-      | inr h ↦
-          ap (λ (b : Bool). map unread (if b then f r ∷ rs else r ∷ with_reel s f rs)) h.0
-          ∙ ap (λ (xs : List Reel). unread r ∷ xs) (unread-with_reel s f same rs)
-    ]
+unread-with_reel s f same rs = map-change_same (λ (r : Reel). s == r.serial) f unread same rs
 
 counts-none : (g : List ℕ → List ℕ) (o : Option (List ℕ)) → option_map (λ (ts : List ℕ). let none : List ℕ = [] in none) (option_map g o) ≡ option_map (λ (ts : List ℕ). let none : List ℕ = [] in none) o
 counts-none g None = refl
@@ -69,17 +38,7 @@ unread-read_at k r = ap (λ (o : Option (List ℕ)). let x : Reel = record r { t
 
 -- the reel of a serial, found without the counts
 pub reel-unread : (s : ℕ) (rs : List Reel) → reel s (map unread rs) ≡ option_map unread (reel s rs)
-reel-unread s [] = refl
-reel-unread s (r ∷ rs) =
-    elim (eqb_tells s r.serial) [
-      | inl h ↦
-          ap (λ (b : Bool). if b then Some (unread r) else reel s (map unread rs)) h.0
-          ∙ sym (ap (λ (b : Bool). option_map unread (if b then Some r else reel s rs)) h.0)
-      | inr h ↦
-          ap (λ (b : Bool). if b then Some (unread r) else reel s (map unread rs)) h.0
-          ∙ reel-unread s rs
-          ∙ sym (ap (λ (b : Bool). option_map unread (if b then Some r else reel s rs)) h.0)
-    ]
+reel-unread s rs = find-map (λ (r : Reel). s == r.serial) (λ (r : Reel). s == r.serial) unread (λ r. refl) rs
 
 -- After reads each reel is unchanged, apart from its read counts.
 same_unread : (s : ℕ) (rs qs : List Reel) → map unread rs ≡ map unread qs → option_map unread (reel s rs) ≡ option_map unread (reel s qs)

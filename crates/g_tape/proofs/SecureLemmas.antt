@@ -1,12 +1,14 @@
 -- A REEL AFTER THE OTHER is made durable.
 -- serves: secure_all (durable, secured)
-use Rattle.std.proofs.Common.{◌≡◌, ℕ, zero, suc, ◌+◌, List, [], ◌∷◌, Bool, true, false, ◌==◌, ◌<◌, ◌≤◌, length, subst, Some, None, Result, Ok, Err, map, slice_get, is_some, if◌then◌else◌, inl, inr, eq-eqb, arith, refl, sym, ap, ◌∙◌}
+use Rattle.std.proofs.Common.{◌≡◌, ℕ, suc, ◌+◌, List, [], ◌∷◌, Bool, true, false, ◌<◌, ◌≤◌, length, subst, Option, Some, Ok, Err, map, slice_get, is_some, if◌then◌else◌, inl, inr, arith, refl, sym, ap, ◌∙◌}
 use Rattle.std.proofs.lemmas.Bool.{cases_eq}
 use Rattle.std.proofs.lemmas.Bool.Decides.{eqb_tells}
+use Rattle.std.proofs.lemmas.Option.{get_or_from_slice_get, slice_get_within}
 use Rattle.g_tape.specs.declared.fault.TapeFault.{TapeFault}
 use Rattle.g_tape.specs.declared.fault.TapeFault.TheVariants.{NoTape, NotMounted, End, ReadFailed, WriteFailed}
 use Rattle.g_tape.specs.Reel.{Reel}
 use Rattle.g_base.specs.Counts.{Rose}
+use Rattle.g_base.proofs.KeyLemmas.{at_key-among}
 use Rattle.g_tape.specs.Durable.{AllSecureDurably, IsDurable, SecuresDurably}
 use Rattle.g_tape.specs.Rack.{Rack, Securing, SecuringAll, reel}
 use Rattle.g_tape.specs.Reads.{LeavesNoMore, MayLeave, blocks_in, blocks_of, is_syncable}
@@ -15,16 +17,10 @@ use Rattle.g_tape.proofs.ReadLemmas.{no_more, still_no_more}
 
 -- a serial of the rack is that of a reel
 pub has_serial : (rs : List Reel) (i s : ℕ) → slice_get (map (λ r. r.serial) rs) i ≡ Some s → is_some (reel s rs) ≡ true
-has_serial [] i s at = absurd (cc)
-has_serial (r ∷ rs) zero s at =
-    let same : r.serial ≡ s = cc in
-    let is : (s == r.serial) ≡ true = eq-eqb s r.serial (sym same) in
-    ap (λ (b : Bool). is_some (if b then Some r else reel s rs)) is
-has_serial (r ∷ rs) (suc i) s at =
-    elim (eqb_tells s r.serial) [
-      | inl h ↦ ap (λ (b : Bool). is_some (if b then Some r else reel s rs)) h.0
-      | inr h ↦ ap (λ (b : Bool). is_some (if b then Some r else reel s rs)) h.0 ∙ has_serial rs i s at
-    ]
+has_serial rs i s at =
+    let serials : List ℕ = map (λ (r : Reel). r.serial) rs in
+    let (r, there) = at_key-among (λ (r : Reel). r.serial) s rs (i, slice_get_within serials i s at, get_or_from_slice_get serials i s s at) in
+    ap (λ (o : Option Reel). is_some o) there
 
 -- and the serial of a reel is one of the rack
 serial_at : (s : ℕ) (rs : List Reel) (blocks : List (List ℕ)) → blocks_in (reel s rs) ≡ Some blocks → (j : ℕ) × (j < length rs) × (slice_get (map (λ r. r.serial) rs) j ≡ Some s)

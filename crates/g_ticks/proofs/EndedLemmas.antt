@@ -1,9 +1,11 @@
 -- What a turn's end requires and leaves: the job is still there, its reel isn't mounted.
 -- serves: end_shown (ends), end_turn, end_untold (ends), open_each (opens), turn_of (turn)
-use Rattle.std.proofs.Common.{◌≡◌, ℕ, ◌==◌, Bool, true, false, cond, not, List, [], ◌∷◌, Option, None, Some, drop, length, refl, sym, ◌∙◌, ap, subst, inl, inr, if◌then◌else◌, eq-eqb}
+use Rattle.std.proofs.Common.{◌≡◌, ℕ, Bool, true, false, not, List, [], Option, None, Some, drop, length, refl, sym, ◌∙◌, ap, subst, inl, inr}
 use Rattle.std.specs.Prelude.{◌↔◌, Err, IfOk, Ok, Result}
 use Rattle.g_base.specs.declared.memory.NoMemory.{NoMemory}
+use Rattle.g_base.proofs.KeyLemmas.{find-put}
 use Rattle.std.specs.Fn.{Shared}
+use Rattle.std.specs.Option.{option_map}
 use denote.Ref.{Bor}
 use Rattle.g_job.specs.State.{JobState}
 use Rattle.g_job.specs.Turns.{turn_work}
@@ -29,19 +31,13 @@ use Rattle.g_job_table.specs.Turn.{TakesTurn, shown_from}
 use Rattle.g_run_model.specs.Accounts.{Opened, rows_of, with_new}
 use Rattle.g_run_model.specs.Texts.{ended_file, put_as, shown}
 use Rattle.g_run_model.specs.World.{with_job}
-use Rattle.g_run_model.proofs.CrewLemmas.{no_job, one_job}
+use Rattle.g_run_model.proofs.CrewLemmas.{one_job}
 use Rattle.g_ticks.specs.Turning.{EndsTurn, LeftBy, ShowsAs, TakenOut, Takes, added_of}
 use Rattle.g_ticks.proofs.NumberedLemmas.{numbered_is}
 
 -- the job that replaces another is found under its number
 found_with : (j old : JobState) (jobs : List JobState) → job_in j.number jobs ≡ Some old → job_in j.number (with_job j jobs) ≡ Some j
-found_with j old [] found = no_job old found
-found_with j old (k ∷ jobs) found = by (k.number == j.number) refl found (λ e. found_with j old jobs e)
-  where
-    by : (b : Bool) → (k.number == j.number) ≡ b → cond b (Some k) (job_in j.number jobs) ≡ Some old → (job_in j.number jobs ≡ Some old → job_in j.number (with_job j jobs) ≡ Some j)
-        → job_in j.number ((if b then j else k) ∷ with_job j jobs) ≡ Some j
-    by true e found again = ap (λ (b : Bool). cond b (Some j) (job_in j.number (with_job j jobs))) (eq-eqb j.number j.number refl)
-    by false e found again = ap (λ (b : Bool). cond b (Some k) (job_in j.number (with_job j jobs))) e ∙ again found
+found_with j old jobs found = find-put (λ (k : JobState). k.number) j jobs ∙ ap (option_map (λ (k : JobState). j)) found
 
 pub there_behind : (number : ℕ) (jobs : List JobState) (job behind : JobState) → job_in number jobs ≡ Some job → behind.number ≡ job.number → (now : List JobState) → now ≡ with_job behind jobs → job_in number now ≡ Some behind
 there_behind number jobs job behind there numbers now is =

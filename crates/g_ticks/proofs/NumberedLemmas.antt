@@ -2,10 +2,10 @@
 -- serves: EndedLemmas, FallLemmas, TurningLemmas, WeighedLemmas
 use Rattle.std.proofs.Common.{◌≡◌, ℕ, ◌==◌, Bool, true, false, cond, not, List, [], ◌∷◌, Some, refl, sym, ◌∙◌, ap, if◌then◌else◌, eqb-true, eq-eqb}
 use Rattle.std.proofs.lemmas.List.Elements.{All-cons, All-filter, All-head, All-tail}
+use Rattle.g_base.proofs.KeyLemmas.{find-found}
 use Rattle.g_job_table.specs.Numbers.{AreOpen, job_in}
 use Rattle.g_job.specs.State.{JobState}
 use Rattle.g_run_model.specs.World.{with_job, without_job}
-use Rattle.g_run_model.proofs.CrewLemmas.{no_job, one_job}
 
 -- the job that replaces another is removed with it
 pub without_with : (j : JobState) (jobs : List JobState) → without_job j.number (with_job j jobs) ≡ without_job j.number jobs
@@ -34,9 +34,4 @@ open_without number jobs all = All-filter (λ j. not (j.number == number)) (λ x
 
 -- the job of a number has it
 pub numbered_is : (number : ℕ) (jobs : List JobState) (job : JobState) → job_in number jobs ≡ Some job → job.number ≡ number
-numbered_is number [] job found = no_job job found
-numbered_is number (k ∷ jobs) job found = by (k.number == number) refl found (λ e. numbered_is number jobs job e)
-  where
-    by : (b : Bool) → (k.number == number) ≡ b → cond b (Some k) (job_in number jobs) ≡ Some job → (job_in number jobs ≡ Some job → job.number ≡ number) → job.number ≡ number
-    by true e found again = ap (λ (x : JobState). x.number) (sym (one_job k job found)) ∙ eqb-true k.number number e
-    by false e found again = again found
+numbered_is number jobs job found = eqb-true job.number number (find-found (λ (k : JobState). k.number == number) jobs job found).1

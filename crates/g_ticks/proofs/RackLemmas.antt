@@ -1,7 +1,8 @@
 -- A write to a reel mounts and unmounts none, so what jobs have left to do is unchanged.
 -- serves: DumpLemmas
-use Rattle.std.proofs.Common.{◌≡◌, ◌+◌, ◌-◌, ◌==◌, ◌&&◌, ℕ, Bool, true, false, List, [], ◌∷◌, Option, Some, None, sum_by, refl, ◌∙◌, ap, if◌then◌else◌, arith}
+use Rattle.std.proofs.Common.{◌≡◌, ◌+◌, ◌-◌, ◌==◌, ◌&&◌, ℕ, Bool, List, [], ◌∷◌, Option, Some, None, sum_by, refl, ◌∙◌, ap, if◌then◌else◌, arith}
 use Rattle.std.proofs.lemmas.List.Sums.{sum_by-cons}
+use Rattle.g_base.proofs.KeyLemmas.{find-change_seen}
 use Rattle.g_job.specs.State.{JobState}
 use Rattle.g_job.specs.Terminal.{is_ready}
 use Rattle.g_tape.specs.Reel.{Reel, Remains, Shortened, Torn, Unchanged, ending, left_by}
@@ -9,23 +10,8 @@ use Rattle.g_tape.specs.Rack.{Rack, is_mounted, reel, with_reel}
 use Rattle.g_ticks.specs.Tick.{may_step, reel_there, share_in}
 
 module _ (f : Reel → Reel) (mounts : (r : Reel) → (f r).mounted ≡ r.mounted) (named : (r : Reel) → (f r).serial ≡ r.serial) where
-  first : (s : ℕ) (r : Reel) (rs : List Reel) (a b : Bool) → a ≡ b → is_mounted (if a then Some (f r) else reel s rs) ≡ is_mounted (if b then Some r else reel s rs)
-  first s r rs true true e = mounts r
-  first s r rs false false e = refl
-  first s r rs true false e = absurd (let no : ⊥ = cc in no)
-  first s r rs false true e = absurd (let no : ⊥ = cc in no)
-
-  later : (s : ℕ) (r : Reel) (rs ws : List Reel) (a : Bool) → is_mounted (reel s ws) ≡ is_mounted (reel s rs) → is_mounted (if a then Some r else reel s ws) ≡ is_mounted (if a then Some r else reel s rs)
-  later s r rs ws true e = refl
-  later s r rs ws false e = e
-
   mounted_still : (t s : ℕ) (rs : List Reel) → is_mounted (reel s (with_reel t f rs)) ≡ is_mounted (reel s rs)
-  mounted_still t s [] = refl
-  mounted_still t s (r ∷ rs) = by (t == r.serial) (mounted_still t s rs)
-    where
-      by : (b : Bool) → is_mounted (reel s (with_reel t f rs)) ≡ is_mounted (reel s rs) → is_mounted (reel s (if b then f r ∷ rs else r ∷ with_reel t f rs)) ≡ is_mounted (reel s (r ∷ rs))
-      by true e = first s r rs (s == (f r).serial) (s == r.serial) (ap (λ (n : ℕ). s == n) (named r))
-      by false e = later s r rs (with_reel t f rs) (s == r.serial) e
+  mounted_still t s rs = find-change_seen (λ (r : Reel). t == r.serial) f (λ (r : Reel). s == r.serial) is_mounted (λ r. ap (λ (n : ℕ). s == n) (named r)) mounts rs
 
 left_mounts : (how : Remains) (k : ℕ) (r : Reel) → (left_by how k r).mounted ≡ r.mounted
 left_mounts Unchanged k r = refl
