@@ -6,7 +6,19 @@ use Rattle.std.proofs.lemmas.Bool.{cases_Bool, ne_eqb}
 use Rattle.std.proofs.lemmas.Bool.Decides.{eqb_tells}
 use Rattle.std.proofs.lemmas.List.{get_or-map, length-map}
 use Rattle.std.proofs.lemmas.List.Elements.{All-contains, All-cons, All-head, All-tail}
-use Rattle.g_base.specs.Keyed.{at_key, change_first, change_key}
+
+-- The first item with this key, if there is one.
+abbrev pub at_key : {X : Type 0} → (X → ℕ) → ℕ → List X → Option X
+at_key key n xs = find (λ x. n == key x) xs
+
+-- The items, with f applied to the first one that passes the test.
+abbrev pub change_first : {X : Type 0} → (X → Bool) → (X → X) → List X → List X
+change_first test f [] = []
+change_first test f (x ∷ xs) = if test x then f x ∷ xs else x ∷ change_first test f xs
+
+-- The items, with f applied to the first one with this key.
+abbrev pub change_key : {X : Type 0} → (X → ℕ) → ℕ → (X → X) → List X → List X
+change_key key n f xs = change_first (λ x. n == key x) f xs
 
 -- LOOK-UP BY A TEST
 module _ {X : Type 0} where

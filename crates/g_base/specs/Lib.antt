@@ -2,6 +2,5 @@ pub mod Block
 pub mod Counts
 pub mod Fields
 pub mod Fuse
-pub mod Keyed
 pub mod Limits
 pub mod ToldContent
