@@ -33,7 +33,7 @@ use Rattle.g_job_table.specs.declared.taking.NotTaken.{NotTaken}
 use Rattle.g_job_table.specs.declared.taking.NotTaken.TheVariants as why
 use Rattle.g_day.specs.declared.progress.Failure.{Failure}
 use Rattle.g_day.specs.Jobs.{ComesIn, IsRefused, KnowsIn, TakesJob, TellsWhy, joined}
-use Rattle.g_day.specs.Losses.{AsItWas}
+use Rattle.g_day.specs.Losses.{AsRead}
 use Rattle.g_day.specs.Parts.{DidLine, DoesLine, IsReady, Matches, Seen, seen}
 use Rattle.g_day.specs.Puts.{FaultCause, Puts}
 use Rattle.g_day.specs.System.{Down, SystemFacts, SystemSafe, Up, devices_in}
@@ -225,7 +225,7 @@ module _ (s : StoreFacts) (c : CrewState) (ready : IsReady (Up s) c) (count : �
             reads = reads m.stands.told.disc w.store m.stands.stands;
           },
         );
-        left = λ safe blocks rack left. inl (down w.store, AsItWas (sym (down_again w.store)), (store_survives s blocks rack safe left).1 w.store m.stands.stands);
+        left = λ safe blocks rack left. inl (down w.store, AsRead (sym (down_again w.store)), (store_survives s blocks rack safe left).1 w.store m.stands.stands);
         text = append_assoc w.text (operator_line w.count (codes "SHUT")) (broken_files w.jobs)
             ∙ ap (λ (n : ℕ). w.text ++ (operator_line n (codes "SHUT") ++ broken_files w.jobs)) m.count
             ∙ ap (λ (js : List JobState). w.text ++ (operator_line count (codes "SHUT") ++ broken_files js)) m.crew.jobs;

@@ -11,7 +11,7 @@ use Rattle.g_script.specs.declared.operator.Operator.{Operator}
 use Rattle.g_store_meaning.specs.Safety.{IsLeft}
 use Rattle.g_tape.specs.Rack.{Rack}
 use Rattle.g_run_model.specs.Lines.{LineGives}
-use Rattle.g_run_model.specs.Losses.{LeavesOf, MayBeLeft, RunDown}
+use Rattle.g_run_model.specs.Losses.{LeavesOf, MayBeLeft, StaysDown}
 use Rattle.g_run_model.specs.Moves.{Move}
 use Rattle.g_run_model.specs.World.{World}
 use Rattle.g_day.specs.System.{Down, SystemFacts, Up, devices_in}
@@ -23,8 +23,8 @@ Never f = ⊥
 -- Whatever a power loss leaves of a system that is down represents one of these states, or one like it; or this condition holds, and the
 -- loss could have left the same of the old system. (Of one that is up it leaves its state: `StoreSurvives` of g_store_meaning.)
 abbrev pub SystemLeaves : (State → Type 0) → Type 0 → SystemFacts → SystemFacts → Type 0
-SystemLeaves Leaves Unless old (Up s) = Unit {0}
-SystemLeaves Leaves Unless old (Down d) = LeavesOf Leaves Unless (devices_in old) d
+SystemLeaves Leaves NeverUp old (Up s) = Unit {0}
+SystemLeaves Leaves NeverUp old (Down d) = LeavesOf Leaves NeverUp (devices_in old) d
 
 -- A power loss leaves no more of the new system than of the old one, which was down if the new one is. (Of one that is up it leaves its state.)
 abbrev pub LeavesLess : SystemFacts → SystemFacts → Type 0
@@ -35,7 +35,7 @@ LeavesLess (Down d) (Down e) = (blocks : List (List ℕ)) (rack : Rack) → IsLe
 -- A state that a power loss may leave after a line: the one that it led to; or, if a failed write stopped it, another one that it may lead to
 -- then.
 pub data LineMayLeave (what : Operator) (o : Outcome) (w next : World) (u : State) : Type 0 where
-  AsItWas : u ≡ down next.store → LineMayLeave what o w next u
+  AsRead : u ≡ down next.store → LineMayLeave what o w next u
   OtherEnd : o ≡ Cut → (other : World) → LineGives o what w other → u ≡ down other.store → LineMayLeave what o w next u
 
 -- What a power loss leaves of the system after a line that led from one world to the next.
@@ -45,4 +45,4 @@ LineLeft what o w next old new = SystemLeaves (λ u. LineMayLeave what o w next 
 module _ {F U : Type 0} (tariffs : Shared F (Bor Usage × Unit {0}) Charge) (tariff : F) (rules : Shared U (Bor Standing × Unit {0}) ℕ) (rule : U) where
   -- what a power loss leaves of the system after moves that led from one world to the next
   abbrev pub LeftAfter : World → List Move → World → SystemFacts → SystemFacts → Type 0
-  LeftAfter w moves next old new = SystemLeaves (λ u. MayBeLeft tariffs tariff rules rule w moves next u) (RunDown tariffs tariff rules rule w moves next) old new
+  LeftAfter w moves next old new = SystemLeaves (λ u. MayBeLeft tariffs tariff rules rule w moves next u) (StaysDown tariffs tariff rules rule w moves next) old new

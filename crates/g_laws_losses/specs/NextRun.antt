@@ -11,9 +11,9 @@ use Rattle.g_store_model.specs.State.{State}
 use Rattle.g_store_meaning.specs.Safety.{AreSafe, IsLeft, IsLike}
 use Rattle.g_store_meaning.specs.Surviving.{disc_left}
 use Rattle.g_run_model.specs.Devices.{Devices, StandFor}
-use Rattle.g_run_model.specs.Losses.{MayBeLeft, RunDown}
+use Rattle.g_run_model.specs.Losses.{MayBeLeft, StaysDown}
 use Rattle.g_run_model.specs.Moves.{Move}
-use Rattle.g_run_model.specs.Top.{SurvivesCut}
+use Rattle.g_run_model.specs.Top.{SurvivesSoFar}
 use Rattle.g_run_model.specs.World.{World, start}
 
 -- Devices after a power loss that left these blocks and this rack.
@@ -33,8 +33,8 @@ module _ {F U : Type 0} (tariffs : Shared F (Bor Usage × Unit {0}) Charge) (tar
   -- also have left the same before it.
   abbrev pub NextRunBegins : Type 0
   NextRunBegins = (lines : List Timed) (bad : Option ℕ) (s : State) (old new : Devices) (before after : Option (List ℕ))
-      (run : SurvivesCut tariffs tariff rules rule lines bad s old new before after) → AreSafe new.disc new.rack
+      (run : SurvivesSoFar tariffs tariff rules rule lines bad s old new before after) → AreSafe new.disc new.rack
       → (blocks : List (List ℕ)) (rack : Rack) → IsLeft new.disc new.rack blocks rack
       → AreSafe (disc_left blocks new.disc) rack
       × (BeginsOn (start lines bad s) run.moves run.last (after_loss blocks rack new)
-      ⊎ (RunDown tariffs tariff rules rule (start lines bad s) run.moves run.last × IsLeft old.disc old.rack blocks rack))
+      ⊎ (StaysDown tariffs tariff rules rule (start lines bad s) run.moves run.last × IsLeft old.disc old.rack blocks rack))

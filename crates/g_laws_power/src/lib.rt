@@ -7,8 +7,8 @@ ghost use Rattle.g_laws_power.specs.Losses.{CallsKeepSafe, LeftCanBeSafe, LeftIs
 ghost use Rattle.g_laws_power.specs.Refusals.{RefusalsSurvive};
 
 /// A power loss between two calls of a safe store leaves disc and rack with what the store would leave by going down. After a call
-/// that was stopped it leaves them with what the call may leave. Each other call leaves the store safe. Of what is left, START or
-/// RESTORE makes a safe store.
+/// that was stopped it leaves them with what the call may leave. Each other call leaves the store safe. A store that START, RESTORE or
+/// FORMAT makes of what is left is safe.
 pub fn power_losses()
     ensures between { StoreSurvives }
     ensures stopped { StoppedCallsSurvive }

@@ -19,7 +19,7 @@ use Rattle.g_script.specs.declared.operator.Timed.{Timed}
 use Rattle.g_turn.specs.State.{Work}
 use Rattle.g_store_model.specs.State.{State}
 use Rattle.g_run_model.specs.Devices.{Devices}
-use Rattle.g_run_model.specs.Losses.{AsItWas, IsLastUp, MayBeLeft, OtherEnd, RunDown, SurvivesLoss}
+use Rattle.g_run_model.specs.Losses.{AsRead, DownSince, MayBeLeft, OtherEnd, StaysDown, SurvivesLoss}
 use Rattle.g_run_model.specs.Moves.{Move, Run, Step, TakeLine, Dumped, Begin, Answered, TurnOver, Ticked, Over}
 use Rattle.g_run_model.specs.Top.{EndsShort, EndsWhole, IsCut, RunOf, Survives}
 use Rattle.g_run_model.specs.World.{World, start}
@@ -120,16 +120,16 @@ module _ {F G U V : Type 0}
       ))
 
   -- what a power loss leaves
-  down_by : (w : World) (moves : List Move) (last : World) → RunDown tariffs tariff rules rule w moves last → RunDown others other ways way w moves last
+  down_by : (w : World) (moves : List Move) (last : World) → StaysDown tariffs tariff rules rule w moves last → StaysDown others other ways way w moves last
   down_by w [] last it = it
   down_by w (move ∷ moves) last it = let (mid, goes, was, is, more) = it in (mid, step_by w move mid goes, was, is, down_by mid moves last more)
 
   last_up_by : (first : World) (moves : List Move) (last : World) (before after : List Move) (mid : World)
-      → IsLastUp tariffs tariff rules rule first moves last before after mid → IsLastUp others other ways way first moves last before after mid
+      → DownSince tariffs tariff rules rule first moves last before after mid → DownSince others other ways way first moves last before after mid
   last_up_by first moves last before after mid is = record { split = is.split; led = run_by first before mid is.led; rest = down_by mid after last is.rest }
 
   left_by : (first : World) (moves : List Move) (last : World) (u : State) → MayBeLeft tariffs tariff rules rule first moves last u → MayBeLeft others other ways way first moves last u
-  left_by first moves last u (AsItWas before after mid is same) = AsItWas before after mid (last_up_by first moves last before after mid is) same
+  left_by first moves last u (AsRead before after mid is same) = AsRead before after mid (last_up_by first moves last before after mid is) same
   left_by first moves last u (OtherEnd before after stop was mid end ran is cut step ends same) =
       OtherEnd before after stop was mid end (run_by first before was ran) (last_up_by first moves last (before ++ stop ∷ []) after mid is) cut (step_by was stop mid step) (step_by was stop end ends) same
 

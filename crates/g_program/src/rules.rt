@@ -110,8 +110,8 @@ pub fn run_by_rules<S: Source, K: Sink, D: Disc, T: Tapes>(
     ensures same { SameDevices (both (D.state disc) (T.rack tapes)) (both (D.state result.disc) (T.rack result.tapes)) }
 
     // With every status, if the devices expose their contents and belong together: they still do afterwards, and a disc that holds a filestore still
-    // holds one. Each completed dump is still complete, whole and in its place; or its whole reel was released, and there is a newer dump
-    // that has the directory of each of its users. If no line of the script is a PROCESS, all stay.
+    // holds one. Each completed dump is still complete, whole and in its place, unless a newer completed dump exists that has the directory of
+    // each of its users. If no line of the script is a PROCESS, all stay.
     ensures belongs { BelongTogether (both (D.state disc) (T.rack tapes)) → BelongTogether (both (D.state result.disc) (T.rack result.tapes)) }
     ensures dumps { BelongTogether (both (D.state disc) (T.rack tapes)) → DumpsMove (T.rack tapes) (T.rack result.tapes) }
     ensures stay { BelongTogether (both (D.state disc) (T.rack tapes)) → (left : List ℕ) → S.left script.old ≡ Some left → (lines : List Timed) (bad : Option ℕ) → IsParsed (lines_of left) lines bad
@@ -119,12 +119,11 @@ pub fn run_by_rules<S: Source, K: Sink, D: Disc, T: Tapes>(
     ensures stands { BelongTogether (both (D.state disc) (T.rack tapes)) → HasFilestore (both (D.state disc) (T.rack tapes))
         → HasFilestore (both (D.state result.disc) (T.rack result.tapes)) }
 
-    // With every status, if the devices are safe: they are safe afterwards. That is, they expose their contents and belong together, and START
-    // or RESTORE can make a safe store of them as they are, and of whatever a power loss leaves of them. A power loss within a run is the end of
-    // a run on devices that fail from that moment on.
+    // With every status, if the devices are safe: they are safe afterwards. That is, they expose their contents and belong together, and a store
+    // that START, RESTORE or FORMAT makes of them is safe: as they are, and of whatever a power loss leaves of them.
     ensures safe { AreSafe (D.state disc) (T.rack tapes) → AreSafe (D.state result.disc) (T.rack result.tapes) }
-    // And which state that is: of an event since which the system has been down, or, if a failed write stopped that event, another one that
-    // it may lead to.
+    // And which state that is: the one after an event since which the system has been down, or, if a failed write stopped that event, another
+    // one to which it may lead.
     ensures survives { IsRun words.now → AreSafe (D.state disc) (T.rack tapes) → (left : List ℕ) → S.left script.old ≡ Some left →
         Survives (answering price) tt (answering share_used) tt left (both (D.state disc) (T.rack tapes)) (both (D.state result.disc) (T.rack result.tapes))
         (K.written out.old) (K.written out.new) }

@@ -101,7 +101,7 @@ module _ {F U : Type 0} (tariffs : Shared F (Bor Usage × Unit {0}) Charge) (tar
 
     may_be_left : (new : World) → LineGives o next.what (without rest w) new → (u : State) → LineMayLeave next.what o (without rest w) new u
         → MayBeLeft tariffs tariff rules rule w (take ∷ []) new u
-    may_be_left new gives u (line_loss.AsItWas same) = move_loss.AsItWas (take ∷ []) [] new (record { split = refl; led = line_run new gives; rest = refl }) same
+    may_be_left new gives u (line_loss.AsRead same) = move_loss.AsRead (take ∷ []) [] new (record { split = refl; led = line_run new gives; rest = refl }) same
     may_be_left new gives u (line_loss.OtherEnd cut other end same) =
         move_loss.OtherEnd [] [] take w new other refl (record { split = refl; led = line_run new gives; rest = refl }) cut (line_step new gives) (line_step other end) same
 

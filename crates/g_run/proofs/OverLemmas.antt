@@ -28,8 +28,8 @@ use Rattle.g_run_model.specs.Devices.{AreReadAs, Devices, StandFor}
 use Rattle.g_run_model.specs.Moves.{Move, MovesCounted, Over, Run}
 use Rattle.g_run_model.specs.Texts.{closing, waiting_files}
 use Rattle.g_run_model.specs.Lines.{disc_arms, tape_arms}
-use Rattle.g_run_model.specs.Losses.{AsItWas, SurvivesLoss}
-use Rattle.g_run_model.specs.Top.{AreArmings, EndsShort, RunOf, SurvivesCut, numbers_of}
+use Rattle.g_run_model.specs.Losses.{AsRead, SurvivesLoss}
+use Rattle.g_run_model.specs.Top.{AreArmings, EndsShort, RunOf, SurvivesSoFar, numbers_of}
 use Rattle.g_run_model.specs.World.{World, closed, is_due, nothing_steps, start}
 use Rattle.g_run_model.proofs.ArmLemmas.{in_none}
 use Rattle.g_run_model.proofs.CountLemmas.{counted_of, event_none, move_counted, moves_then}
@@ -113,7 +113,7 @@ module _ {F U : Type 0} (tariffs : Shared F (Bor Usage × Unit {0}) Charge) (tar
   system_left w moves last old (Down d) ran safe stands left = left
   system_left w moves last old (Up s) ran safe stands left = λ blocks rack lost. inl (
     down last.store,
-    AsItWas moves [] last (record { split = sym (append-nil moves); led = ran; rest = refl }) refl,
+    AsRead moves [] last (record { split = sym (append-nil moves); led = ran; rest = refl }) refl,
     (store_survives s blocks rack safe lost).1 last.store stands.stands,
   )
 
@@ -174,7 +174,7 @@ module _ {F U : Type 0} (tariffs : Shared F (Bor Usage × Unit {0}) Charge) (tar
       let z = cut_short failure before after goes s (read_as old s stands) in record { moves = z.moves; last = z.last; run_of = z.run_of; text = z.text }
 
   short_survives : (failure : Failure) (before after : Option (List ℕ)) → PartGoesFrom tariffs tariff rules rule Safe IsAtRest lines [] before_all (Some failure) (seen f c count) before after
-      → Safe (Down old) → (s : State) → StandFor old s → SurvivesCut tariffs tariff rules rule lines bad s old new before after
+      → Safe (Down old) → (s : State) → StandFor old s → SurvivesSoFar tariffs tariff rules rule lines bad s old new before after
   short_survives failure before after goes safe s stands =
       let z = cut_short failure before after goes s (read_as old s stands) in record { moves = z.moves; last = z.last; run_of = z.run_of; text = z.text; left = z.left safe }
 
@@ -256,7 +256,7 @@ module _ {F U : Type 0} (tariffs : Shared F (Bor Usage × Unit {0}) Charge) (tar
   part_of (Some failure) text middle after put = put
 
   closed_survives : (failure : Option Failure) (before middle after : Option (List ℕ)) → PartGoesFrom tariffs tariff rules rule Safe IsAtRest lines [] before_all None (seen f c count) before middle
-      → PutsBy failure (waiting_files c.jobs ++ closing bad) middle after → Safe (Down old) → (s : State) → StandFor old s → SurvivesCut tariffs tariff rules rule lines bad s old new before after
+      → PutsBy failure (waiting_files c.jobs ++ closing bad) middle after → Safe (Down old) → (s : State) → StandFor old s → SurvivesSoFar tariffs tariff rules rule lines bad s old new before after
   closed_survives failure before middle after goes put safe s stands =
       let z = closes before middle goes s (read_as old s stands) in record {
         moves = z.moves;

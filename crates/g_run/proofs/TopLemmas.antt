@@ -17,7 +17,7 @@ use Rattle.g_store_model.specs.CallStep.{down}
 use Rattle.g_store_model.specs.State.{State}
 use Rattle.g_run_model.proofs.StandLemmas.{read_as}
 use Rattle.g_run_model.specs.Devices.{Devices, StandFor}
-use Rattle.g_run_model.specs.Top.{AreArmings, IsCutWords, Survives, SurvivesCut, words_line}
+use Rattle.g_run_model.specs.Top.{AreArmings, IsCutWords, Survives, SurvivesSoFar, words_line}
 use Rattle.g_laws_runs.specs.BeginningAnew.{AreBlank, BeginAnew, with_new_disc}
 use Rattle.g_laws_runs.proofs.FreshLemmas.{emptied_stand}
 use Rattle.g_day.specs.declared.progress.Failure.{Failure}
@@ -99,7 +99,7 @@ module _ {F U : Type 0} (tariffs : Shared F (Bor Usage × Unit {0}) Charge) (tar
 -- A POWER LOSS leaves a state that may be left after a run of the script; or nothing was done
 module _ {F U : Type 0} (tariffs : Shared F (Bor Usage × Unit {0}) Charge) (tariff : F) (rules : Shared U (Bor Standing × Unit {0}) ℕ) (rule : U) where
   pub survives_as : (left : List ℕ) (lines : List Timed) (bad : Option ℕ) (old new : Devices) (before after : Option (List ℕ)) → IsParsed (lines_of left) lines bad
-      → ((s : State) → StandFor old s → SurvivesCut tariffs tariff rules rule lines bad s old new before after) → Survives tariffs tariff rules rule left old new before after
+      → ((s : State) → StandFor old s → SurvivesSoFar tariffs tariff rules rule lines bad s old new before after) → Survives tariffs tariff rules rule left old new before after
   survives_as left lines bad old new before after parsed cut = inr (lines, bad, parsed, cut)
 
   pub survives_quiet : (left : List ℕ) (old : Devices) (before : Option (List ℕ)) → Survives tariffs tariff rules rule left old old before before

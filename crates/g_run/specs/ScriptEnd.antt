@@ -12,7 +12,7 @@ use Rattle.g_store_model.specs.CallStep.{down}
 use Rattle.g_store_model.specs.State.{State}
 use Rattle.g_tape.specs.Rack.{Rack}
 use Rattle.g_run_model.specs.Devices.{AreReadAs, Devices, StandFor}
-use Rattle.g_run_model.specs.Top.{AreArmings, SurvivesCut}
+use Rattle.g_run_model.specs.Top.{AreArmings, SurvivesSoFar}
 use Rattle.g_laws_runs.specs.BeginningAnew.{AreBlank, BeginAnew, NoDiscFault, with_new_disc}
 use Rattle.g_day.specs.declared.progress.Failure.{Failure}
 use Rattle.g_day.specs.Puts.{FaultCause, Puts}
@@ -43,7 +43,7 @@ module _ {F U : Type 0} (tariffs : Shared F (Bor Usage × Unit {0}) Charge) (tar
   pub record DidScript (lines : List Timed) (bad : Option ℕ) (old : Devices) (failure : Option Failure) (new : Devices) (before after : Option (List ℕ)) (faults faults' : ℕ) : Type 0 where
     pub ends : EndsBy tariffs tariff rules rule failure lines bad old new before after
     -- whatever a power loss leaves is a state that it may leave after the events that were done
-    pub survives : AreSafe old.disc old.rack → (s : State) → StandFor old s → SurvivesCut tariffs tariff rules rule lines bad s old new before after
+    pub survives : AreSafe old.disc old.rack → (s : State) → StandFor old s → SurvivesSoFar tariffs tariff rules rule lines bad s old new before after
     -- on blank devices: from the state of a new disc
     pub anew : BeginAnew lines → AreBlank old → EndsBeside failure lines bad old new before after
         ⊎ (EndsBy tariffs tariff rules rule failure lines bad (with_new_disc old) new before after ⊎ HasMissed tariffs tariff rules rule lines bad old new before after)

@@ -1,5 +1,5 @@
 -- What the devices count, event by event.
--- serves: CountedTurnLemmas, crates above
+-- serves: crates above
 use Rattle.std.proofs.Common.{◌≡◌, ℕ, ◌+◌, ◌++◌, Bool, true, false, cond, filter, List, [], ◌∷◌, refl, sym, ◌∙◌, subst, arith}
 use Rattle.g_base.specs.Counts.{Rose}
 use Rattle.g_base.proofs.CountLemmas.{HasRisenBy-Rose, HasRisenBy-none, HasRisenBy-then}

@@ -40,7 +40,6 @@ use Rattle.g_job.specs.Terminal.{logged_out, typed_to}
 use Rattle.g_run_model.proofs.TurnLemmas.{run_append}
 use Rattle.g_run_model.proofs.ProcessedLemmas.{of_each}
 use Rattle.g_store_model.specs.Process.{ProcessStep, with_cut, moved as process_moved}
-use Rattle.g_script.specs.declared.operator.Timed.{Timed}
 
 -- number and tree of an open dump
 abbrev about : Option OpenDump → Option (ℕ × Tree)

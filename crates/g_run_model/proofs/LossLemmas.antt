@@ -1,9 +1,9 @@
 -- Which state a power loss leaves after moves that follow one another.
 -- serves:
-use Rattle.std.proofs.Common.{◌≡◌, ◌⊎◌, ℕ, false, List, [], ◌∷◌, ◌++◌, refl, sym, ◌∙◌, ap, subst, inl, inr}
+use Rattle.std.proofs.Common.{◌≡◌, ◌⊎◌, ℕ, List, [], ◌∷◌, ◌++◌, refl, sym, ◌∙◌, ap, subst, inl, inr}
 use Rattle.std.specs.Fn.{Shared}
 use denote.Ref.{Bor}
-use Rattle.std.proofs.lemmas.List.{append_assoc, append-nil}
+use Rattle.std.proofs.lemmas.List.{append_assoc}
 use Rattle.g_rules.specs.declared.tariff.Usage.{Usage}
 use Rattle.g_rules.specs.declared.tariff.Charge.{Charge}
 use Rattle.g_rules.specs.declared.rule.Standing.{Standing}
@@ -11,8 +11,8 @@ use Rattle.g_store_model.specs.State.{State}
 use Rattle.g_tape.specs.Rack.{Rack}
 use Rattle.g_store_meaning.specs.Safety.{IsLeft, StandLike}
 use Rattle.g_run_model.specs.Devices.{Devices}
-use Rattle.g_run_model.specs.Losses.{AsItWas, IsLastUp, MayBeLeft, OtherEnd, RunDown, SurvivesLoss}
-use Rattle.g_run_model.specs.Moves.{Move, Run, Step}
+use Rattle.g_run_model.specs.Losses.{AsRead, MayBeLeft, OtherEnd, StaysDown, SurvivesLoss}
+use Rattle.g_run_model.specs.Moves.{Move, Run}
 use Rattle.g_run_model.specs.World.{World}
 use Rattle.g_run_model.proofs.TurnLemmas.{run_append}
 
@@ -21,7 +21,7 @@ module _ {F U : Type 0} (tariffs : Shared F (Bor Usage × Unit {0}) Charge) (tar
   Runs w moves new = Run tariffs tariff rules rule w moves new
 
   abbrev pub Down : World → List Move → World → Type 0
-  Down w moves new = RunDown tariffs tariff rules rule w moves new
+  Down w moves new = StaysDown tariffs tariff rules rule w moves new
 
   abbrev pub Left : World → List Move → World → State → Type 0
   Left w moves new u = MayBeLeft tariffs tariff rules rule w moves new u
@@ -33,8 +33,8 @@ module _ {F U : Type 0} (tariffs : Shared F (Bor Usage × Unit {0}) Charge) (tar
 
   -- what may be left after the last moves may be left after all
   pub left_behind : (w mid new : World) (a b : List Move) (u : State) → Runs w a mid → Left mid b new u → Left w (a ++ b) new u
-  left_behind w mid new a b u one (AsItWas before after at last same) =
-      AsItWas (a ++ before) after at (record {
+  left_behind w mid new a b u one (AsRead before after at last same) =
+      AsRead (a ++ before) after at (record {
         split = ap (λ (ms : List Move). a ++ ms) last.split ∙ sym (append_assoc a before after);
         led = run_append tariffs tariff rules rule w a before mid at one last.led;
         rest = last.rest;
@@ -48,8 +48,8 @@ module _ {F U : Type 0} (tariffs : Shared F (Bor Usage × Unit {0}) Charge) (tar
 
   -- what may be left after the first moves may be left after all, if the system stays down
   pub left_before : (w mid new : World) (a b : List Move) (u : State) → Left w a mid u → Down mid b new → Left w (a ++ b) new u
-  left_before w mid new a b u (AsItWas before after at last same) two =
-      AsItWas before (after ++ b) at (record {
+  left_before w mid new a b u (AsRead before after at last same) two =
+      AsRead before (after ++ b) at (record {
         split = ap (λ (ms : List Move). ms ++ b) last.split ∙ append_assoc before after b;
         led = last.led;
         rest = down_then at mid new after b last.rest two;

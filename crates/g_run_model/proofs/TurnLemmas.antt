@@ -1,6 +1,6 @@
 -- A turn's program that was run on a store is a list of moves of the world, and so is one that was answered by a plain
 -- tree.
--- serves: CountedTurnLemmas, DumpedLemmas, LossLemmas, StoreTurnLemmas, crates above
+-- serves: CountedTurnLemmas, DumpedLemmas, LossLemmas, crates above
 use Rattle.std.proofs.Common.{◌≡◌, ◌⊎◌, ℕ, false, List, [], ◌∷◌, ◌++◌, Some, subst}
 use Rattle.std.specs.Fn.{Shared}
 use denote.Ref.{Bor}

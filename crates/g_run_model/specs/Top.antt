@@ -1,5 +1,5 @@
 -- How a run ends.
-use Rattle.std.specs.Prelude.{◌≡◌, ◌⊎◌, ◌≤◌, ℕ, Bool, true, false, List, [], ◌∷◌, ◌++◌, codes, Option}
+use Rattle.std.specs.Prelude.{◌≡◌, ◌⊎◌, ◌≤◌, ℕ, true, List, [], ◌∷◌, ◌++◌, codes, Option}
 use Rattle.g_base.specs.Fuse.{Arms, IsArmedBy, IsArmedWithin}
 use Rattle.g_disc.specs.Disc.{IsFused as IsDisc}
 use Rattle.g_tape.specs.Rack.{IsFused as IsRack}
@@ -63,7 +63,7 @@ module _ {F U : Type 0} (tariffs : Shared F (Bor Usage × Unit {0}) Charge) (tar
 module _ {F U : Type 0} (tariffs : Shared F (Bor Usage × Unit {0}) Charge) (tariff : F) (rules : Shared U (Bor Standing × Unit {0}) ℕ) (rule : U) where
   -- Some events of a run were done, and a prefix of their text was written. Whatever a power loss leaves then is a state that it may leave
   -- after these events.
-  pub record SurvivesCut (lines : List Timed) (bad : Option ℕ) (s : State) (old new : Devices) (before after : Option (List ℕ)) : Type 0 where
+  pub record SurvivesSoFar (lines : List Timed) (bad : Option ℕ) (s : State) (old new : Devices) (before after : Option (List ℕ)) : Type 0 where
     pub moves : List Move
     pub last : World
     pub run_of : RunOf tariffs tariff rules rule lines bad s old new moves last
@@ -75,7 +75,7 @@ module _ {F U : Type 0} (tariffs : Shared F (Bor Usage × Unit {0}) Charge) (tar
   abbrev pub Survives : List ℕ → Devices → Devices → Option (List ℕ) → Option (List ℕ) → Type 0
   Survives left old new before after = ((new ≡ old) × (after ≡ before))
       ⊎ ((lines : List Timed) × (bad : Option ℕ) × IsParsed (lines_of left) lines bad
-      × ((s : State) → StandFor old s → SurvivesCut lines bad s old new before after))
+      × ((s : State) → StandFor old s → SurvivesSoFar lines bad s old new before after))
 
 -- The line that is printed if the words of the command line aren't known.
 abbrev pub words_line : List ℕ

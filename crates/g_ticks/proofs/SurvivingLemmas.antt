@@ -7,7 +7,7 @@ use Rattle.g_rules.specs.declared.tariff.Charge.{Charge}
 use Rattle.g_rules.specs.declared.tariff.Usage.{Usage}
 use Rattle.g_rules.specs.declared.rule.Standing.{Standing}
 use Rattle.g_store_model.specs.State.{State}
-use Rattle.g_run_model.specs.Losses.{RunDown}
+use Rattle.g_run_model.specs.Losses.{StaysDown}
 use Rattle.g_run_model.specs.Moves.{Move, Run}
 use Rattle.g_run_model.specs.World.{World}
 use Rattle.g_run_model.proofs.LossLemmas.{left_behind, survives_then}
@@ -33,7 +33,7 @@ module _ {F U : Type 0} (tariffs : Shared F (Bor Usage × Unit {0}) Charge) (tar
   left_itself w (Down d) = λ blocks rack left. inr (refl, left)
 
   -- down at the last world only if at the first one
-  was_down : (mid new : World) (moves : List Move) → RunDown tariffs tariff rules rule mid moves new → new.store.up ≡ false → mid.store.up ≡ false
+  was_down : (mid new : World) (moves : List Move) → StaysDown tariffs tariff rules rule mid moves new → new.store.up ≡ false → mid.store.up ≡ false
   was_down mid new [] down is = subst (λ (v : World). v.store.up ≡ false) down is
   was_down mid new (move ∷ moves) down is = down.2
 
@@ -53,7 +53,7 @@ module _ {F U : Type 0} (tariffs : Shared F (Bor Usage × Unit {0}) Charge) (tar
 
   -- moves after which the system is the same
   pub left_same : (w mid new : World) (ms ns : List Move) (old now : SystemFacts) → Run tariffs tariff rules rule w ms mid → StandsAs now mid.store
-      → (mid.store.up ≡ false → RunDown tariffs tariff rules rule mid ns new) → LeftAfter tariffs tariff rules rule w ms mid old now → LeftAfter tariffs tariff rules rule w (ms ++ ns) new old now
+      → (mid.store.up ≡ false → StaysDown tariffs tariff rules rule mid ns new) → LeftAfter tariffs tariff rules rule w ms mid old now → LeftAfter tariffs tariff rules rule w (ms ++ ns) new old now
   left_same w mid new ms ns old (Up s) ran was down first = tt
   left_same w mid new ms ns old (Down d) ran was down first = λ blocks rack left.
       survives_then tariffs tariff rules rule w mid new ms ns (devices_in old) d d ran first (λ bs r l. inr (down was.0, l)) refl blocks rack left

@@ -18,7 +18,7 @@ use Rattle.g_store_model.specs.DumpSteps.{Completed, Going, Stepped as DumpStepp
 use Rattle.g_store_model.specs.State.{OpenDump, State}
 use Rattle.g_run_model.specs.Devices.{Devices}
 use Rattle.g_run_model.specs.Events.{IsDumpStep}
-use Rattle.g_run_model.specs.Losses.{AsItWas, IsLastUp, MayBeLeft, OtherEnd}
+use Rattle.g_run_model.specs.Losses.{AsRead, DownSince, MayBeLeft, OtherEnd}
 use Rattle.g_run_model.specs.Moves.{Dumped, Move, MovesCounted, Step, dump_told}
 use Rattle.g_run_model.specs.World.{KeepsLines, World, is_due}
 use Rattle.g_run_model.proofs.CountLemmas.{event_none, move_counted, moves_then}
@@ -97,13 +97,13 @@ module _ {F U : Type 0} (tariffs : Shared F (Bor Usage × Unit {0}) Charge) (tar
       step_is = dumped_by s.answer s.state next s.event (s.next_is ∙ ap (λ (x : Option OpenDump). dump_told (number_by x) s.answer s.state w) (sym s.opened))
 
       -- a state that the step may leave is one that the move may leave
-      last_up : IsLastUp tariffs tariff rules rule w (Dumped s.outcome ∷ []) next (Dumped s.outcome ∷ []) [] next
+      last_up : DownSince tariffs tariff rules rule w (Dumped s.outcome ∷ []) next (Dumped s.outcome ∷ []) [] next
       last_up = record { split = refl; led = (next, step_is, refl); rest = refl }
 
       move_leaves : (u : State) → StepMayLeave w.store s.outcome s.state u → MayBeLeft tariffs tariff rules rule w (Dumped s.outcome ∷ []) next u
-      move_leaves u (tick.AsItWas same) =
+      move_leaves u (tick.AsRead same) =
           let store : next.store ≡ s.state = ap (λ (v : World). v.store) s.next_is ∙ told_store s.dump.number s.answer s.state w in
-          AsItWas (Dumped s.outcome ∷ []) [] next last_up (same ∙ sym (ap down store))
+          AsRead (Dumped s.outcome ∷ []) [] next last_up (same ∙ sym (ap down store))
       move_leaves u (tick.OtherEnd cut other event same) =
           let end : World = dump_told (number_by w.store.open_dump) (Err Stopped) other w in
           OtherEnd [] [] (Dumped s.outcome) w next end refl last_up cut step_is (dumped_by (Err Stopped) other end event refl) same

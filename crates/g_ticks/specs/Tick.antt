@@ -100,7 +100,7 @@ phase_behind (Down d) = Turned
 -- A state that a power loss may leave after a dump step from this state: the one that it led to; or, if a failed write stopped it, another one
 -- that it may lead to then.
 pub data StepMayLeave (s : State) (o : Outcome) (state u : State) : Type 0 where
-  AsItWas : u ≡ down state → StepMayLeave s o state u
+  AsRead : u ≡ down state → StepMayLeave s o state u
   OtherEnd : o ≡ Cut → (other : State) → IsDumpStep s o (Err Stopped) other → u ≡ down other → StepMayLeave s o state u
 
 -- A step of the open dump from a world: its answer, what is printed for it, what the devices counted, and what a power loss leaves.
