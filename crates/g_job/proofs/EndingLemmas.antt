@@ -13,8 +13,8 @@ use Rattle.g_turn.specs.Bounds.{HasMore, IsWithin}
 use Rattle.g_job.specs.Rules.{IsGoneOnWith, IsJob}
 use Rattle.g_turn.specs.State.{Broken, Desk, Done, Full, Pending, Stop, Waits, Work}
 use Rattle.g_job.specs.State.{JobState}
-use Rattle.g_job.specs.declared.turn.Turn.{Turn}
-use Rattle.g_job.specs.declared.turn.Turn.TheVariants as turn
+use Rattle.g_rules.specs.declared.turn.Turn.{Turn}
+use Rattle.g_rules.specs.declared.turn.Turn.TheVariants as turn
 use Rattle.g_lines.specs.Lines.{ended}
 use Rattle.g_job.proofs.RulesLemmas.{rules_of_clear}
 

@@ -17,7 +17,7 @@ use Rattle.g_job.specs.Spending.{KeepsSeat}
 use Rattle.g_job.specs.State.{JobState}
 use Rattle.g_job.specs.Terminal.{LeavesDocument, is_ready, typed_lines, typed_to, with_stack}
 use Rattle.g_job.specs.Turns.{turn_work}
-use Rattle.g_job.specs.declared.turn.Turn.{Turn}
+use Rattle.g_rules.specs.declared.turn.Turn.{Turn}
 use Rattle.g_macro.proofs.HoldingLemmas.{are_ready_stays}
 use Rattle.g_macro.specs.Holding.{are_ready, line_added, with_document, with_typed}
 use Rattle.g_macro.specs.Levels.{Level, Stack}

@@ -21,8 +21,8 @@ use Rattle.g_job.specs.State.{JobState}
 use Rattle.g_turn.specs.Steps.{RanWell}
 use Rattle.g_turn.specs.Turns.{begins}
 use Rattle.g_job.specs.Turns.{turn_work}
-use Rattle.g_job.specs.declared.turn.Turn.{Turn}
-use Rattle.g_job.specs.declared.turn.Turn.TheVariants as turn
+use Rattle.g_rules.specs.declared.turn.Turn.{Turn}
+use Rattle.g_rules.specs.declared.turn.Turn.TheVariants as turn
 use Rattle.g_job.proofs.CauseLemmas.{turn_cause}
 use Rattle.g_job.proofs.EndLemmas.{end_comes, end_spends}
 use Rattle.g_job.proofs.EndingLemmas.{clear_rules}

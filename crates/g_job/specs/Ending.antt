@@ -3,8 +3,8 @@ use Rattle.std.specs.Prelude.{Bool, IfSome, List, None, Option, Some, false, is_
 use Rattle.g_job.specs.Rules.{IsPending}
 use Rattle.g_turn.specs.State.{Pending}
 use Rattle.g_job.specs.State.{JobState}
-use Rattle.g_job.specs.declared.turn.Turn.{Turn}
-use Rattle.g_job.specs.declared.turn.Turn.TheVariants as turn
+use Rattle.g_rules.specs.declared.turn.Turn.{Turn}
+use Rattle.g_rules.specs.declared.turn.Turn.TheVariants as turn
 use Rattle.g_monitor.specs.JobLines.{job_line}
 use Rattle.g_monitor.specs.declared.job_lines.JobLine.TheVariants as line
 

@@ -5,8 +5,8 @@ use Rattle.g_job.specs.Beginning.{standing_of}
 use Rattle.g_job.specs.TurnEnd.{money_left, units_left}
 use Rattle.g_turn.specs.State.{Broken, Done, Full, Stop, Waits, Work}
 use Rattle.g_job.specs.State.{JobState}
-use Rattle.g_job.specs.declared.turn.Turn.{Turn}
-use Rattle.g_job.specs.declared.turn.Turn.TheVariants as turn
+use Rattle.g_rules.specs.declared.turn.Turn.{Turn}
+use Rattle.g_rules.specs.declared.turn.Turn.TheVariants as turn
 
 -- A charged turn takes at least one unit, or ends the job; a turn that waits takes none.
 abbrev pub SpendsBy : JobState → Turn → JobState → Type 0

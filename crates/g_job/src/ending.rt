@@ -13,12 +13,11 @@ ghost use Rattle.g_turn.specs.Values.{stop_of};
 ghost use Rattle.g_lines.specs.Lines.{ended};
 ghost use Rattle.g_monitor.specs.JobLines.{job_line};
 
-use crate::Turn;
 use crate::parts::Parts;
 use g_base::NoMemory;
 use g_monitor::JobLine;
 use g_name::Text;
-use g_rules::{Charge, Tariff, Usage};
+use g_rules::{Charge, Tariff, Turn, Usage};
 use g_turn::{Stop, Work};
 use std::alloc::Global;
 

@@ -17,14 +17,13 @@ ghost use Rattle.g_rules.specs.Rule.{IsInRange};
 
 use crate::new_job::NewJob;
 use crate::parts::Parts;
-use crate::turn::Turn;
 use g_base::NoMemory;
 use g_macro::Levels;
 use g_monitor::push_header;
 use g_name::{Local, Text, User};
 use g_peri::Units;
 use g_plain::Filestore;
-use g_rules::{Charge, Standing, Tariff, Usage};
+use g_rules::{Charge, Standing, Tariff, Turn, Usage};
 use g_turn::Work;
 use std::alloc::Global;
 use std::marker::Model;

@@ -9,7 +9,6 @@ mod making;
 mod new_job;
 mod parts;
 mod terminal;
-mod turn;
 
 pub use job::Job;
 pub use laws::{
@@ -18,4 +17,3 @@ pub use laws::{
     turns_leave_their_store, turns_say_why_they_are_over,
 };
 pub use new_job::NewJob;
-pub use turn::Turn;

@@ -27,9 +27,9 @@ use crate::taking::{NotTaken, refusal};
 use crate::weights::Weights;
 use g_base::NoMemory;
 use g_entry::UserRec;
-use g_job::{Job, NewJob, Turn};
+use g_job::{Job, NewJob};
 use g_plain::Filestore;
-use g_rules::{Charge, Standing, Tariff, Usage, WeighRule};
+use g_rules::{Charge, Standing, Tariff, Turn, Usage, WeighRule};
 use std::alloc::Global;
 use std::marker::Model;
 

@@ -20,7 +20,7 @@ use Rattle.g_laws_runs.specs.LaterRuns.{LaterRunsKeep, StartIsBehind}
 use Rattle.g_laws_runs.proofs.RefusedLemmas.{keeping}
 
 -- a store that goes down has the same tree
-tree_down : (h : Option Holding) → option_map (λ (k : Holding). k.tree) (option_map no_longer_kept h) ≡ option_map (λ (k : Holding). k.tree) h
+pub tree_down : (h : Option Holding) → option_map (λ (k : Holding). k.tree) (option_map no_longer_kept h) ≡ option_map (λ (k : Holding). k.tree) h
 tree_down None = refl
 tree_down (Some k) = refl
 

@@ -8,7 +8,7 @@ use Rattle.g_rules.specs.declared.tariff.Usage.{Usage}
 use Rattle.g_job.specs.TurnEnd.{IsPriced, turn_end}
 use Rattle.g_job.specs.State.{JobState}
 use Rattle.g_job.specs.Turns.{turn_work}
-use Rattle.g_job.specs.declared.turn.Turn.{Turn}
+use Rattle.g_rules.specs.declared.turn.Turn.{Turn}
 use Rattle.g_plain.specs.PlainTree.{Tree}
 use Rattle.g_plain.specs.PlainAnswers.{RanPlainly}
 use Rattle.g_rules.specs.declared.rule.Standing.{Standing}

@@ -1,5 +1,5 @@
 -- A part of a run that takes its own lines, with other lines after them.
--- serves: SessionLemmas
+-- serves: LossLemmas, SessionLemmas
 use Rattle.std.proofs.Common.{◌≡◌, ◌⊎◌, ◌+◌, ◌≤◌, ◌++◌, ℕ, true, false, List, [], ◌∷◌, None, refl, sym, ◌∙◌, ap, subst, inl, inr, arith}
 use Rattle.std.specs.Fn.{Shared}
 use denote.Ref.{Bor}
@@ -24,23 +24,35 @@ due_more : (own lines : List Timed) (w : World) → (let v : World = with_lines 
 due_more [] lines w due = absurd (false_true due)
 due_more (next ∷ own) lines w due = due
 
+-- the ticks counted after a step, with one that is still to be counted
+abbrev reach : World → Move → ℕ
+reach w (TakeLine tape o) = w.count + owed w.phase
+reach w (Dumped o) = w.count + 1
+reach w (Begin number) = w.count + 1
+reach w (Answered o) = w.count + owed w.phase
+reach w (TurnOver number charge) = w.count + 1
+reach w Ticked = w.count + 1
+reach w Over = w.count
+
 behind_by : (lines : List Timed) (w new v : World) → new ≡ v → v.lines ≡ w.lines → with_lines (new.lines ++ lines) new ≡ with_lines (w.lines ++ lines) v
 behind_by lines w new v is same = ap (λ (x : World). with_lines (x.lines ++ lines) x) is ∙ ap (λ (own : List Timed). with_lines (own ++ lines) v) same
 
 module _ {F U : Type 0} (tariffs : Shared F (Bor Usage × Unit {0}) Charge) (tariff : F) (rules : Shared U (Bor Standing × Unit {0}) ℕ) (rule : U) where
   -- A STEP: it is the run's end, or it is the same step with other lines behind, unless one of them is due by then
-  record Ends (w new : World) : Type 0 where
-    none : new.lines ≡ []
-    over : new.over ≡ true
-    going : w.over ≡ false
+  pub record Ends (w : World) (move : Move) (new : World) : Type 0 where
+    pub is : move ≡ Over
+    pub none : new.lines ≡ []
+    pub over : new.over ≡ true
+    pub going : w.over ≡ false
 
-  record Goes (w : World) (move : Move) (new : World) : Type 0 where
-    over : new.over ≡ w.over
-    counts : w.count + owed w.phase ≤ new.count + owed new.phase
-    lifts : (lines : List Timed) (later : ℕ) → new.count + owed new.phase ≤ later → NotBefore later lines
+  pub record Goes (w : World) (move : Move) (new : World) : Type 0 where
+    pub over : new.over ≡ w.over
+    pub counts : w.count + owed w.phase ≤ new.count + owed new.phase
+    pub exact : new.count + owed new.phase ≡ reach w move
+    pub lifts : (lines : List Timed) (later : ℕ) → new.count + owed new.phase ≤ later → NotBefore later lines
         → Step tariffs tariff rules rule (with_lines (w.lines ++ lines) w) move (with_lines (new.lines ++ lines) new)
 
-  step_goes : (w : World) (move : Move) (new : World) → Step tariffs tariff rules rule w move new → Ends w new ⊎ Goes w move new
+  pub step_goes : (w : World) (move : Move) (new : World) → Step tariffs tariff rules rule w move new → Ends w move new ⊎ Goes w move new
   step_goes w (TakeLine tape o) new (next, rest, own, between, idle, due, is_tape, gives) =
       let l = line_lined o next.what (record w { lines = rest }) new gives in
       let same_count = l.kept.count in
@@ -48,6 +60,7 @@ module _ {F U : Type 0} (tariffs : Shared F (Bor Usage × Unit {0}) Charge) (tar
       inr (record {
         over = l.kept.over;
         counts = omega (arith, same_count, same_phase);
+        exact = omega (arith, same_count, same_phase);
         lifts = λ lines later soon early. (
           next,
           rest ++ lines,
@@ -72,6 +85,7 @@ module _ {F U : Type 0} (tariffs : Shared F (Bor Usage × Unit {0}) Charge) (tar
       inr (record {
         over = l.over;
         counts = omega (arith, same, owes, free);
+        exact = omega (arith, same, owes);
         lifts = λ lines later soon early. (
           between,
           idle,
@@ -87,6 +101,7 @@ module _ {F U : Type 0} (tariffs : Shared F (Bor Usage × Unit {0}) Charge) (tar
       inr (record {
         over = ap (λ (x : World). x.over) is;
         counts = omega (arith, same, owes, most);
+        exact = omega (arith, same, owes);
         lifts = λ lines later soon early. (
           idle,
           due_behind w.lines lines w later (omega (arith, same, owes, soon)) early undue,
@@ -100,6 +115,7 @@ module _ {F U : Type 0} (tariffs : Shared F (Bor Usage × Unit {0}) Charge) (tar
       inr (record {
         over = ap (λ (x : World). x.over) is;
         counts = omega (arith, same, owes);
+        exact = omega (arith, same, owes);
         lifts = λ lines later soon early. (number, call, more, job, answer, s, asks, here, step, real, behind_by lines w new _ is refl);
       })
   step_goes w (TurnOver number charge) new (work, job, turn, after, gives, here, priced, ends, is) =
@@ -110,19 +126,22 @@ module _ {F U : Type 0} (tariffs : Shared F (Bor Usage × Unit {0}) Charge) (tar
       inr (record {
         over = l.over;
         counts = omega (arith, same, owes, most);
+        exact = omega (arith, same, owes);
         lifts = λ lines later soon early.
             (work, job, turn, after, gives, here, priced, ends, behind_by lines w new _ is (turn_leaves job after turn w).lines ∙ turn_lines job after turn w (w.lines ++ lines));
       })
   step_goes w Ticked new (idle, through, is) =
       let counts : new.count ≡ w.count + 1 = ap (λ (x : World). x.count) is in
+      let free : owed new.phase ≡ 0 = ap (λ (x : World). owed x.phase) is in
       let most = owed_most w.phase in
       inr (record {
         over = ap (λ (x : World). x.over) is;
         counts = omega (arith, counts, most);
+        exact = omega (arith, counts, free);
         lifts = λ lines later soon early. (idle, through, behind_by lines w new _ is refl);
       })
   step_goes w Over new (between, idle, own, nothing, going, is) =
-      inl (record { none = ap (λ (x : World). x.lines) is ∙ own; over = ap (λ (x : World). x.over) is; going = going })
+      inl (record { is = refl; none = ap (λ (x : World). x.lines) is ∙ own; over = ap (λ (x : World). x.over) is; going = going })
 
   -- A RUN that isn't over behind them, and the count that it comes to
   pub record Comes (w : World) (moves : List Move) (last : World) : Type 0 where
@@ -137,7 +156,7 @@ module _ {F U : Type 0} (tariffs : Shared F (Bor Usage × Unit {0}) Charge) (tar
   }
   run_comes w (move ∷ moves) last over (mid, step, rest) = by (λ so. run_comes mid moves last so rest) (step_goes w move mid step)
     where
-      by : (last.over ≡ mid.over → Comes mid moves last) → Ends w mid ⊎ Goes w move mid → Comes w (move ∷ moves) last
+      by : (last.over ≡ mid.over → Comes mid moves last) → Ends w move mid ⊎ Goes w move mid → Comes w (move ∷ moves) last
       by more (inl ends) = absurd (false_true (sym ends.going ∙ sym over ∙ stays tariffs tariff rules rule mid moves last ends.none ends.over rest))
       by more (inr g) =
           let c = more (over ∙ sym g.over) in

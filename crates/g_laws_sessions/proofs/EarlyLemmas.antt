@@ -1,5 +1,5 @@
 -- A part of a run that takes no line, with other lines after it.
--- serves: AfterLemmas, ScriptLemmas, SessionLemmas
+-- serves: AfterLemmas, LossLemmas, ScriptLemmas, SessionLemmas
 use Rattle.std.proofs.Common.{◌≡◌, ◌⊎◌, ◌+◌, ◌<◌, ◌≤◌, ℕ, Bool, true, false, List, [], ◌∷◌, Option, Some, None, Result, Ok, Err, refl, sym, ◌∙◌, ap, subst, inl, inr, nat_le, arith}
 use Rattle.std.proofs.lemmas.Bool.{leb-true}
 use Rattle.std.specs.Fn.{Shared}
@@ -7,8 +7,8 @@ use denote.Ref.{Bor}
 use Rattle.g_rules.specs.declared.tariff.Charge.{Charge}
 use Rattle.g_rules.specs.declared.tariff.Usage.{Usage}
 use Rattle.g_job.specs.State.{JobState}
-use Rattle.g_job.specs.declared.turn.Turn.{Turn}
-use Rattle.g_job.specs.declared.turn.Turn.TheVariants as turns
+use Rattle.g_rules.specs.declared.turn.Turn.{Turn}
+use Rattle.g_rules.specs.declared.turn.Turn.TheVariants as turns
 use Rattle.g_plain.specs.declared.faults.StoreFault.{StoreFault}
 use Rattle.g_plain.specs.declared.faults.StoreFault.TheVariants.{Stopped}
 use Rattle.g_rules.specs.declared.rule.Standing.{Standing}

@@ -25,7 +25,7 @@ use Rattle.g_laws_sessions.proofs.EarlyLemmas.{owed}
 use Rattle.g_laws_sessions.proofs.AfterLemmas.{Comes as Lifted, run_comes}
 
 -- an item isn't taken before the count at which it is typed
-not_before : (count : ℕ) (item : WrittenItem) (when : When) (first : List ℕ) → IsTypedHead count item when first → count ≤ item.turn
+pub not_before : (count : ℕ) (item : WrittenItem) (when : When) (first : List ℕ) → IsTypedHead count item when first → count ≤ item.turn
 not_before count item AtOnce first (is, turn) = omega (arith, turn)
 not_before count item AtTime first (t, most, is, turn) = omega (arith, turn)
 

@@ -4,7 +4,9 @@
 mod choice;
 mod rule;
 mod tariff;
+mod turn;
 
 pub use choice::{Candidate, choose, earlier};
 pub use rule::{MAX_ALLOWANCE, MAX_WEIGHT, Standing, WeighRule};
 pub use tariff::{Charge, MAX_BLOCKS, MAX_ORDERS, Tariff, Usage};
+pub use turn::Turn;

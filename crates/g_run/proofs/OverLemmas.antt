@@ -108,7 +108,7 @@ nobody = record { jobs = []; accounts = []; next_job = 1 }
 
 -- WHAT A POWER LOSS LEAVES of the devices of a system, whether it is up or down
 module _ {F U : Type 0} (tariffs : Shared F (Bor Usage × Unit {0}) Charge) (tariff : F) (rules : Shared U (Bor Standing × Unit {0}) ℕ) (rule : U) where
-  system_left : (w : World) (moves : List Move) (last : World) (old : Devices) (f : SystemFacts) → Run tariffs tariff rules rule w moves last → SystemSafe f → StandsAs f last.store
+  pub system_left : (w : World) (moves : List Move) (last : World) (old : Devices) (f : SystemFacts) → Run tariffs tariff rules rule w moves last → SystemSafe f → StandsAs f last.store
       → LeftAfter tariffs tariff rules rule w moves last (Down old) f → SurvivesLoss tariffs tariff rules rule w moves last old (devices_in f)
   system_left w moves last old (Down d) ran safe stands left = left
   system_left w moves last old (Up s) ran safe stands left = λ blocks rack lost. inl (

@@ -3,8 +3,8 @@
 use Rattle.std.proofs.Common.{◌≡◌, None, refl}
 use Rattle.g_turn.specs.State.{Work}
 use Rattle.g_job.specs.State.{JobState}
-use Rattle.g_job.specs.declared.turn.Turn.{Turn}
-use Rattle.g_job.specs.declared.turn.Turn.TheVariants as turns
+use Rattle.g_rules.specs.declared.turn.Turn.{Turn}
+use Rattle.g_rules.specs.declared.turn.Turn.TheVariants as turns
 use Rattle.g_plain.specs.Programs.{Gives}
 use Rattle.g_store_model.specs.State.{State}
 use Rattle.g_run_model.specs.Moves.{turn_told}

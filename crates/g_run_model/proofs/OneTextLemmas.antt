@@ -16,7 +16,7 @@ use Rattle.g_job.specs.Beginning.{standing_of}
 use Rattle.g_job.specs.TurnEnd.{turn_end}
 use Rattle.g_job.specs.State.{JobState}
 use Rattle.g_job.specs.Turns.{turn_work}
-use Rattle.g_job.specs.declared.turn.Turn.{Turn}
+use Rattle.g_rules.specs.declared.turn.Turn.{Turn}
 use Rattle.g_monitor.specs.Parts.{full_text}
 use Rattle.g_plain.specs.Programs.{Answer, Asks, Call, Gives}
 use Rattle.g_plain.specs.declared.calls.StoreCall.{StoreCall}

@@ -14,8 +14,8 @@ use Rattle.g_plain.specs.Programs.{Asks}
 use Rattle.g_monitor.specs.Parts.{full_text}
 use Rattle.g_turn.specs.State.{Work}
 use Rattle.g_job.specs.State.{JobState}
-use Rattle.g_job.specs.declared.turn.Turn.{Turn}
-use Rattle.g_job.specs.declared.turn.Turn.TheVariants as turns
+use Rattle.g_rules.specs.declared.turn.Turn.{Turn}
+use Rattle.g_rules.specs.declared.turn.Turn.TheVariants as turns
 use Rattle.g_store_model.specs.State.{State, OpenDump}
 use Rattle.g_store_model.specs.CallStep.{Outcome, Plain}
 use Rattle.g_store_model.specs.DumpSteps.{Stepped as DumpStepped, Going, Completed}

@@ -16,8 +16,8 @@ use Rattle.g_job.specs.TurnEnd.{behind_turn, charged, end_by, is_money_up, is_ti
 use Rattle.g_job.specs.State.{JobState}
 use Rattle.g_job.specs.Terminal.{typed_to, with_stack}
 use Rattle.g_job.specs.Turns.{turn_work}
-use Rattle.g_job.specs.declared.turn.Turn.{Turn}
-use Rattle.g_job.specs.declared.turn.Turn.TheVariants as turns
+use Rattle.g_rules.specs.declared.turn.Turn.{Turn}
+use Rattle.g_rules.specs.declared.turn.Turn.TheVariants as turns
 use Rattle.g_macro.specs.Holding.{document_level, finished, line_added, with_document}
 use Rattle.g_macro.specs.Levels.{Level}
 use Rattle.g_monitor.specs.Parts.{full_text}

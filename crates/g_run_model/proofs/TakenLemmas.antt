@@ -12,8 +12,8 @@ use Rattle.g_job.proofs.TurnBounds.{turn_honest}
 use Rattle.g_job.specs.TurnEnd.{behind_turn, broken, charged, end_by, is_money_up, is_time_up, money_of, turn_end, turn_of, units_left, units_of, up_line, waited}
 use Rattle.g_job.specs.State.{JobState}
 use Rattle.g_job.specs.Turns.{turn_work}
-use Rattle.g_job.specs.declared.turn.Turn.{Turn}
-use Rattle.g_job.specs.declared.turn.Turn.TheVariants as turns
+use Rattle.g_rules.specs.declared.turn.Turn.{Turn}
+use Rattle.g_rules.specs.declared.turn.Turn.TheVariants as turns
 use Rattle.g_plain.specs.Programs.{Asks, Gives}
 use Rattle.g_store_model.specs.State.{State, is_mounted}
 use Rattle.g_run_model.specs.Moves.{Move, TurnOver}

@@ -14,8 +14,8 @@ use Rattle.g_plain.specs.PlainTree.{Tree, formatted}
 use Rattle.g_plain.specs.PlainStep.{plain_tree}
 use Rattle.g_plain.specs.Programs.{Answer}
 use Rattle.g_job.specs.State.{JobState}
-use Rattle.g_job.specs.declared.turn.Turn.{Turn}
-use Rattle.g_job.specs.declared.turn.Turn.TheVariants as turns
+use Rattle.g_rules.specs.declared.turn.Turn.{Turn}
+use Rattle.g_rules.specs.declared.turn.Turn.TheVariants as turns
 use Rattle.g_store_model.specs.State.{State, Holding, OpenDump, Dumped as DumpedTree}
 use Rattle.g_store_model.specs.CallStep.{Outcome, Plain, DiscRead, TapeRead, Cut, down, no_longer_kept}
 use Rattle.g_store_model.specs.DumpSteps.{Event, Stepped as DumpStepped, Going, Completed}

@@ -1,21 +1,15 @@
--- Both devices, and the state that they represent.
+-- The state that both devices represent.
 use Rattle.std.specs.Prelude.{◌≡◌, ℕ, false, List, [], map, Option, Some, None}
 use Rattle.std.specs.Option.{option_map}
-use Rattle.g_disc.specs.Disc.{DiscState}
 use Rattle.g_disc_contents.specs.Contents.{Contents, Holds}
 use Rattle.g_incr.specs.Layout.{Dump}
 use Rattle.g_shelf.specs.CompletedDumps.{AreShelved, all_dumps}
-use Rattle.g_tape.specs.Rack.{Rack}
 use Rattle.g_tape.specs.Reel.{Reel}
 use Rattle.g_store_model.specs.State.{State}
 use Rattle.g_store_meaning.specs.Meaning.{DumpedDirectory, told_reels}
 use Rattle.g_store_meaning.specs.Belonging.{Belong, DiscBelongs, RackBelongs}
 use Rattle.g_store_meaning.specs.Reading.{AllTold, DevicesStandFor, dumped_of, holding_of, row_of}
-
--- Both devices.
-pub record Devices : Type 0 where
-  pub disc : DiscState
-  pub rack : Rack
+pub use Rattle.g_any_run.specs.Devices.{Devices}
 
 -- The disc holds these contents, which belong to the reels; or it holds no filestore.
 abbrev pub HoldsThis : Option (List (List ℕ)) → (ℕ → List ℕ) → (ℕ → List Dump) → List Reel → Option Contents → Type 0

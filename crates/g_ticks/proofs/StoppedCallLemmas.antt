@@ -14,8 +14,8 @@ use Rattle.g_job.specs.Beginning.{standing_of}
 use Rattle.g_job.specs.State.{JobState}
 use Rattle.g_job.specs.TurnEnd.{IsTurn}
 use Rattle.g_job.specs.Turns.{turn_work}
-use Rattle.g_job.specs.declared.turn.Turn.{Turn}
-use Rattle.g_job.specs.declared.turn.Turn.TheVariants as turns
+use Rattle.g_rules.specs.declared.turn.Turn.{Turn}
+use Rattle.g_rules.specs.declared.turn.Turn.TheVariants as turns
 use Rattle.g_job.proofs.TurnBounds.{turn_honest}
 use Rattle.g_plain.specs.Programs.{Answer, Asks, Call, Gives, IsAnswer, RanInPart}
 use Rattle.g_plain.specs.Runs.{RanBy}

@@ -19,8 +19,8 @@ use Rattle.g_job.specs.Spending.{SpendsBy}
 use Rattle.g_job.specs.State.{JobState}
 use Rattle.g_job.specs.Turns.{turn_work}
 use Rattle.g_job.proofs.TurnBounds.{turn_honest}
-use Rattle.g_job.specs.declared.turn.Turn.{Turn}
-use Rattle.g_job.specs.declared.turn.Turn.TheVariants as turns
+use Rattle.g_rules.specs.declared.turn.Turn.{Turn}
+use Rattle.g_rules.specs.declared.turn.Turn.TheVariants as turns
 use Rattle.g_store_meaning.specs.Answers.{Answers}
 use Rattle.g_store_meaning.specs.Reading.{DevicesStandFor, StandsForState}
 use Rattle.g_store_meaning.specs.Meaning.{told_reels}

@@ -7,7 +7,7 @@ use Rattle.g_rules.specs.declared.tariff.Charge.{Charge}
 use Rattle.g_rules.specs.declared.tariff.Usage.{Usage}
 use Rattle.g_entry.specs.declared.user_rec.UserRec.{UserRec}
 use Rattle.g_job.specs.State.{JobState}
-use Rattle.g_job.specs.declared.turn.Turn.{Turn}
+use Rattle.g_rules.specs.declared.turn.Turn.{Turn}
 use Rattle.g_job_table.proofs.OpeningLemmas.{none_opens}
 use Rattle.g_job_table.specs.Accounts.{HaveAccounts}
 use Rattle.g_job_table.specs.Crew.{CrewState}

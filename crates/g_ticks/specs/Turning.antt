@@ -18,8 +18,8 @@ use Rattle.g_job_table.specs.Seating.{pushed_of}
 use Rattle.g_job_table.specs.Turn.{TakesTurn}
 use Rattle.g_job.specs.State.{JobState}
 use Rattle.g_job.specs.Turns.{turn_work}
-use Rattle.g_job.specs.declared.turn.Turn.{Turn}
-use Rattle.g_job.specs.declared.turn.Turn.TheVariants as turns
+use Rattle.g_rules.specs.declared.turn.Turn.{Turn}
+use Rattle.g_rules.specs.declared.turn.Turn.TheVariants as turns
 use Rattle.g_plain.specs.Programs.{RanInPart}
 use Rattle.g_store_meaning.specs.Answers.{Answers}
 use Rattle.g_store_meaning.specs.StoreInvariant.{StoreFacts}

@@ -15,10 +15,11 @@ use g_base::NoMemory;
 use g_day::{Failure, put, say_made, tell_fault};
 use g_disc::Disc;
 use g_io::Sink;
-use g_job::{Job, Turn};
+use g_job::Job;
 use g_job_table::{Taken, job_text};
 use g_name::Text;
 use g_plain::StoreFault;
+use g_rules::Turn;
 use g_tape::Tapes;
 use std::alloc::Global;
 

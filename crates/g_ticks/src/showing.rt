@@ -17,9 +17,9 @@ use g_base::NoMemory;
 use g_day::{Failure, put_made, stops_behind};
 use g_disc::Disc;
 use g_io::Sink;
-use g_job::Turn;
 use g_job_table::{Crew, push_operator_line};
 use g_name::Text;
+use g_rules::Turn;
 use g_tape::Tapes;
 use std::alloc::Global;
 

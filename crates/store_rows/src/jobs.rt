@@ -4,12 +4,12 @@ ghost use Rattle.std.specs.Prelude.{◌≡◌, false};
 use crate::rows::{Wrong, play};
 use crate::setting::Setting;
 use crate::system::System;
-use g_job::{Job, NewJob, Turn};
+use g_job::{Job, NewJob};
 use g_lines::Document;
 use g_name::{Local, User};
 use g_plain::Filestore;
 use g_plain_store::PlainStore;
-use g_rules::{Charge, Tariff, Usage};
+use g_rules::{Charge, Tariff, Turn, Usage};
 use std::alloc::Global;
 
 /// Takes turns until the job ends.

@@ -1,5 +1,5 @@
 use Rattle.std.proofs.Common.{List, [], subst, sym, ℕ}
-use Rattle.g_job.specs.declared.turn.Turn.TheVariants as turns
+use Rattle.g_rules.specs.declared.turn.Turn.TheVariants as turns
 use Rattle.g_ticks.specs.Turning.{GoesOn, left_of}
 use Rattle.g_ticks.proofs.EndedLemmas.{ends_by, whole_file}
 use Rattle.g_ticks.proofs.TurningLemmas.{unbroken}

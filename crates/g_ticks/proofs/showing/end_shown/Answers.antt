@@ -2,7 +2,7 @@ use Rattle.std.proofs.Common.{List, [], append-nil, ap, subst, sym, ◌++◌, �
 use Rattle.std.specs.Prelude.{codes}
 use Rattle.std.specs.Fmt.{decimal}
 use Rattle.g_job_table.specs.Seating.{pushed_of}
-use Rattle.g_job.specs.declared.turn.Turn.TheVariants as turns
+use Rattle.g_rules.specs.declared.turn.Turn.TheVariants as turns
 use Rattle.g_ticks.specs.Turning.{GoesOn, left_of}
 use Rattle.g_ticks.proofs.EndedLemmas.{ends_by, no_file, shown_is}
 use Rattle.g_ticks.proofs.TurningLemmas.{unbroken}
