@@ -1,12 +1,12 @@
 #!/usr/bin/env python3
 """Hard tests of the built program's lines PROCESS, LOGIN, TYPE and LOGOUT: what no proof can say of real reels and kills.
 
-    tests/hard_lines.py [PROGRAM]     these alone; `tests/hard` makes them too, whose helpers they use
+    tests/hard_lines.py [PROGRAM]     only these; `tests/hard`, whose helpers they use, runs them too
 
-The program is killed at random moments of days in which all goes onto one reel and back, with jobs and dumps between: what is left is
-read, started, and restored in a copy. It is killed while two terminals type beside a dump: what they were told was done. A PROCESS is
-cut off by a file system that is full, at each write, and made over two racks. Its writes and syncs on disc and reels are looked at in
-their order.
+The program is killed at random moments of days in which all files go onto one reel and back, with jobs and dumps between. What is left is
+read, started, and restored in a copy. It is killed while two terminals type during a dump: what was reported to them was done. A PROCESS is
+interrupted at each write by a file system that is full, and executed on two racks. The order of its writes and syncs on disc and reels is
+checked.
 """
 import os
 import random

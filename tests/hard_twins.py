@@ -1,7 +1,7 @@
 #!/usr/bin/env python3
 """Hard tests of the built program over two racks, `george.tapes` and `george.tapes2`: what no proof can say of real folders.
 
-    tests/hard_twins.py [PROGRAM]     these alone; `tests/hard` makes them too, whose helpers they use
+    tests/hard_twins.py [PROGRAM]     only these; `tests/hard`, whose helpers they use, runs them too
 
 The folders are compared byte by byte at each end. A file or a folder is deleted, emptied, shortened or changed in one byte before a
 start; the program is killed at each call while it makes either twin again; each of its calls for memory and each sync fails then; the
@@ -152,12 +152,14 @@ def tests(hard):
                         # A first reel that holds a block leads, whatever the second holds.
                         leads = rack == RACK and not comes_back
                         wanted = {**reels, "1.tape": folder.image(f"{rack}/1.tape")} if leads else reels
+                        # The racks then lack the dump that was cut.
+                        warned = hard.warning(b"be refused: 26 NO DUMP", hard.lacks(1)) if leads and len(wanted["1.tape"]) < len(reels["1.tape"]) else b""
                         status, text, told = folder.run(START)
                         seen = (status, text, told)
-                        check(f"the {twin} reel {what}: it is told", told == rebuilt((1, "second" if leads else twin)), seen)
+                        check(f"the {twin} reel {what}: it is told", told == rebuilt((1, "second" if leads else twin)) + warned, seen)
                         check(f"the {twin} reel {what}: the run", status == 0 and (leads or text == START_TEXT), seen)
                         check_same(f"the {twin} reel {what}: the racks", folder, wanted)
-                        check_told(f"the {twin} reel {what}: the next start", folder.run(START), status, text, b"")
+                        check_told(f"the {twin} reel {what}: the next start", folder.run(START), status, text, warned)
                 with copy_of(whole) as folder:
                     shutil.rmtree(folder.at(rack))
                     if rack == SECOND:
@@ -429,7 +431,7 @@ def tests(hard):
     def begun_again():
         """To begin again over two racks both are moved away, or both are emptied; the manual says so."""
         script, refused = b"0 FORMAT\n", b"0 REFUSED 34 RACK NOT EMPTY 1\n"
-        warned = b"george: george.disc knows of dump 1, but no reel in george.tapes holds anything. If the rack was moved away, end this and put it back\n"
+        warned = hard.warning(b"be refused: 26 NO DUMP", hard.lacks(1))
         with with_pair() as (whole, _):
             with copy_of(whole) as folder:
                 shutil.rmtree(folder.at(RACK))

@@ -1,8 +1,8 @@
 -- Calls that returned Ok, and reels whose files hold them, one by one.
--- serves: close (holds)
-use Rattle.std.proofs.Common.{◌≡◌, true, List, [], ◌∷◌, map, Result, Ok, Err, is_ok, true≢false, sym}
+-- serves: close, close_pair
+use Rattle.std.proofs.Common.{◌≡◌, Bool, true, false, ◌&&◌, List, [], ◌∷◌, map, Result, Ok, Err, is_ok, true≢false, refl, sym}
 use Rattle.std.specs.List.{AllZip}
-use Rattle.std.specs.Result.{OnOk}
+use Rattle.std.specs.Result.{OnErr, OnOk}
 use Rattle.std.proofs.lemmas.List.Elements.{All-head, All-tail}
 use Rattle.g_files.specs.FileReel.{IsSaved, reel_file, reel_of}
 use Rattle.g_files.specs.Reels.{AreSaved}
@@ -18,3 +18,12 @@ saved_each [] all = tt
 saved_each {F} {g} (r ∷ rest) all =
     let is : FileReel F g → Type 0 = λ x. IsSaved (reel_of x) (reel_file x) in
     (All-head is r rest all, saved_each rest (All-tail is r rest all))
+
+pub on_failed : {A E P : Type 0} (r : Result A E) → is_ok r ≡ false → OnErr r P → P
+on_failed (Ok x) failed is = absurd (true≢false failed)
+on_failed (Err e) failed is = is
+
+-- if not both succeeded, one of them failed
+pub one_failed : {P : Type 0} (a b : Bool) → a && b ≡ false → (a ≡ false → P) → (b ≡ false → P) → P
+one_failed true b none first second = second none
+one_failed false b none first second = first refl

@@ -1,8 +1,5 @@
 //! What is buffered reaches the files.
-ghost use Rattle.std.specs.Prelude.{◌≡◌, true};
-ghost use Rattle.g_closing.specs.Files.{ClosesDisc, ClosesRack, HoldDevices, files_of};
-ghost use Rattle.g_files.specs.FileDisc.{disc_state};
-ghost use Rattle.g_files.specs.FileTapes.{rack_of};
+ghost use Rattle.g_closing.specs.Files.{Closes, ClosesPair};
 
 use g_files::{FileDisc, FileTapes, RawFile};
 
@@ -12,11 +9,22 @@ pub fn close<F: RawFile + Drop, L: Drop>(
     disc: &mut FileDisc<F>,
     tapes: &mut FileTapes<F, L>,
 ) -> bool
-    ensures holds { result ≡ true → HoldDevices (disc_state disc.old) (rack_of tapes.old) (files_of disc.new tapes.new) }
-    ensures disc { ClosesDisc (disc_state disc.old) (disc_state disc.new) }
-    ensures rack { ClosesRack (rack_of tapes.old) (rack_of tapes.new) }
+    ensures closes { Closes result disc.old disc.new tapes.old tapes.new }
 {
     let saved = disc.finish().is_ok();
     let finished = tapes.finish().is_ok();
+    saved && finished
+}
+
+/// The same for two racks.
+pub fn close_pair<F: RawFile + Drop, L: Drop>(
+    disc: &mut FileDisc<F>,
+    first: &mut FileTapes<F, L>,
+    second: &mut FileTapes<F, L>,
+) -> bool
+    ensures closes { ClosesPair result disc.old disc.new first.old first.new second.old second.new }
+{
+    let saved = close(disc, first);
+    let finished = second.finish().is_ok();
     saved && finished
 }

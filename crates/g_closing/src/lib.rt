@@ -3,4 +3,4 @@
 
 mod files;
 
-pub use files::close;
+pub use files::{close, close_pair};

@@ -1,7 +1,8 @@
 //! Two racks in two folders as one: a reel that is missing or differs in one of them is rebuilt from the other's.
-ghost use Rattle.std.specs.Prelude.{IfOk, map};
+ghost use Rattle.std.specs.Prelude.{◌≡◌, IfOk, map};
 ghost use Rattle.g_files.specs.FileReel.{reel_of};
 ghost use Rattle.g_tape.specs.Rack.{AreReels};
+ghost use Rattle.g_devices.specs.Decisions.{lost_of};
 
 use crate::alike::are_alike;
 use crate::claim::{Access, claim, claim_folder};
@@ -144,15 +145,27 @@ fn open_twins(
     }
     let has_other = reel.state().len() > 0;
     let mut other = open_twin(rt, second, serial, Twin::Second, has_other)?;
-    if hold_same(rt, &mut reel, &mut other)? {
-        return Ok((reel, other, None));
+    let same = hold_same(rt, &mut reel, &mut other)?;
+    let lost = lost_of(reel.state().len(), other.state().len(), same);
+    match lost {
+        None => Ok((reel, other, lost)),
+        Some(Twin::First) => Ok((open_again(rt, first, serial, Twin::First)?, other, lost)),
+        Some(Twin::Second) => Ok((reel, open_again(rt, second, serial, Twin::Second)?, lost)),
     }
-    if !has_other {
-        let again = open_again(rt, first, serial, Twin::First)?;
-        return Ok((again, other, Some(Twin::First)));
+}
+
+/// Which of two reels with these numbers of blocks has to be rebuilt from the other one: none if they hold the same; the first if only that
+/// has no block; otherwise the second. So a reel with blocks is never rebuilt from one without.
+fn lost_of(first: u32, second: u32, same: bool) -> Option<Twin>
+    ensures { result ≡ lost_of first second same }
+{
+    if same {
+        None
+    } else if first == 0 && second > 0 {
+        Some(Twin::First)
+    } else {
+        Some(Twin::Second)
     }
-    let again = open_again(rt, second, serial, Twin::Second)?;
-    Ok((reel, again, Some(Twin::Second)))
 }
 
 /// Opens the reel of a serial in one of the folders, or names it in the fault, which says whether the other one has blocks. If it is a

@@ -1,4 +1,5 @@
 //! The words of the command line.
+ghost use Rattle.std.specs.Prelude.{◌≡◌, IfOk, map, string_bytes};
 
 use std::alloc::{AllocError, Global};
 use std::env::FillError;
@@ -34,8 +35,10 @@ fn word_at(rt: &HostRuntime, i: usize) -> Result<Option<String>, AllocError> {
     Ok(Some(word))
 }
 
-/// The words as they are lent to the run.
-pub fn texts_of<'a>(alloc: Global, words: &'a [String]) -> Result<Vec<&'a str>, AllocError> {
+/// The words as they are lent to the run: each of them, in their order.
+pub fn texts_of<'a>(alloc: Global, words: &'a [String]) -> Result<Vec<&'a str>, AllocError>
+    ensures { IfOk result (λ texts. map (λ text. text.now) texts.items ≡ map string_bytes words.now) }
+{
     let mut texts = Vec::new(alloc);
     for word in words {
         texts.push(word.as_str())?;

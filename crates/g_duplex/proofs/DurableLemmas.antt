@@ -1,5 +1,5 @@
 -- What survives of a reel that a pair shows is what survives of its leading twin.
--- serves: SecureLemmas, WriteLemmas
+-- serves: RackRiskLemmas, SecureLemmas, WriteLemmas
 use Rattle.std.proofs.Common.{◌≡◌, ◌⊎◌, ℕ, ◌+◌, ◌≤◌, List, [], ◌∷◌, ◌++◌, Bool, true, false, Option, Some, None, is_some, option_map, Ok, Err, length, map, take, refl, sym, subst, ap, ◌∙◌, inl, inr}
 use Rattle.std.specs.Prelude.{OnErr, OnOk}
 use Rattle.std.specs.Option.{ForSome}
@@ -24,14 +24,14 @@ use Rattle.g_duplex.proofs.PairLemmas.{at_standing, labels_kept, seen_at}
 use Rattle.g_duplex.proofs.ReadLemmas.{leader_at, told_both}
 use Rattle.g_duplex.proofs.RiskLemmas.{of_shown, shown_risk, standing_labels, standing_other, standing_set}
 
-abbrev Blocks : Type 0
+abbrev pub Blocks : Type 0
 Blocks = List (List ℕ)
 
 -- ONE REEL, by the blocks that it shows and by its risk
 abbrev Left : Option Blocks → Option Risk → (Blocks → Type 0) → Type 0
 Left o r P = ForSome o (λ blocks. (left : Blocks) → Leaves r blocks left → P left)
 
-abbrev May : Option Blocks → Option Risk → Blocks → Type 0
+abbrev pub May : Option Blocks → Option Risk → Blocks → Type 0
 May o r left = ForSome o (λ blocks. Leaves r blocks left)
 
 abbrev Front : ℕ → Option Blocks → Blocks → Type 0
@@ -101,7 +101,7 @@ write_of s k block old new (Err fault) others w = record {
   failed = λ blocks at left leaves. begun_of s k block old left (w.failed blocks at left leaves);
 }
 
-not_shown : (P : Blocks → Type 0) → ForSome None P
+pub not_shown : (P : Blocks → Type 0) → ForSome None P
 not_shown P blocks at = absurd (cc)
 
 -- of a reel whose blocks aren't shown nothing is known
@@ -226,10 +226,10 @@ lead_blocks s p t blocks paired stand at =
     ap blocks_in (leader_at s t p a b there.first there.second) ∙ both.0
 
 -- The pair shows no blocks of the reel; or those of the leading rack, with its risk.
-abbrev Hidden : ℕ → Pair → Type 0
+abbrev pub Hidden : ℕ → Pair → Type 0
 Hidden s p = (blocks_of s (shown p) ≡ None) × (risk s (shown p).risks ≡ None)
 
-abbrev ShowsLeader : ℕ → Pair → Rack → Type 0
+abbrev pub ShowsLeader : ℕ → Pair → Rack → Type 0
 ShowsLeader s p lead = (is_some (blocks_of s (shown p)) ≡ true) × (blocks_of s (shown p) ≡ blocks_of s lead) × (risk s (shown p).risks ≡ risk s lead.risks)
 
 hidden_risk : (o : Option Standing) (x y : Option Risk) → of_shown o None x y ≡ None
@@ -254,7 +254,7 @@ module _ (s : ℕ) (p : Pair) (t : Standing) (paired : ArePaired p.standings p.f
             ∙ ap (λ (o : Option Standing). of_shown o (Some blocks) first_risk second_risk) stand ∙ lead_risk s t p.first p.second,
       )
 
-  seen : Hidden s p ⊎ ShowsLeader s p (leading t p)
+  pub seen : Hidden s p ⊎ ShowsLeader s p (leading t p)
   seen = seen_by (blocks_of s (shown p)) refl
 
 -- A CALL ON ONE REEL of a pair, after which the same twin leads

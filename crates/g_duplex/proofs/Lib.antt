@@ -10,6 +10,7 @@ pub mod MountLemmas
 pub mod PairLemmas
 pub mod PlaceLemmas
 pub mod ReadLemmas
+pub mod RackRiskLemmas
 pub mod RebuildLemmas
 pub mod RiskLemmas
 pub mod SecureLemmas

@@ -1,5 +1,5 @@
 -- What a power loss may leave of the reels that a pair shows, by their serials.
--- serves: DurableLemmas, LoseLemmas, MountLemmas
+-- serves: DurableLemmas, LoseLemmas, MountLemmas, RackRiskLemmas
 use Rattle.std.proofs.Common.{◌≡◌, ℕ, List, [], ◌∷◌, ◌++◌, Bool, true, false, ◌==◌, Option, Some, None, if◌then◌else◌, filter, map, option_map, refl, sym, subst, ap, ◌∙◌, inl, inr}
 use Rattle.std.proofs.lemmas.Bool.{cases_eq, ne_eqb}
 use Rattle.std.proofs.lemmas.Bool.Decides.{eqb_tells}

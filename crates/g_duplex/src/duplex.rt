@@ -27,6 +27,15 @@ pub struct Duplex<T: Tapes> {
     ghost fused: { BurnsByFailures write_faults arms fuse },
 }
 
+/// Two racks that were used as one, and which of their reels were lost.
+#[derive(Drop)]
+pub struct Parts<T: Tapes> {
+    pub first: T,
+    pub second: T,
+    /// The lost twins, by increasing serial.
+    pub lost: LostTwins,
+}
+
 impl<T: Tapes> Duplex<T> {
     ghost use Rattle.g_duplex.specs.Meaning.{pair_of};
 
@@ -64,12 +73,17 @@ impl<T: Tapes> Duplex<T> {
         self.lost.as_slice()
     }
 
-    /// The racks in their current state.
-    pub fn into_racks(self) -> (T, T)
-        ensures first { T.rack result.0 ≡ (pair_of self).first }
-        ensures second { T.rack result.1 ≡ (pair_of self).second }
+    /// The racks in their current state, and the lost twins.
+    pub fn into_parts(self) -> Parts<T>
+        ensures first { T.rack result.first ≡ (pair_of self).first }
+        ensures second { T.rack result.second ≡ (pair_of self).second }
+        ensures lost { result.lost ≡ lost_of (pair_of self).first.reels (pair_of self).standings }
     {
-        (self.first, self.second)
+        Parts {
+            first: self.first,
+            second: self.second,
+            lost: self.lost,
+        }
     }
 
     /// The standing of the twins of a reel, if the racks have it.

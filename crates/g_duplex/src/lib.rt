@@ -15,8 +15,9 @@ mod standings;
 mod twin;
 
 pub use comparing::first_difference;
-pub use duplex::Duplex;
+pub use duplex::{Duplex, Parts};
 pub use fault::DuplexFault;
 pub use laws::{a_lost_twin_is_not_seen, racks_answer_alike, who_fails_was_asked};
 pub use places::standing_by;
+pub use standings::LostTwins;
 pub use twin::{Standing, Twin};

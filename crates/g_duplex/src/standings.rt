@@ -60,7 +60,7 @@ impl Standings {
 
 /// The lost twins with their serials, at most 16. Contracts see a list.
 #[derive(Drop)]
-pub(crate) struct LostTwins {
+pub struct LostTwins {
     each: ArrayVec<(u32, Twin), 16>,
 }
 
@@ -97,7 +97,7 @@ impl LostTwins {
     }
 
     /// The list as a slice.
-    pub(crate) fn as_slice(&self) -> &[(u32, Twin)]
+    pub fn as_slice(&self) -> &[(u32, Twin)]
         ensures { result.now ≡ self.now }
     {
         self.each.as_slice()

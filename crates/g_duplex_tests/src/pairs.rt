@@ -30,8 +30,8 @@ fn ample(rt: HostRuntime) -> Result<(), Fail> {
     assert!(rt; both.unmount(1).is_ok() && !both.mounted(1));
     assert!(rt; both.agree(1) == Err(DuplexFault::NotMounted));
     assert!(rt; both.agree(2) == Err(DuplexFault::NoTape));
-    let (first, second) = both.into_racks();
-    assert!(rt; first.length(1) == Ok(2) && second.length(1) == Ok(2));
+    let parts = both.into_parts();
+    assert!(rt; parts.first.length(1) == Ok(2) && parts.second.length(1) == Ok(2));
     Ok(())
 }
 

@@ -7,6 +7,7 @@ pub mod CallLemmas
 pub mod DiscLemmas
 pub mod DurabilityLemmas
 pub mod DurableBlocksLemmas
+pub mod FaultLemmas
 pub mod FileRackLemmas
 pub mod FileReelLemmas
 pub mod FrontLemmas

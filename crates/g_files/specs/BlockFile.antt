@@ -39,3 +39,7 @@ abbrev pub left_of : Remains → ℕ → Blocks → Blocks
 left_of Unchanged k b = b
 left_of Shortened k b = cut_blocks k b
 left_of (Torn block) k b = ended k block b
+
+-- how many calls on its file failed
+abbrev pub faults_of : {F : Type 0} {g : Ghosts F} → BlockFile F g → ℕ
+faults_of {g = g} f = g.faults f.file

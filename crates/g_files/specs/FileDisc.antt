@@ -4,7 +4,7 @@ use Rattle.g_base.specs.Fuse.{never}
 use Rattle.g_disc.specs.Disc.{DiscState, is_durable, is_syncable}
 use Rattle.g_files.specs.Bytes.{blocks_of}
 use Rattle.g_files.specs.Durability.{Durability, HasDurable, HasSyncable}
-use Rattle.g_files.specs.Image.{blocks_seen, durability_seen, file_of}
+use Rattle.g_files.specs.Image.{blocks_seen, durability_seen, faults_of, file_of}
 use Rattle.g_files.specs.declared.file_disc.FileDisc.{FileDisc}
 use Rattle.g_files.specs.declared.raw.RawFile.{Ghosts}
 
@@ -37,6 +37,10 @@ disc_size d = d.image.size
 -- the bytes of its file
 abbrev pub disc_file : {F : Type 0} {g : Ghosts F} → FileDisc F g → Option (List ℕ)
 disc_file d = file_of d.image
+
+-- how many calls on its file failed
+abbrev pub disc_faults : {F : Type 0} {g : Ghosts F} → FileDisc F g → ℕ
+disc_faults d = faults_of d.image
 
 -- Whether the disc was secured: `secure` or a write has succeeded, or its file was new, and no write of the gate has failed since.
 abbrev pub is_secured : {F : Type 0} {g : Ghosts F} → FileDisc F g → Bool

@@ -3,13 +3,17 @@ use Rattle.std.specs.Prelude.{◌≡◌, ℕ, ◌+◌, ◌*◌, ◌<◌, ◌≤�
 use Rattle.std.specs.Option.{ForSome}
 use Rattle.g_tape.specs.Reel.{Reel}
 use Rattle.g_files.specs.Bytes.{blocks_of}
-use Rattle.g_files.specs.BlockFile.{blocks_seen, content_of}
+use Rattle.g_files.specs.BlockFile.{blocks_seen, content_of, faults_of}
 use Rattle.g_files.specs.declared.file_reel.FileReel.{FileReel}
 use Rattle.g_files.specs.declared.raw.RawFile.{Ghosts}
 
 -- the bytes of its file
 abbrev pub reel_file : {F : Type 0} {g : Ghosts F} → FileReel F g → Option (List ℕ)
 reel_file r = content_of r.blocks
+
+-- how many calls on its file failed
+abbrev pub reel_faults : {F : Type 0} {g : Ghosts F} → FileReel F g → ℕ
+reel_faults r = faults_of r.blocks
 
 -- the reel: its blocks are the first ones of the file, observable if the file's bytes are; nobody counts how often they are read
 abbrev pub reel_of : {F : Type 0} {g : Ghosts F} → FileReel F g → Reel

@@ -7,7 +7,7 @@ use Rattle.g_tape.specs.Rack.{Rack}
 use Rattle.g_tape.specs.Reads.{MayLeave, blocks_of}
 use Rattle.g_tape.specs.Risk.{Risk}
 use Rattle.g_files.specs.ReelRisk.{risk_of}
-use Rattle.g_files.specs.Reels.{reels_of}
+use Rattle.g_files.specs.Reels.{faults_of, reels_of}
 use Rattle.g_files.specs.declared.file_reel.FileReel.{FileReel}
 use Rattle.g_files.specs.declared.file_tapes.FileTapes.{FileTapes}
 use Rattle.g_files.specs.declared.raw.RawFile.{Ghosts}
@@ -15,6 +15,10 @@ use Rattle.g_files.specs.declared.raw.RawFile.{Ghosts}
 -- the reels of a rack
 abbrev pub rack_reels : {F L : Type 0} {g : Ghosts F} → FileTapes F L g → List (FileReel F g)
 rack_reels t = t.reels.items
+
+-- how many calls on its files failed
+abbrev pub rack_faults : {F L : Type 0} {g : Ghosts F} → FileTapes F L g → ℕ
+rack_faults t = faults_of t.reels.items
 
 -- the rack, whose blocks are observable if the bytes of its files are
 abbrev pub rack_of : {F L : Type 0} {g : Ghosts F} → FileTapes F L g → Rack

@@ -38,3 +38,7 @@ durability_seen {g = g} i = overlaid i.buffered.at (length i.buffered.bytes) (g.
 -- whether the gate is known to be durable
 abbrev pub settled_of : {F : Type 0} {g : Ghosts F} → Image F g → Bool
 settled_of i = i.settled
+
+-- how many calls on its file failed
+abbrev pub faults_of : {F : Type 0} {g : Ghosts F} → Image F g → ℕ
+faults_of {g = g} i = g.faults i.file

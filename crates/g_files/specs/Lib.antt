@@ -3,6 +3,7 @@ pub mod BlockFile
 pub mod Bytes
 pub mod Calls
 pub mod Durability
+pub mod Faults
 pub mod FileDisc
 pub mod FileReel
 pub mod FileTapes

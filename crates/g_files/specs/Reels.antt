@@ -1,10 +1,10 @@
 -- Several reels in files.
-use Rattle.std.specs.Prelude.{◌≡◌, ◌<◌, List, All, length, map, slice_index_or}
+use Rattle.std.specs.Prelude.{◌≡◌, ℕ, ◌<◌, List, All, length, map, slice_index_or, sum_by}
 use Rattle.std.specs.List.{AllZip}
 use Rattle.std.specs.Option.{ForSome}
 use Rattle.g_tape.specs.Reel.{Reel}
 use Rattle.g_files.specs.Ahead.{IsFresh, owner_of}
-use Rattle.g_files.specs.FileReel.{IsSaved, reel_file, reel_of}
+use Rattle.g_files.specs.FileReel.{IsSaved, reel_faults, reel_file, reel_of}
 use Rattle.g_files.specs.ReelRisk.{ReelLeavesNoMore, risk_of}
 use Rattle.g_files.specs.declared.ahead.ReadAhead.{ReadAhead}
 use Rattle.g_files.specs.declared.file_reel.FileReel.{FileReel}
@@ -13,6 +13,10 @@ use Rattle.g_files.specs.declared.raw.RawFile.{Ghosts}
 -- the reels in their files
 abbrev pub reels_of : {F : Type 0} {g : Ghosts F} → List (FileReel F g) → List Reel
 reels_of reels = map reel_of reels
+
+-- how many calls on their files failed
+abbrev pub faults_of : {F : Type 0} {g : Ghosts F} → List (FileReel F g) → ℕ
+faults_of reels = sum_by reel_faults reels
 
 -- what was read ahead is what the file of its reel has there
 abbrev pub AreFresh : {F : Type 0} {g : Ghosts F} → ReadAhead → List (FileReel F g) → Type 0

@@ -5,6 +5,7 @@ ghost use Rattle.g_base.specs.ToldContent.{Changes};
 ghost use Rattle.g_files.specs.Bytes.{AreBytes, part};
 ghost use Rattle.g_files.specs.Growth.{Appends, Grows, Rewrites};
 ghost use Rattle.g_files.specs.Durability.{SetsLength};
+ghost use Rattle.g_files.specs.Faults.{FailsByFault};
 ghost use Rattle.g_files.specs.Front.{IsCut, KeepsFront};
 
 use crate::raw::RawFile;
@@ -38,6 +39,7 @@ pub(crate) fn cut_at<F: RawFile>(file: &mut F, k: u32) -> io::Result<()>
     ensures cut { Changes (IsCut (512 * k)) (F.content file.old) (F.content file.new) }
     ensures done { OnOk result (ForSome (F.content file.new) (λ bytes. length bytes ≡ 512 * k)) }
     ensures durability { SetsLength (512 * k) (F.content file.old) (F.content file.new) (F.durability file.old) (F.durability file.new) result }
+    ensures cause { FailsByFault result (F.faults file.old) (F.faults file.new) }
 {
     file.set_len(start_of(k))
 }

@@ -4,6 +4,7 @@ ghost use Rattle.std.specs.Option.{ForSome};
 ghost use Rattle.g_base.specs.ToldContent.{Changes};
 ghost use Rattle.g_files.specs.Ahead.{IsFresh, owner_of};
 ghost use Rattle.g_files.specs.Bytes.{AreBytes, blocks_of, part};
+ghost use Rattle.g_files.specs.Faults.{FailsByFault};
 ghost use Rattle.g_files.specs.Growth.{AreWritten, Grows, IsOrderly};
 ghost use Rattle.g_files.specs.Front.{KeepsFront};
 ghost use Rattle.g_files.specs.Sectors.{LeavesNoOther, LeavesResized, LeavesSectors};
@@ -46,7 +47,7 @@ pub(crate) struct BlockFile<F: RawFile + Drop> {
 }
 
 impl<F: RawFile + Drop> BlockFile<F> {
-    ghost use Rattle.g_files.specs.BlockFile.{EndsThere, blocks_seen, content_of, ended, left_of, len_of};
+    ghost use Rattle.g_files.specs.BlockFile.{EndsThere, blocks_seen, content_of, ended, faults_of, left_of, len_of};
     ghost use Rattle.g_files.specs.Risks.{IsStored, Keeps, KeepsTo, LeavesBegun, LeavesNoMoreBlocks, Secures, StayKept, durability_of, durable_of, reach_of};
 
     /// The whole blocks of a file. A piece of a block at its end doesn't count: a write that was torn by a kill or a power loss left
@@ -154,6 +155,7 @@ impl<F: RawFile + Drop> BlockFile<F> {
         ensures front { Changes (KeepsFront (512 * len_of self.old)) (content_of self.old) (content_of self.new) }
         ensures no_more { LeavesNoMoreBlocks self.old self.new }
         ensures durable { durable_of self.new ≡ durable_of self.old }
+        ensures cause { FailsByFault result (faults_of self.old) (faults_of self.new) }
     {
         match self.reach {
             Reach::There | Reach::Unknown => Ok(()),
@@ -164,7 +166,7 @@ impl<F: RawFile + Drop> BlockFile<F> {
 }
 
 impl<F: RawFile + Drop> BlockFile<F> {
-    ghost use Rattle.g_files.specs.BlockFile.{EndsThere, blocks_seen, content_of, cut_blocks, ended, left_of, len_of};
+    ghost use Rattle.g_files.specs.BlockFile.{EndsThere, blocks_seen, content_of, cut_blocks, ended, faults_of, left_of, len_of};
     ghost use Rattle.g_files.specs.Risks.{IsStored, Keeps, KeepsTo, LeavesBegun, LeavesNoMoreBlocks, MayLeaveBlocks, Secures, StayKept, durability_of, durable_of, reach_of};
 
     /// Writes block k, which is the last one then; `syncs` if everything before it has to be durable first.
@@ -391,6 +393,7 @@ impl<F: RawFile + Drop> BlockFile<F> {
         ensures durable { durable_of self.new ≡ durable_of self.old }
         ensures reach { reach_of self.new ≡ reach_of self.old }
         ensures sized { OnOk result ((durability_of self.new).sized ≡ true) }
+        ensures cause { FailsByFault result (faults_of self.old) (faults_of self.new) }
     {
         cut_at(&mut self.file, self.len)
     }
@@ -403,6 +406,7 @@ impl<F: RawFile + Drop> BlockFile<F> {
         ensures front { Changes (KeepsFront (512 * len_of self.old)) (content_of self.old) (content_of self.new) }
         ensures no_more { LeavesNoMoreBlocks self.old self.new }
         ensures durable { durable_of self.new ≡ durable_of self.old }
+        ensures cause { FailsByFault result (faults_of self.old) (faults_of self.new) }
     {
         if self.cut_tail().is_err() {
             return Err(Error::from(ErrorKind::Other));
@@ -416,6 +420,7 @@ impl<F: RawFile + Drop> BlockFile<F> {
         ensures len { len_of self.new ≡ len_of self.old }
         ensures no_more { LeavesNoMoreBlocks self.old self.new }
         ensures durable { durable_of self.new ≡ durable_of self.old }
+        ensures cause { FailsByFault result (faults_of self.old) (faults_of self.new) }
     {
         self.reach = Reach::Failed;
         self.file.sync()

@@ -6,6 +6,7 @@ ghost use Rattle.g_base.specs.Fuse.{BurnsByWrites};
 ghost use Rattle.g_disc.specs.Disc.{StayDurable, StaySyncable, is_durable, is_syncable};
 ghost use Rattle.g_files.specs.Bytes.{AreBytes, blocks_of};
 ghost use Rattle.g_files.specs.Durability.{DurableAreSyncable, IsSettled, WritesBlock};
+ghost use Rattle.g_files.specs.Faults.{FailsByFault};
 ghost use Rattle.g_files.specs.Image.{blocks_seen, durability_seen, seen, size_of};
 
 use crate::image::{Image, Origin};
@@ -33,7 +34,7 @@ pub struct FileDisc<F: RawFile + Drop> {
 }
 
 impl<F: RawFile + Drop> FileDisc<F> {
-    ghost use Rattle.g_files.specs.FileDisc.{disc_file, disc_size, disc_state, is_secured, opened};
+    ghost use Rattle.g_files.specs.FileDisc.{disc_faults, disc_file, disc_size, disc_state, is_secured, opened};
 
     /// The disc on a file. `InvalidData` unless the file has 2,178 to 1,048,576 whole blocks; otherwise the error is the system's,
     /// or memory has run out.
@@ -65,6 +66,7 @@ impl<F: RawFile + Drop> FileDisc<F> {
         ensures syncable { OnOk result (StaySyncable (disc_state self.old) (disc_state self.new)) }
         ensures synced { OnOk result (is_secured self.old ≡ true
             → (k : ℕ) → is_syncable (disc_state self.new) k ≡ true → is_durable (disc_state self.new) k ≡ true) }
+        ensures cause { FailsByFault result (disc_faults self.old) (disc_faults self.new) }
     {
         self.image.finish()
     }

@@ -3,6 +3,7 @@ ghost use Rattle.std.specs.Prelude.{◌≡◌, ◌+◌, ◌-◌, ◌*◌, ◌<�
 ghost use Rattle.std.specs.Option.{ForSome};
 ghost use Rattle.g_base.specs.ToldContent.{Changes};
 ghost use Rattle.g_files.specs.Ahead.{IsFresh, owner_of};
+ghost use Rattle.g_files.specs.Faults.{FailsByFault};
 ghost use Rattle.g_files.specs.Front.{KeepsFront};
 ghost use Rattle.g_tape.specs.Rack.{refuses_read, refuses_write};
 ghost use Rattle.g_tape.specs.Reel.{IsLabel, IsReel, Remains, ending, left_by, with_mounted};
@@ -25,7 +26,7 @@ pub struct FileReel<F: RawFile + Drop> {
 }
 
 impl<F: RawFile + Drop> FileReel<F> {
-    ghost use Rattle.g_files.specs.FileReel.{IsSaved, reel_file, reel_of};
+    ghost use Rattle.g_files.specs.FileReel.{IsSaved, reel_faults, reel_file, reel_of};
     ghost use Rattle.g_files.specs.ReelRisk.{ReelKeeps, ReelLeavesNoMore, SecuresReel, WritesReel, risk_of, with_cuts};
 
     /// The reel on a file, not mounted: its whole blocks, at most as many as the capacity. `InvalidData` if there are more; otherwise
@@ -124,6 +125,7 @@ impl<F: RawFile + Drop> FileReel<F> {
         ensures same { reel_of self.new ≡ reel_of self.old }
         ensures serial { (risk_of self.new).serial ≡ (risk_of self.old).serial }
         ensures no_more { ReelLeavesNoMore (reel_of self.old) (reel_of self.new) (risk_of self.old) (risk_of self.new) }
+        ensures cause { FailsByFault result (reel_faults self.old) (reel_faults self.new) }
     {
         self.blocks.finish()
     }

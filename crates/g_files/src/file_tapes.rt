@@ -1,9 +1,10 @@
 //! A rack of files, one for each reel: counts of faults, and the fuse.
 ghost use Rattle.std.specs.Prelude.{◌≡◌, ◌≤◌, [], Err, None, OnOk, Some, MatchOption, map, true, false};
 ghost use Rattle.g_base.specs.Fuse.{BurnsByFailures, never};
+ghost use Rattle.g_files.specs.Faults.{FailsByFault};
 ghost use Rattle.g_files.specs.FileReel.{reel_of};
 ghost use Rattle.g_files.specs.ReelRisk.{risk_of};
-ghost use Rattle.g_files.specs.Reels.{AreFresh, AreSaved, LeaveNoMore};
+ghost use Rattle.g_files.specs.Reels.{AreFresh, AreSaved, LeaveNoMore, faults_of};
 ghost use Rattle.g_files.specs.Ahead.{window_of};
 ghost use Rattle.g_files.specs.Window.{window};
 ghost use Rattle.g_tape.specs.Place.{IsPlaceOf};
@@ -34,7 +35,7 @@ pub struct FileTapes<F: RawFile + Drop, L: Drop> {
 }
 
 impl<F: RawFile + Drop, L: Drop> FileTapes<F, L> {
-    ghost use Rattle.g_files.specs.FileTapes.{opened, rack_of, rack_reels};
+    ghost use Rattle.g_files.specs.FileTapes.{opened, rack_faults, rack_of, rack_reels};
 
     /// The rack of these reels, which are in rising serial.
     pub fn new(lock: L, reels: Vec<FileReel<F>>, ahead: ReadAhead) -> FileTapes<F, L>
@@ -67,6 +68,7 @@ impl<F: RawFile + Drop, L: Drop> FileTapes<F, L> {
         ensures saved { OnOk result (AreSaved (rack_reels self.new)) }
         ensures same { rack_of self.new ≡ record (rack_of self.old) { risks = (rack_of self.new).risks } }
         ensures no_more { LeavesNoMore (rack_of self.old) (rack_of self.new) }
+        ensures cause { FailsByFault result (rack_faults self.old) (rack_faults self.new) }
     {
         self.ahead.forget(0);
         finish_all(&mut self.reels)
@@ -205,6 +207,7 @@ fn finish_all<F: RawFile + Drop>(reels: &mut [FileReel<F>]) -> io::Result<()>
     ensures saved { OnOk result (AreSaved reels.new) }
     ensures same { map reel_of reels.new ≡ map reel_of reels.old }
     ensures no_more { LeaveNoMore reels.old reels.new }
+    ensures cause { FailsByFault result (faults_of reels.old) (faults_of reels.new) }
 {
     let mut finished = Ok(());
     for i in 0..reels.len() {

@@ -7,6 +7,7 @@ ghost use Rattle.g_base.specs.ToldContent.{Changes};
 ghost use Rattle.g_files.specs.Bytes.{AreBytes, part};
 ghost use Rattle.g_files.specs.Calls.{HasWrittenAll};
 ghost use Rattle.g_files.specs.Durability.{AreSynced, DurableAreSyncable, HasDurable, HasSyncable, IsSettled, StayDurable, StaySyncable, overlaid};
+ghost use Rattle.g_files.specs.Faults.{FailsByFault};
 ghost use Rattle.g_files.specs.Durability.{KeepsDurability, SyncsDurability, WritesBlock, WritesDurability};
 
 use crate::raw::RawFile;
@@ -58,7 +59,7 @@ pub(crate) struct Image<F: RawFile + Drop> {
 }
 
 impl<F: RawFile + Drop> Image<F> {
-    ghost use Rattle.g_files.specs.Image.{durability_seen, file_of, seen, settled_of, size_of};
+    ghost use Rattle.g_files.specs.Image.{durability_seen, faults_of, file_of, seen, settled_of, size_of};
 
     /// The image on a file of `size` blocks. A new one needs no further call before its first write: its file was synced.
     pub fn over(alloc: Global, file: F, size: u32, origin: Origin) -> io::Result<Image<F>>
@@ -163,6 +164,7 @@ impl<F: RawFile + Drop> Image<F> {
         ensures size { size_of self.new ≡ size_of self.old }
         ensures durability { KeepsDurability (durability_seen self.old) (durability_seen self.new) result }
         ensures synced { OnOk result (settled_of self.old ≡ true → AreSynced (durability_seen self.new)) }
+        ensures cause { FailsByFault result (faults_of self.old) (faults_of self.new) }
     {
         if self.flush().is_err() {
             return Err(WriteFailed);
@@ -175,7 +177,7 @@ impl<F: RawFile + Drop> Image<F> {
 }
 
 impl<F: RawFile + Drop> Image<F> {
-    ghost use Rattle.g_files.specs.Image.{buffered_at, buffered_of, durability_of, durability_seen, file_of, seen, settled_of, size_of};
+    ghost use Rattle.g_files.specs.Image.{buffered_at, buffered_of, durability_of, durability_seen, faults_of, file_of, seen, settled_of, size_of};
 
     /// Reads block k of the file.
     fn read_file(&mut self, k: u32, into: &mut Block) -> Result<(), ReadFailed>
@@ -386,6 +388,7 @@ impl<F: RawFile + Drop> Image<F> {
         ensures size { size_of self.new ≡ size_of self.old }
         ensures settled { settled_of self.new ≡ settled_of self.old }
         ensures durability { KeepsDurability (durability_seen self.old) (durability_seen self.new) result }
+        ensures cause { FailsByFault result (faults_of self.old) (faults_of self.new) }
     {
         if self.buffered.is_empty() {
             return Ok(());
@@ -429,6 +432,7 @@ impl<F: RawFile + Drop> Image<F> {
         ensures size { size_of self.new ≡ size_of self.old }
         ensures settled { settled_of self.new ≡ settled_of self.old }
         ensures durability { SyncsDurability (durability_of self.old) (durability_of self.new) result }
+        ensures cause { FailsByFault result (faults_of self.old) (faults_of self.new) }
     {
         self.pending = true; // unless the sync succeeds
         if self.file.sync().is_err() {

@@ -26,6 +26,6 @@ pub use file_tapes::FileTapes;
 pub use image::Origin;
 pub use laws::{blocks_are_their_bytes, risks_list_what_is_read};
 pub use memory_file::MemoryFile;
-pub use raw::RawFile;
+pub use raw::{RawFile, count_fault};
 pub use reels::push_reel;
 pub use streams::{RawInput, RawOutput, StdSink, StdSource};

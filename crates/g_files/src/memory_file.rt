@@ -1,9 +1,11 @@
 //! A file in memory, whose bytes are observable and durable at once. Its calls can be made short, and one of them can be made to fail.
-ghost use Rattle.std.specs.Prelude.{◌≡◌, ◌<◌, ◌≤◌, IfOk, OnErr, OnOk, Some, length, replicate, take};
+ghost use Rattle.std.specs.Prelude.{◌≡◌, ◌<◌, ◌≤◌, IfOk, OnErr, OnOk, Some, false, length, replicate, take, true};
+ghost use Rattle.g_base.specs.Counts.{Rose};
 ghost use Rattle.g_files.specs.Bytes.{AreBytes, padded, put};
 ghost use Rattle.g_files.specs.Durability.{stored};
 
-use crate::raw::RawFile;
+use crate::raw::{RawFile, count_fault};
+use g_base::raised;
 use std::alloc::Global;
 use std::io::{self, Error, ErrorKind};
 
@@ -17,12 +19,14 @@ pub struct MemoryFile {
     fault: u32,
     /// How many bytes a write that fails writes.
     torn: usize,
+    /// How many calls failed.
+    faults: u64,
     ghost each: { AreBytes bytes.items },
     ghost moves: { 0 < most },
 }
 
 impl MemoryFile {
-    ghost use Rattle.g_files.specs.MemoryFile.{bytes_of};
+    ghost use Rattle.g_files.specs.MemoryFile.{bytes_of, faults_of};
 
     /// A file of `len` zeros. Its calls aren't short, and fail only if memory runs out.
     pub fn zeros(alloc: Global, len: usize) -> io::Result<MemoryFile>
@@ -33,6 +37,7 @@ impl MemoryFile {
             most: usize::MAX,
             fault: 0,
             torn: 0,
+            faults: 0,
         })
     }
 
@@ -55,9 +60,14 @@ impl MemoryFile {
     /// Counts a call, and returns whether it fails.
     fn fires(&mut self) -> bool
         ensures bytes { bytes_of self.new ≡ bytes_of self.old }
+        ensures fault { result ≡ true → Rose (faults_of self.old) (faults_of self.new) }
+        ensures none { result ≡ false → faults_of self.new ≡ faults_of self.old }
     {
         let fires = self.fault == 1;
         self.fault = self.fault.saturating_sub(1);
+        if fires {
+            self.faults = raised(self.faults);
+        }
         fires
     }
 }
@@ -68,6 +78,8 @@ impl RawFile for MemoryFile {
     ghost content = { λ f. Some f.bytes.items };
 
     ghost durability = { λ f. stored f.bytes.items };
+
+    ghost faults = { λ f. f.faults };
 
     ghost remnants = { λ f. stored_whole f.bytes.items f.each };
 
@@ -97,7 +109,9 @@ impl RawFile for MemoryFile {
     fn write_at(&mut self, from: &[u8], at: u64) -> io::Result<usize> {
         let few = from.len().min(self.most);
         if !self.fires() {
-            return write_bytes(&mut self.bytes, &from[..few], at as usize);
+            let written = write_bytes(&mut self.bytes, &from[..few], at as usize);
+            count_fault(&mut self.faults, &written);
+            return written;
         }
         let few = few.min(self.torn);
         let _torn = write_bytes(&mut self.bytes, &from[..few], at as usize);
@@ -108,7 +122,9 @@ impl RawFile for MemoryFile {
         if self.fires() {
             return Err(Error::from(ErrorKind::Other));
         }
-        resize(&mut self.bytes, len as usize)
+        let set = resize(&mut self.bytes, len as usize);
+        count_fault(&mut self.faults, &set);
+        set
     }
 
     fn sync(&mut self) -> io::Result<()> {
@@ -123,6 +139,7 @@ impl RawFile for MemoryFile {
 fn write_bytes(bytes: &mut Vec<u8>, from: &[u8], at: usize) -> io::Result<usize>
     requires { at ≤ length bytes.old.items }
     ensures count { IfOk result (λ n. n ≤ length from.now) }
+    ensures some { IfOk result (λ n. 0 < length from.now → 0 < n) }
     ensures written { IfOk result (λ n. bytes.new.items ≡ put at (take n from.now) bytes.old.items) }
     ensures kept { OnErr result (bytes.new.items ≡ bytes.old.items) }
 {

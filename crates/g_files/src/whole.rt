@@ -6,6 +6,7 @@ ghost use Rattle.g_base.specs.ToldContent.{Changes};
 ghost use Rattle.g_files.specs.Bytes.{AreBytes, part};
 ghost use Rattle.g_files.specs.Calls.{HasWrittenAll};
 ghost use Rattle.g_files.specs.Durability.{HasSyncable, WritesDurability};
+ghost use Rattle.g_files.specs.Faults.{FailsByFault};
 
 use crate::raw::RawFile;
 use std::io::{self, Error, ErrorKind};
@@ -42,6 +43,7 @@ pub(crate) fn write_whole<F: RawFile>(file: &mut F, from: &[u8], at: u64) -> io:
     ensures written { Changes (HasWrittenAll at from.now result) (F.content file.old) (F.content file.new) }
     ensures durability { WritesDurability at from.now (F.content file.old) (F.durability file.old) (F.durability file.new) result }
     ensures syncable { OnOk result (HasSyncable at (length from.now) (F.durability file.new)) }
+    ensures cause { FailsByFault result (F.faults file.old) (F.faults file.new) }
 {
     let mut done = 0;
     for _call in 0..u64::MAX {

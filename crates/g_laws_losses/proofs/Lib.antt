@@ -1,1 +1,3 @@
+mod AnsweredLemmas
+mod DownLemmas
 mod NextLemmas

@@ -13,6 +13,7 @@ pub mod LostLemmas
 pub mod MissingLemmas
 pub mod NamedLemmas
 pub mod NumberLemmas
+pub mod OutlookLemmas
 pub mod PairLemmas
 pub mod PushLemmas
 pub mod RackLemmas

@@ -1,5 +1,5 @@
 -- Dumps in rising order of number: if two break a rule of pairs, two neighbours do.
--- serves: falling (none, some), twice (none), GapLemmas, MissingLemmas, RackLemmas
+-- serves: falling (none, some), twice (none), GapLemmas, MissingLemmas, OutlookLemmas, RackLemmas
 use Rattle.std.proofs.Common.{◌≡◌, ◌⊎◌, inl, inr, ℕ, zero, suc, ◌+◌, ◌-◌, ◌<◌, ◌≤◌, List, length, get_or, sym, ◌∙◌, ap, arith, subst}
 use Rattle.std.specs.Prelude.{Contains}
 use Rattle.std.specs.List.Sorted.{IsNonDecreasingBy}

@@ -1,5 +1,5 @@
 -- The rules of the rack, for the dumps in memory and for the dumps themselves.
--- serves: judge_rack (judged), missing, HeadLemmas, MissingLemmas
+-- serves: judge_rack (judged), missing, HeadLemmas, MissingLemmas, OutlookLemmas
 use Rattle.std.proofs.Common.{◌≡◌, ◌⊎◌, inl, inr, ℕ, ◌<◌, ◌≤◌, List, [], length, map, Result, Err, sym, ◌∙◌, ap, arith, subst, All}
 use Rattle.std.specs.Prelude.{Contains, IsPermutation}
 use Rattle.std.proofs.lemmas.List.{get_or-map, length-map}

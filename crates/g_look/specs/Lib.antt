@@ -7,6 +7,7 @@ pub mod Lists
 pub mod Looks
 pub mod MemoryLines
 pub mod Numbers
+pub mod Outlooks
 pub mod Reads
 pub mod Recs
 pub mod Rules

@@ -1,9 +1,10 @@
-//! Rule 13: the missing dump.
-ghost use Rattle.std.specs.Prelude.{◌≡◌, ◌⊎◌, ◌↔◌, ◌+◌, ◌-◌, ◌<◌, ◌≤◌, IfOk, IsTrue, List};
+//! Rule 13: the missing dump; and the one that is lacking by what the disc knows.
+ghost use Rattle.std.specs.Prelude.{◌≡◌, ◌⊎◌, ◌↔◌, ◌+◌, ◌-◌, ◌<◌, ◌≤◌, IfOk, IsTrue, List, false};
 ghost use Rattle.std.specs.List.Sorted.{IsNonDecreasingBy};
 ghost use Rattle.g_incr.specs.Layout.{Dump, holds};
 ghost use Rattle.g_restore.specs.KnownDumps.{AreKnown};
 ghost use Rattle.g_look.specs.Gaps.{HoldsAll, IsNewestGap, IsNewestWhole, NamesMissing};
+ghost use Rattle.g_look.specs.Outlooks.{IsBeyond, IsReached, NamesLacking};
 
 use crate::DumpAt;
 use crate::pairs::by_number;
@@ -18,6 +19,33 @@ pub(crate) fn missing(alloc: Global, found: &[Found]) -> Result<Option<u64>, NoM
 {
     let dumps = by_number(alloc, found)?;
     Ok(newest_gap(dumps.as_slice(), newest_whole(found)))
+}
+
+/// The greatest number of a dump that is lacking, given the last dump that the disc knows of. `NoMemory`.
+pub(crate) fn lacking(alloc: Global, found: &[Found], last: u64) -> Result<Option<u64>, NoMemory>
+    ensures { IfOk result (λ number. (dumps : List Dump) → AreKnown found.now dumps → NamesLacking dumps last number) }
+{
+    if !is_reached(found, last) {
+        return Ok(Some(last));
+    }
+    let number = missing(alloc, found)?;
+    Ok(number)
+}
+
+/// Whether a dump has this number or a greater one, or the number is 0.
+fn is_reached(found: &[Found], last: u64) -> bool
+    ensures reached { IsTrue result → IsReached found.now last }
+    ensures beyond { result ≡ false → IsBeyond found.now last }
+{
+    if last == 0 {
+        return true;
+    }
+    for one in found {
+        if one.dir.note.number >= last {
+            return true;
+        }
+    }
+    false
 }
 
 /// The greatest number of a dump that holds the directories of all its users, 0 if none does.

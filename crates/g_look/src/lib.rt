@@ -15,6 +15,7 @@ mod head;
 mod holding;
 mod listing;
 mod ordered;
+mod outlook;
 mod pairs;
 mod parts;
 mod rack;
@@ -25,6 +26,7 @@ mod room;
 mod showing;
 mod tape;
 
+ghost use Rattle.g_look.specs.Outlooks.{KnownIsOne};
 ghost use Rattle.g_look.specs.Rules.{BrokenIsNot, FitsBelong, RackHasNone, VerdictIsRight};
 
 pub use broken::{Broken, DumpAt, Lie, Verdict};
@@ -34,6 +36,7 @@ pub use disc::{Standing, see_disc};
 pub use fault::LookFault;
 pub use holding::dumps;
 pub use listing::list;
+pub use outlook::{Outlook, foresee_restore};
 pub use parts::{push_copy, push_lie, push_told};
 pub use rack::see_rack;
 pub use restoring::{Given, restorable};
@@ -54,4 +57,9 @@ pub fn fits_belong()
 pub fn verdicts()
     ensures rack { RackHasNone }
     ensures right { VerdictIsRight }
+{}
+
+/// A disc knows of exactly one dump as the last one; if it represents a directory, this is the one in the directory's head.
+pub fn known_is_one()
+    ensures one { KnownIsOne }
 {}

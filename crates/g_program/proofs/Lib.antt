@@ -1,3 +1,4 @@
+mod DemoLemmas
 mod RuleLemmas
 mod SafeLemmas
 mod SessionRuleLemmas

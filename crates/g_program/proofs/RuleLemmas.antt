@@ -133,7 +133,7 @@ module _ {F G U V : Type 0}
   left_by first moves last u (OtherEnd before after stop was mid end ran is cut step ends same) =
       OtherEnd before after stop was mid end (run_by first before was ran) (last_up_by first moves last (before ++ stop ∷ []) after mid is) cut (step_by was stop mid step) (step_by was stop end ends) same
 
-  loss_by : (first : World) (moves : List Move) (last : World) (old new : Devices)
+  pub loss_by : (first : World) (moves : List Move) (last : World) (old new : Devices)
       → SurvivesLoss tariffs tariff rules rule first moves last old new → SurvivesLoss others other ways way first moves last old new
   loss_by first moves last old new it = λ blocks rack lost. elim (it blocks rack lost) [
     | inl here ↦ inl (here.0, left_by first moves last here.0 here.1, here.2)

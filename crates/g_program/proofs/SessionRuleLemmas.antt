@@ -1,23 +1,24 @@
 -- A session by rules whose answers are also answers of other rules is a session by those.
--- serves: session_by_rules (anew, answers, ends)
-use Rattle.std.proofs.Common.{◌≡◌, ◌⊎◌, ℕ, List, [], ◌∷◌, Option, Some, None, inl, inr}
+-- serves: session_by_rules (anew, answers, ends, survives)
+use Rattle.std.proofs.Common.{◌≡◌, ◌⊎◌, ◌++◌, ℕ, List, [], ◌∷◌, Option, Some, None, map, inl, inr}
 use Rattle.std.specs.Fn.{Shared, FnReturnsAt}
 use denote.Ref.{Bor}
 use Rattle.g_rules.specs.declared.tariff.Charge.{Charge}
 use Rattle.g_rules.specs.declared.tariff.Usage.{Usage}
 use Rattle.g_console.specs.Transcript.{Transcript}
 use Rattle.g_rules.specs.declared.rule.Standing.{Standing}
+use Rattle.g_script.specs.Script.{timed_said}
 use Rattle.g_script.specs.declared.operator.Timed.{Timed}
 use Rattle.g_store_model.specs.State.{State}
 use Rattle.g_run.specs.declared.status.Status.{Status}
 use Rattle.g_run.specs.declared.status.Status.TheVariants.{Done, Words, BadScript, ScriptFault, OutputFault, NoMemory, TooLong}
 use Rattle.g_run_model.specs.Devices.{Devices}
 use Rattle.g_run_model.specs.Moves.{Move}
-use Rattle.g_run_model.specs.World.{World}
+use Rattle.g_run_model.specs.World.{World, start}
 use Rattle.g_laws_runs.specs.BeginningAnew.{with_new_disc}
-use Rattle.g_laws_sessions.specs.Session.{AlwaysAnswers, Asked, Comes, Exchange, Exchanged, Exchanges, Goes, IsAnswered, IsCutShort, IsOver, Moment, Nothing, Refused, Rested, Skipped, Then, Took, Unclosed}
-use Rattle.g_session.specs.Session.{EndsAnew, EndsSession, StaysBlank}
-use Rattle.g_program.proofs.RuleLemmas.{run_by, run_of}
+use Rattle.g_laws_sessions.specs.Session.{AlwaysAnswers, Asked, Comes, Exchange, Exchanged, Exchanges, Goes, IsAnswered, IsCutShort, IsOver, Moment, Nothing, Refused, Rested, Skipped, Then, Took, Unclosed, taken}
+use Rattle.g_session.specs.Session.{EndsAnew, EndsSession, SessionSurvives, StaysBlank}
+use Rattle.g_program.proofs.RuleLemmas.{loss_by, run_by, run_of}
 
 module _ {F G U V : Type 0}
     (tariffs : Shared F (Bor Usage × Unit {0}) Charge) (tariff : F) (others : Shared G (Bor Usage × Unit {0}) Charge) (other : G)
@@ -130,6 +131,13 @@ module _ {F G U V : Type 0}
   session_by Words s old new t before after it = absurd it
   session_by TooLong s old new t before after it = absurd it
 
+  survives_by : (s : State) (old new : Devices) (t : Transcript) (before after : Option (List ℕ)) → SessionSurvives tariffs tariff rules rule s old new t before after → SessionSurvives others other ways way s old new t before after
+  unfolding short_by
+  survives_by s old new t before after (cut, left) = (
+    short_by s old new t before after cut,
+    loss_by tariffs tariff others other priced rules rule ways way weighed (start (taken cut.said ++ map timed_said cut.more) None s) cut.moves cut.last old new left,
+  )
+
   -- on blank devices
   blank_by : (status : Status) (s : State) (old new : Devices) (t : Transcript) (before after : Option (List ℕ)) → StaysBlank tariffs tariff rules rule status s old new t before after
       → StaysBlank others other ways way status s old new t before after
@@ -195,6 +203,12 @@ module _ {F G U V : Type 0} {tariffs : Shared F (Bor Usage × Unit {0}) Charge} 
       → ((standing : Standing) (weight : ℕ) → FnReturnsAt rules rule standing weight → FnReturnsAt ways way standing weight)
       → EndsSession others other ways way status s old new t before after
   session_as status s old new t before after it priced weighed = session_by tariffs tariff others other priced rules rule ways way weighed status s old new t before after it
+
+  pub survives_as : (s : State) (old new : Devices) (t : Transcript) (before after : Option (List ℕ)) → SessionSurvives tariffs tariff rules rule s old new t before after
+      → ((usage : Usage) (charge : Charge) → FnReturnsAt tariffs tariff usage charge → FnReturnsAt others other usage charge)
+      → ((standing : Standing) (weight : ℕ) → FnReturnsAt rules rule standing weight → FnReturnsAt ways way standing weight)
+      → SessionSurvives others other ways way s old new t before after
+  survives_as s old new t before after it priced weighed = survives_by tariffs tariff others other priced rules rule ways way weighed s old new t before after it
 
   pub anew_as : (status : Status) (s : State) (old new : Devices) (t : Transcript) (before after : Option (List ℕ)) → EndsAnew tariffs tariff rules rule status s old new t before after
       → ((usage : Usage) (charge : Charge) → FnReturnsAt tariffs tariff usage charge → FnReturnsAt others other usage charge)

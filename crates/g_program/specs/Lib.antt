@@ -1,3 +1,4 @@
 pub mod Exit
 pub mod Rules
 pub mod RunsOn
+pub mod SessionOn

@@ -1,12 +1,20 @@
 -- FROM FILES TO FILES: a run by the rules of this program on open files.
-use Rattle.std.specs.Prelude.{◌≡◌, ◌≤◌, ◌<◌, ℕ, Bool, true, List, [], Option, Some, drop, length}
+use Rattle.std.specs.Prelude.{◌≡◌, ◌≤◌, ◌<◌, ℕ, Bool, List, [], Option, Some, drop, length}
 use Rattle.g_base.specs.Counts.{Rose}
-use Rattle.g_closing.specs.Files.{ClosesDisc, ClosesRack, Files, HoldDevices}
+use Rattle.g_closing.specs.Files.{Closes, ClosesPair}
 use Rattle.g_day.specs.System.{BelongTogether, DumpsGrow, SameDevices}
+use Rattle.g_duplex.specs.Pair.{Pair, lost_of, shown}
+use Rattle.g_duplex.specs.declared.twin.Twin.{Twin}
+use Rattle.g_files.specs.FileDisc.{disc_state}
+use Rattle.g_files.specs.FileTapes.{rack_of}
+use Rattle.g_files.specs.declared.file_disc.FileDisc.{FileDisc}
+use Rattle.g_files.specs.declared.file_tapes.FileTapes.{FileTapes}
+use Rattle.g_files.specs.declared.raw.RawFile.{Ghosts}
 use Rattle.g_laws_runs.specs.Filestores.{HasFilestore}
 use Rattle.g_laws_store.specs.Moving.{DumpsMove}
 use Rattle.g_lines.specs.Lines.{lines_of}
 use Rattle.g_program.specs.Rules.{answering, price, share_used}
+use Rattle.g_run.specs.ScriptEnd.{both}
 use Rattle.g_run.specs.Top as top
 use Rattle.g_run.specs.declared.status.Status.{Status}
 use Rattle.g_run_model.specs.Devices.{Devices}
@@ -63,13 +71,28 @@ pub record RunsByRules (status : Status) (old new : Surroundings) : Type 0 where
       → Survives (answering price) tt (answering share_used) tt left old.devices new.devices old.out.bytes new.out.bytes
 
 -- A RUN ON FILES, from the devices on them when it begins to the devices on them when they were closed. The run is one by the rules. Closing the
--- files changes nothing that a read or a count exposes; if it succeeded, the files hold the devices that the run left. With every status, and
--- whether or not the files could be closed, safe devices are safe afterwards.
-pub record RunsOn (status : Status) (closed : Bool) (files : Files) (old new : Surroundings) : Type 0 where
-  -- the devices that the run left, before the files were closed
-  pub left : Devices
-  pub runs : RunsByRules status old (record new { devices = left })
-  pub disc : ClosesDisc left.disc new.devices.disc
-  pub rack : ClosesRack left.rack new.devices.rack
-  pub holds : closed ≡ true → HoldDevices left.disc left.rack files
+-- files changes nothing that a read or a count exposes; if it succeeded, the files hold the devices that the run left, and if it failed, a call on
+-- one of them failed. With every status, and whether or not the files could be closed, safe devices are safe afterwards.
+pub record RunsOn {F L : Type 0} {g : Ghosts F} (status : Status) (closed : Bool) (disc : FileDisc F g) (tapes : FileTapes F L g) (old new : Surroundings) : Type 0 where
+  -- disc and rack as the run left them, before their files were closed
+  pub left_disc : FileDisc F g
+  pub left_tapes : FileTapes F L g
+  pub runs : RunsByRules status old (record new { devices = both (disc_state left_disc) (rack_of left_tapes) })
+  pub closes : Closes closed left_disc disc left_tapes tapes
   pub safe : AreSafe old.devices.disc old.devices.rack → AreSafe new.devices.disc new.devices.rack
+
+-- A RUN ON FILES with two racks, which are one rack for the run: the reels that the pair shows. `lost` are the twins that are lost at its end.
+pub record RunsOnPair {F L : Type 0} {g : Ghosts F} (status : Status) (closed : Bool) (disc : FileDisc F g) (first second : FileTapes F L g)
+    (lost : List (ℕ × Twin)) (old : Surroundings) (script out : Stream) : Type 0 where
+  -- disc and pair as the run left them, before their files were closed
+  pub left_disc : FileDisc F g
+  pub left_first : FileTapes F L g
+  pub left_second : FileTapes F L g
+  pub pair : Pair
+  pub is_first : pair.first ≡ rack_of left_first
+  pub is_second : pair.second ≡ rack_of left_second
+  pub lost_are : lost ≡ lost_of pair.first.reels pair.standings
+  pub runs : RunsByRules status old (record { script = script; out = out; devices = both (disc_state left_disc) (shown pair) })
+  pub closes : ClosesPair closed left_disc disc left_first first left_second second
+  pub safe : AreSafe old.devices.disc old.devices.rack
+      → AreSafe (disc_state disc) (shown (record pair { first = rack_of first; second = rack_of second }))

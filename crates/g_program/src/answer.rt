@@ -1,19 +1,21 @@
 //! What the program does by its words: a run on image and rack, or on image and two racks, or what needs none of them.
 ghost use Rattle.std.specs.Prelude.{◌≡◌, ◌<◌, ◌≤◌, ◌⊎◌, IfOk};
-ghost use Rattle.g_demo.specs.Words.{AskNothing, texts_of};
+ghost use Rattle.g_demo.specs.Words.{AskNothing, IsDemonstration, demo_words, texts_of};
+ghost use Rattle.g_demo.specs.declared.demonstration.Demonstration.{Demonstration};
 ghost use Rattle.g_files.specs.FileDisc.{disc_size};
 ghost use Rattle.g_run.specs.Input.{IsRun};
 ghost use Rattle.g_run.specs.Top.{IsOfRun, IsOfWords, code_of};
 ghost use Rattle.g_session.specs.Session.{IsOfSession};
-ghost use Rattle.g_program.specs.Exit.{IsCheck, IsConsole, IsExit, IsOfCheck};
+ghost use Rattle.g_program.specs.Exit.{IsCheck, IsConsole, IsExit, IsOfCheck, IsOfDemo, exit_without};
 
 use crate::advised::Advised;
-use crate::blank::tell_blank;
 use crate::checking::{check, check_words};
 use crate::console::{console, console_words};
 use crate::explain::tell_bad;
 use crate::noted::Noted;
 use crate::on_files::run_on;
+use crate::on_pairs::{EndedPair, run_on_pair};
+use crate::outlook::warn_of_restore;
 use crate::racks::open_racks;
 use crate::rules::run_by_rules;
 use crate::telling::{tell_lost, tell_missing, tell_rebuilt, tell_unusable, tell_usage};
@@ -30,7 +32,7 @@ use std::alloc::Global;
 use std::io::{self, ErrorKind};
 
 /// The exit status if the image or the rack can't be used.
-pub(crate) const NO_IMAGE: u8 = 7;
+const NO_IMAGE: u8 = 7;
 
 /// The disc's image, in the present folder.
 pub(crate) const IMAGE: &str = "george.disc";
@@ -50,6 +52,7 @@ pub(crate) fn answer(rt: &HostRuntime, words: &[&str]) -> u8
     ensures known { IsRun words.now → (result ≡ 7) ⊎ IsExit IsOfRun result }
     ensures console { IsConsole words.now → (result ≡ 7) ⊎ IsExit IsOfSession result }
     ensures check { IsCheck words.now → IsExit IsOfCheck result }
+    ensures demo { (demo : Demonstration) → IsDemonstration demo → texts_of words.now ≡ demo_words demo → IsExit IsOfDemo result }
 {
     match console_words(words) {
         Some(log) => console(rt, log),
@@ -62,6 +65,7 @@ fn check_or_run(rt: &HostRuntime, words: &[&str]) -> u8
     ensures unknown { (IsCheck words.now → ⊥) → AskNothing (texts_of words.now) → IsExit IsOfWords result }
     ensures known { IsRun words.now → (result ≡ 7) ⊎ IsExit IsOfRun result }
     ensures check { IsCheck words.now → IsExit IsOfCheck result }
+    ensures demo { (demo : Demonstration) → IsDemonstration demo → texts_of words.now ≡ demo_words demo → IsExit IsOfDemo result }
 {
     match check_words(words) {
         Some(()) => check(rt),
@@ -73,9 +77,10 @@ fn check_or_run(rt: &HostRuntime, words: &[&str]) -> u8
 fn run_or_demo(rt: &HostRuntime, words: &[&str]) -> u8
     ensures unknown { AskNothing (texts_of words.now) → IsExit IsOfWords result }
     ensures known { IsRun words.now → (result ≡ 7) ⊎ IsExit IsOfRun result }
+    ensures demo { (demo : Demonstration) → IsDemonstration demo → texts_of words.now ≡ demo_words demo → IsExit IsOfDemo result }
 {
     match asked_by(words) {
-        Some(Asked::Run) => on_files(rt, words),
+        Some(Asked::Run) => on_files(rt),
         Some(Asked::Demo(_demo)) => without_files(rt, words),
         None => unknown(rt, words),
     }
@@ -90,34 +95,55 @@ fn unknown(rt: &HostRuntime, words: &[&str]) -> u8
 }
 
 /// Runs on image and rack. The exit status is 7 if they can't be used, which standard error explains, and 5 if memory runs out before the run.
-fn on_files(rt: &HostRuntime, words: &[&str]) -> u8
-    ensures known { IsRun words.now → (result ≡ 7) ⊎ IsExit IsOfRun result }
+fn on_files(rt: &HostRuntime) -> u8
+    ensures known { (result ≡ 7) ⊎ IsExit IsOfRun result }
 {
-    match run_on_files(rt, words) {
+    match run_on_files(rt) {
         Ok(code) => code,
-        Err(fault) if fault.kind() == ErrorKind::OutOfMemory => Status::NoMemory.code(),
-        Err(fault) => {
-            tell_unusable(rt, &fault);
-            NO_IMAGE
-        }
+        Err(fault) => unusable(rt, &fault),
+    }
+}
+
+/// The exit status if image, racks or log can't be used. If memory didn't run out, standard error says why.
+pub(crate) fn unusable(rt: &HostRuntime, fault: &Unusable) -> u8
+    ensures run { (result ≡ 7) ⊎ IsExit IsOfRun result }
+    ensures session { (result ≡ 7) ⊎ IsExit IsOfSession result }
+{
+    let memory_ran_out = fault.kind() == ErrorKind::OutOfMemory;
+    if !memory_ran_out {
+        tell_unusable(rt, fault);
+    }
+    exit_without(memory_ran_out)
+}
+
+/// The exit status if image, racks or log can't be used, by whether memory ran out.
+pub(crate) fn exit_without(memory_ran_out: bool) -> u8
+    ensures exact { result ≡ exit_without memory_ran_out }
+    ensures run { (result ≡ 7) ⊎ IsExit IsOfRun result }
+    ensures session { (result ≡ 7) ⊎ IsExit IsOfSession result }
+{
+    if memory_ran_out {
+        Status::NoMemory.code()
+    } else {
+        NO_IMAGE
     }
 }
 
 /// Opens the image, and then the rack, exclusively for this run, and runs on them; it creates each if it is missing. If anything
 /// has the second rack's name, it opens that too, and both are one rack.
-fn run_on_files(rt: &HostRuntime, words: &[&str]) -> Result<u8, Unusable>
-    ensures known { IfOk result (λ code. IsRun words.now → IsExit IsOfRun code) }
+fn run_on_files(rt: &HostRuntime) -> Result<u8, Unusable>
+    ensures known { IfOk result (IsExit IsOfRun) }
 {
     tell_missing(rt);
     let mut disc = open_image(rt, IMAGE)?;
     if is_there(rt, SECOND_RACK)? {
-        let (pair, rebuilt) = open_racks(rt)?;
+        let (mut pair, rebuilt) = open_racks(rt)?;
         tell_rebuilt(rt, &rebuilt);
-        tell_blank(rt, &mut disc, &pair);
-        return Ok(closed_pair(rt, run(rt, words, disc, pair)));
+        warn_of_restore(rt, &mut disc, &mut pair);
+        return Ok(run_on_racks(rt, disc, pair));
     }
-    let tapes = open_rack(rt, RACK)?;
-    tell_blank(rt, &mut disc, &tapes);
+    let mut tapes = open_rack(rt, RACK)?;
+    warn_of_restore(rt, &mut disc, &mut tapes);
     Ok(run_on_rack(rt, disc, tapes))
 }
 
@@ -133,37 +159,31 @@ fn run_on_rack(rt: &HostRuntime, disc: FileDisc<HostFile>, tapes: HostTapes) -> 
     ended.status.code()
 }
 
-/// Syncs image and rack, and returns the exit status of the session.
-pub(crate) fn closed(finish: Finish<FileDisc<HostFile>, HostTapes>) -> u8
-    ensures { result ≡ code_of finish.status }
+/// Does the same on image and two racks, and reports which reels were lost in the run.
+fn run_on_racks(rt: &HostRuntime, disc: FileDisc<HostFile>, pair: Duplex<HostTapes>) -> u8
+    requires size { (2177 < disc_size disc) × (disc_size disc ≤ 1048576) }
+    ensures known { IsExit IsOfRun result }
 {
-    let mut disc = finish.disc;
-    let _saved = disc.finish();
-    let mut tapes = finish.tapes;
-    let _finished = tapes.finish();
-    finish.status.code()
+    let mut script = Noted::new(rt.alloc(), StdSource::new(HostInput::new(rt.reader())));
+    let mut out = Advised::new(rt, StdSink::new(HostOutput::new(io::writer(rt))));
+    let ended = run_on_pair(rt.alloc(), &mut script, &mut out, disc, pair);
+    tell_bad(rt, ended.status, script.text());
+    exit_of_pair(rt, &ended)
 }
 
-/// Syncs image and both racks, reports which reels were lost in the run, and returns its exit status.
-pub(crate) fn closed_pair(
-    rt: &HostRuntime,
-    finish: Finish<FileDisc<HostFile>, Duplex<HostTapes>>,
-) -> u8
-    ensures { result ≡ code_of finish.status }
+/// Reports which reels were lost in a run or a session on two racks, and returns its exit status.
+pub(crate) fn exit_of_pair<L: Drop>(rt: &HostRuntime, ended: &EndedPair<HostFile, L>) -> u8
+    ensures { result ≡ code_of ended.now.status }
 {
-    let mut disc = finish.disc;
-    let _saved = disc.finish();
-    tell_lost(rt, finish.tapes.lost());
-    let code = finish.status.code();
-    let (mut first, mut second) = finish.tapes.into_racks();
-    let _finished = first.finish();
-    let _finished_too = second.finish();
+    let code = ended.status.code();
+    tell_lost(rt, ended.lost.as_slice());
     code
 }
 
 /// Does what needs neither image nor rack, on devices in memory instead.
 fn without_files(rt: &HostRuntime, words: &[&str]) -> u8
     ensures unknown { AskNothing (texts_of words.now) → IsExit IsOfWords result }
+    ensures demo { (demo : Demonstration) → IsDemonstration demo → texts_of words.now ≡ demo_words demo → IsExit IsOfDemo result }
 {
     match spare_devices(rt.alloc()) {
         Ok((disc, tapes)) => {
@@ -188,6 +208,7 @@ fn run<D: Disc, T: Tapes>(rt: &HostRuntime, words: &[&str], disc: D, tapes: T) -
     requires size { (2177 < (D.state disc).size) × ((D.state disc).size ≤ 1048576) }
     ensures unknown { AskNothing (texts_of words.now) → IsOfWords result.status }
     ensures known { IsRun words.now → IsOfRun result.status }
+    ensures demo { (demo : Demonstration) → IsDemonstration demo → texts_of words.now ≡ demo_words demo → IsOfDemo result.status }
 {
     let mut script = Noted::new(rt.alloc(), StdSource::new(HostInput::new(rt.reader())));
     let mut out = Advised::new(rt, StdSink::new(HostOutput::new(io::writer(rt))));

@@ -1,22 +1,24 @@
 //! A session on image and rack: what is typed on standard input is answered on standard output, line by line.
 ghost use Rattle.std.specs.Prelude.{◌≡◌, ◌<◌, ◌≤◌, ◌⊎◌, None, IfErr, IfOk, MatchOption};
+ghost use Rattle.g_files.specs.FileDisc.{disc_size};
 ghost use Rattle.g_session.specs.Session.{IsOfSession};
 ghost use Rattle.g_program.specs.Exit.{IsConsole, IsExit};
 
-use crate::answer::{IMAGE, NO_IMAGE, RACK, SECOND_RACK, closed, closed_pair};
-use crate::blank::tell_blank;
+use crate::answer::{IMAGE, RACK, SECOND_RACK, exit_of_pair, exit_without, unusable};
 use crate::explained::Explained;
+use crate::on_files::session_on;
+use crate::on_pairs::session_on_pair;
+use crate::outlook::warn_of_restore;
 use crate::racks::open_racks;
-use crate::rules::session_by_rules;
-use crate::telling::{tell_missing, tell_no_log, tell_rebuilt, tell_unusable};
+use crate::telling::{tell_missing, tell_no_log, tell_rebuilt};
 use crate::unusable::Unusable;
 use g_base::WriteFailed;
-use g_devices::{HostOutput, StdConsole, are_terminals, is_there, open_image, open_rack};
-use g_disc::Disc;
-use g_files::StdSink;
+use g_devices::{
+    HostFile, HostOutput, HostTapes, StdConsole, are_terminals, is_there, open_image, open_rack,
+};
+use g_duplex::Duplex;
+use g_files::{FileDisc, StdSink};
 use g_io::Sink;
-use g_run::{Finish, Status};
-use g_tape::Tapes;
 use std::fs::File;
 use std::io::{self, ErrorKind};
 
@@ -55,11 +57,7 @@ pub(crate) fn console(rt: &HostRuntime, log: Option<&str>) -> u8
 {
     match on_files(rt, log) {
         Ok(code) => code,
-        Err(fault) if fault.kind() == ErrorKind::OutOfMemory => Status::NoMemory.code(),
-        Err(fault) => {
-            tell_unusable(rt, &fault);
-            NO_IMAGE
-        }
+        Err(fault) => unusable(rt, &fault),
     }
 }
 
@@ -70,18 +68,18 @@ fn on_files(rt: &HostRuntime, log: Option<&str>) -> Result<u8, Unusable>
     tell_missing(rt);
     let mut disc = open_image(rt, IMAGE)?;
     if is_there(rt, SECOND_RACK)? {
-        let (pair, rebuilt) = open_racks(rt)?;
+        let (mut pair, rebuilt) = open_racks(rt)?;
         tell_rebuilt(rt, &rebuilt);
-        tell_blank(rt, &mut disc, &pair);
+        warn_of_restore(rt, &mut disc, &mut pair);
         return Ok(match log_file(rt, log) {
-            Ok(log) => closed_pair(rt, session(rt, log, disc, pair)),
+            Ok(log) => session_on_racks(rt, log, disc, pair),
             Err(code) => code,
         });
     }
-    let tapes = open_rack(rt, RACK)?;
-    tell_blank(rt, &mut disc, &tapes);
+    let mut tapes = open_rack(rt, RACK)?;
+    warn_of_restore(rt, &mut disc, &mut tapes);
     Ok(match log_file(rt, log) {
-        Ok(log) => closed(session(rt, log, disc, tapes)),
+        Ok(log) => session_on_rack(rt, log, disc, tapes),
         Err(code) => code,
     })
 }
@@ -95,23 +93,29 @@ fn log_file(rt: &HostRuntime, log: Option<&str>) -> Result<Option<File>, u8>
     };
     match File::create_new(rt, name) {
         Ok(file) => Ok(Some(file)),
-        Err(fault) if fault.kind() == ErrorKind::OutOfMemory => Err(Status::NoMemory.code()),
-        Err(_) => {
-            tell_no_log(rt);
-            Err(NO_IMAGE)
-        }
+        Err(fault) => Err(without_log(rt, fault.kind() == ErrorKind::OutOfMemory)),
     }
 }
 
-/// A session on these devices.
-fn session<D: Disc, T: Tapes>(
+/// The exit status if the log can't be made. If memory didn't run out, standard error says so.
+fn without_log(rt: &HostRuntime, memory_ran_out: bool) -> u8
+    ensures { (result ≡ 7) ⊎ IsExit IsOfSession result }
+{
+    if !memory_ran_out {
+        tell_no_log(rt);
+    }
+    exit_without(memory_ran_out)
+}
+
+/// A session on image and rack, which closes them, and its exit status.
+fn session_on_rack(
     rt: &HostRuntime,
     log: Option<File>,
-    disc: D,
-    tapes: T,
-) -> Finish<D, T>
-    requires { (2177 < (D.state disc).size) × ((D.state disc).size ≤ 1048576) }
-    ensures { IsOfSession result.status }
+    disc: FileDisc<HostFile>,
+    tapes: HostTapes,
+) -> u8
+    requires size { (2177 < disc_size disc) × (disc_size disc ≤ 1048576) }
+    ensures { IsExit IsOfSession result }
 {
     let mut console = Explained::new(
         rt,
@@ -120,11 +124,41 @@ fn session<D: Disc, T: Tapes>(
     match log {
         None => {
             let mut log = NoLog {};
-            session_by_rules(rt.alloc(), &mut console, &mut log, disc, tapes)
+            let ended = session_on(rt.alloc(), &mut console, &mut log, disc, tapes);
+            ended.status.code()
         }
         Some(file) => {
             let mut log = StdSink::new(HostOutput::new(file));
-            session_by_rules(rt.alloc(), &mut console, &mut log, disc, tapes)
+            let ended = session_on(rt.alloc(), &mut console, &mut log, disc, tapes);
+            ended.status.code()
+        }
+    }
+}
+
+/// The same on image and two racks; it also reports which reels were lost.
+fn session_on_racks(
+    rt: &HostRuntime,
+    log: Option<File>,
+    disc: FileDisc<HostFile>,
+    pair: Duplex<HostTapes>,
+) -> u8
+    requires size { (2177 < disc_size disc) × (disc_size disc ≤ 1048576) }
+    ensures { IsExit IsOfSession result }
+{
+    let mut console = Explained::new(
+        rt,
+        StdConsole::new(rt.reader(), io::writer(rt), are_terminals(rt)),
+    );
+    match log {
+        None => {
+            let mut log = NoLog {};
+            let ended = session_on_pair(rt.alloc(), &mut console, &mut log, disc, pair);
+            exit_of_pair(rt, &ended)
+        }
+        Some(file) => {
+            let mut log = StdSink::new(HostOutput::new(file));
+            let ended = session_on_pair(rt.alloc(), &mut console, &mut log, disc, pair);
+            exit_of_pair(rt, &ended)
         }
     }
 }

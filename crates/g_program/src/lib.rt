@@ -4,13 +4,14 @@
 
 mod advised;
 mod answer;
-mod blank;
 mod checking;
 mod console;
 mod explain;
 mod explained;
 mod noted;
 mod on_files;
+mod on_pairs;
+mod outlook;
 mod racks;
 mod rules;
 mod telling;
@@ -19,7 +20,8 @@ mod unusable;
 use crate::answer::answer;
 use g_devices::{placeholders, texts_of, words_of};
 use g_run::Status;
-pub use on_files::{Ended, run_on};
+pub use on_files::{Ended, run_on, session_on};
+pub use on_pairs::{EndedPair, run_on_pair, session_on_pair};
 pub use rules::{run_by_rules, session_by_rules};
 use std::process::ExitCode;
 

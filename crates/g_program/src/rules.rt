@@ -21,7 +21,7 @@ ghost use Rattle.g_run.specs.Input.{IsRun};
 ghost use Rattle.g_run.specs.ScriptEnd.{both};
 ghost use Rattle.g_ticks.specs.Parts.{HaveNoProcess};
 ghost use Rattle.g_run.specs.Top as top;
-ghost use Rattle.g_session.specs.Session.{EndsAnew, EndsSession, IsOfSession, SessionCause};
+ghost use Rattle.g_session.specs.Session.{EndsAnew, EndsSession, IsOfSession, SessionCause, SessionSurvives};
 ghost use Rattle.g_program.specs.Rules.{answering, price, share_used};
 
 use g_console::Console;
@@ -175,6 +175,13 @@ pub fn session_by_rules<C: Console, L: Sink, D: Disc, T: Tapes>(
     ensures stands { BelongTogether (both (D.state disc) (T.rack tapes)) → HasFilestore (both (D.state disc) (T.rack tapes))
         → HasFilestore (both (D.state result.disc) (T.rack result.tapes)) }
     ensures safe { AreSafe (D.state disc) (T.rack tapes) → AreSafe (D.state result.disc) (T.rack result.tapes) }
+
+    // With every status, if the devices are safe, also for a session that was cut short: whatever a power loss leaves of them represents a state
+    // that may be left after the lines whose answers were printed, whole or in part.
+    ensures survives { AreSafe (D.state disc) (T.rack tapes) → C.transcript console.old ≡ Some blank → (t : Transcript) → C.transcript console.new ≡ Some t
+        → (s : State) → StandFor (both (D.state disc) (T.rack tapes)) s
+        → SessionSurvives (answering price) tt (answering share_used) tt s (both (D.state disc) (T.rack tapes)) (both (D.state result.disc) (T.rack result.tapes)) t
+        (L.written log.old) (L.written log.new) }
 {
     let tariff = Tariff::new(|used: &Usage| -> Charge { price_of(used) });
     let weigh = WeighRule::new(

@@ -16,6 +16,7 @@ use Rattle.g_run_model.specs.Devices.{Devices, StandFor}
 use Rattle.g_laws_runs.specs.BeginningAnew.{AreBlank, BeginAnew, NoDiscFault, is_first, with_new_disc}
 use Rattle.g_day.specs.declared.progress.Failure.{Failure}
 use Rattle.g_day.specs.BeginningAnew.{IsBlank, beside, beside_new}
+use Rattle.g_day.specs.Losses.{Never}
 use Rattle.g_day.specs.Parts.{Seen}
 use Rattle.g_day.specs.Puts.{HasGrown}
 use Rattle.g_day.specs.System.{Down, SameDevices, SystemFacts, Up, devices_in}
@@ -43,6 +44,7 @@ use Rattle.g_session.specs.declared.exchange.Course.{Course}
 use Rattle.g_session.specs.declared.exchange.Course.TheVariants as course
 use Rattle.g_session.proofs.AnswerLemmas.{last_asked, stands_ask}
 use Rattle.g_session.proofs.BrokenLemmas.{broken_short}
+use Rattle.g_session.proofs.ClaimLemmas.{part_claimed}
 use Rattle.g_session.proofs.EndLemmas.{down_run}
 use Rattle.g_session.proofs.EndingLemmas.{AfterLinesOf, AfterOpenOf, Any, RestsOf, any_lines, open_done, rest_at_end, rests_any}
 use Rattle.g_session.proofs.GrowLemmas.{Grows, grows_ask, grows_heard, grows_print, grows_then, log_grows, open_grows, reply_grows}
@@ -118,7 +120,7 @@ module _ {F U : Type 0} (tariffs : Shared F (Bor Usage × Unit {0}) Charge) (tar
   }
 
   pub elsewhere_here : (done : List Timed) (bad : Option ℕ) (seen : Seen) (g : SystemFacts) (r r' : ItemReader) (number : ℕ) (line : List ℕ) (before after : Option Transcript) (log log' : Option (List ℕ)) (next : Timed) (timed : Bool)
-      → NoneYet old done seen → (st : Stands tariffs tariff rules rule s (with_new_disc old) done bad (beside seen) r number (line ∷ []) from before log0 log)
+      → NoneYet old done seen → (st : Stands tariffs tariff rules rule s false (with_new_disc old) done bad (beside seen) r number (line ∷ []) from before log0 log)
       → IsComplete seen.count (st.pending ++ line ∷ []) next timed r' → is_first next.what ≡ false
       → Grows before after → HasGrown log log' → SameDevices (devices_in seen.system) (devices_in g) → Elsewhere tariffs tariff rules rule s old g from after log0 log'
   elsewhere_here done bad seen g r r' number line before after log log' next timed n st whole isnt grows grown same = record {
@@ -146,30 +148,30 @@ module _ {F U : Type 0} (tariffs : Shared F (Bor Usage × Unit {0}) Charge) (tar
   }
 
   module _ (done : List Timed) (bad : Option ℕ) (seen new : Seen) (r r' : ItemReader) (number : ℕ) (line : List ℕ) (before after : Option Transcript) (log log' : Option (List ℕ))
-      (n : NoneYet old done seen) (st : Stands tariffs tariff rules rule s (with_new_disc old) done bad (beside seen) r number (line ∷ []) from before log0 log)
+      (n : NoneYet old done seen) (st : Stands tariffs tariff rules rule s false (with_new_disc old) done bad (beside seen) r number (line ∷ []) from before log0 log)
       (grows : Grows before after) (grown : HasGrown log log') (same : SameDevices (devices_in seen.system) (devices_in new.system)) where
     -- none took effect
     aside : (answer : Reply) (failure : Option Failure) → (failure ≡ None → NoneYet old (done_after answer done) new) → IsBlank new.system
         → Replies r.place number seen.count st.pending line (Ok answer) r' → HasLog answer r'.text log log'
-        → ReplyGoes tariffs tariff rules rule answer number (beside seen) failure (beside new) (option_map written_of before) (option_map written_of after)
+        → ReplyGoes tariffs tariff rules rule Never answer number (beside seen) failure (beside new) (option_map written_of before) (option_map written_of after)
         → AfterExchangeAnew tariffs tariff rules rule s old from log0 (course_after failure) (bad_after answer number bad) new r' number after log'
     aside answer None still blank_new replies logged goes = inl (
       done_after answer done,
       still refl,
-      replied_on tariffs tariff rules rule s (with_new_disc old) from log0 done bad (beside seen) (beside new) r r' number line before after log log' st answer None replies logged goes,
+      replied_on tariffs tariff rules rule s false (with_new_disc old) from log0 done bad (beside seen) (beside new) r r' number line before after log log' st answer None replies logged goes,
     )
     aside answer (Some failure) still blank_new replies logged goes = inl (
       blank_new,
-      replied_on tariffs tariff rules rule s (with_new_disc old) from log0 done bad (beside seen) (beside new) r r' number line before after log log' st answer (Some failure) replies logged goes,
+      replied_on tariffs tariff rules rule s false (with_new_disc old) from log0 done bad (beside seen) (beside new) r r' number line before after log log' st answer (Some failure) replies logged goes,
     )
 
     -- one does
     took : (answer : Reply) (failure : Option Failure) → Replies r.place number seen.count st.pending line (Ok answer) r' → HasLog answer r'.text log log'
-        → ReplyGoes tariffs tariff rules rule answer number (beside seen) failure new (option_map written_of before) (option_map written_of after)
+        → ReplyGoes tariffs tariff rules rule Never answer number (beside seen) failure new (option_map written_of before) (option_map written_of after)
         → AfterExchangeAnew tariffs tariff rules rule s old from log0 (course_after failure) (bad_after answer number bad) new r' number after log'
     took answer failure replies logged goes =
-        inr (inl (after_reply tariffs tariff rules rule s (with_new_disc old) from log0 done bad (beside seen) new r r' number line before after log log' st answer failure
-        (replied_on tariffs tariff rules rule s (with_new_disc old) from log0 done bad (beside seen) new r r' number line before after log log' st answer failure replies logged goes)))
+        inr (inl (after_reply tariffs tariff rules rule s false (with_new_disc old) from log0 done bad (beside seen) new r r' number line before after log log' st answer failure
+        (replied_on tariffs tariff rules rule s false (with_new_disc old) from log0 done bad (beside seen) new r r' number line before after log log' st answer failure replies logged goes)))
 
     -- THE REPLY
     pub replied_aside : (answer : Reply) (failure : Option Failure) (faults faults' : ℕ) → Replies r.place number seen.count st.pending line (Ok answer) r' → HasLog answer r'.text log log'
@@ -181,10 +183,10 @@ module _ {F U : Type 0} (tariffs : Shared F (Bor Usage × Unit {0}) Charge) (tar
         by false isnt = inr (inr (elsewhere_here done bad seen new.system r r' number line before after log log' next timed n st replies.1 isnt grows grown same))
         by true is = first (did.first is n.blank)
           where
-            first : BeginsBy (λ v. TakesItem tariffs tariff rules rule timed next (beside seen) failure v (option_map written_of before) (option_map written_of after)) (next ∷ []) seen failure new
+            first : BeginsBy (λ v. TakesItem tariffs tariff rules rule Never timed next (beside seen) failure v (option_map written_of before) (option_map written_of after)) (next ∷ []) seen failure new
                 → AfterExchangeAnew tariffs tariff rules rule s old from log0 (course_after failure) bad new r' number after log'
-            first (inl u) = aside (reply.Item next timed) failure (λ none. none_more (λ v. TakesItem tariffs tariff rules rule timed next (beside seen) failure v (option_map written_of before) (option_map written_of after)) old done next seen new n is
-                (subst (λ (f : Option Failure). NoneTook (λ v. TakesItem tariffs tariff rules rule timed next (beside seen) failure v (option_map written_of before) (option_map written_of after)) (next ∷ []) seen f new) none u) same) u.blank replies logged u.goes
+            first (inl u) = aside (reply.Item next timed) failure (λ none. none_more (λ v. TakesItem tariffs tariff rules rule Never timed next (beside seen) failure v (option_map written_of before) (option_map written_of after)) old done next seen new n is
+                (subst (λ (f : Option Failure). NoneTook (λ v. TakesItem tariffs tariff rules rule Never timed next (beside seen) failure v (option_map written_of before) (option_map written_of after)) (next ∷ []) seen f new) none u) same) u.blank replies logged u.goes
             first (inr goes) = took (reply.Item next timed) failure replies logged goes
     replied_aside reply.Rest failure faults faults' replies logged did =
         let (blank_new, goes) = did.aside n.blank in aside reply.Rest failure (λ none. none_same old done seen new n blank_new same) blank_new replies logged goes
@@ -207,7 +209,7 @@ module _ {F U : Type 0} (tariffs : Shared F (Bor Usage × Unit {0}) Charge) (tar
       → ((lines : List (List ℕ)) → Holds seen.count lines r → Replies r.place number seen.count lines line (Ok answer) r') → LogsReply answer r'.text None log log' log_faults log_faults'
       → DidReply tariffs tariff rules rule answer number seen failure new put put' faults faults' → SameDevices (devices_in seen.system) (devices_in new.system)
       → c ≡ course_after failure → bad' ≡ bad_after answer number bad → r2 ≡ r'
-      → ((done : List Timed) → Stands tariffs tariff rules rule s (with_new_disc old) done bad seen r number [] from start log0 log → AfterExchange tariffs tariff rules rule s (with_new_disc old) from log0 c bad' new r2 number after log')
+      → ((done : List Timed) → Stands tariffs tariff rules rule s false (with_new_disc old) done bad seen r number [] from start log0 log → AfterExchange tariffs tariff rules rule s false (with_new_disc old) from log0 c bad' new r2 number after log')
       → StandsAnew tariffs tariff rules rule s old bad seen r number from start log0 log → AfterExchangeAnew tariffs tariff rules rule s old from log0 c bad' new r2 number after log'
   reply_anew c bad bad' seen new r r' r2 number line start before after log log' put put' answer failure faults faults' log_faults log_faults' is is' continues replies logs did same c_is bad_is r_is on =
       by
@@ -226,7 +228,7 @@ module _ {F U : Type 0} (tariffs : Shared F (Bor Usage × Unit {0}) Charge) (tar
       by (inr (inl (done, st))) = inr (inl (on done st))
       by (inr (inr e)) = inr (inr (elsewhere_on seen.system new.system start after log log' e (grows_then start before after (grows_ask tariffs tariff rules rule s start (Line line) before continues) printed) logged same))
       by (inl (done, n, st)) =
-          let st1 = stands_ask tariffs tariff rules rule s end_follows (with_new_disc old) done bad (beside seen) r number (Line line) from start before log0 log st continues in
+          let st1 = stands_ask tariffs tariff rules rule s end_follows false (with_new_disc old) done bad (beside seen) r number (Line line) from start before log0 log st continues in
           subst (λ (k : Course). AfterExchangeAnew tariffs tariff rules rule s old from log0 k bad' new r2 number after log') (sym c_is)
           (subst (λ (b : Option ℕ). AfterExchangeAnew tariffs tariff rules rule s old from log0 (course_after failure) b new r2 number after log') (sym bad_is)
           (subst (λ (x : ItemReader). AfterExchangeAnew tariffs tariff rules rule s old from log0 (course_after failure) (bad_after answer number bad) new x number after log') (sym r_is)
@@ -236,25 +238,25 @@ module _ {F U : Type 0} (tariffs : Shared F (Bor Usage × Unit {0}) Charge) (tar
   -- the log failed
   pub unlogged_anew : (bad : Option ℕ) (seen : Seen) (r r' : ItemReader) (number : ℕ) (line : List ℕ) (start before : Option Transcript) (log log' : Option (List ℕ)) (answer : Reply) (failure : Failure) (log_faults log_faults' : ℕ)
       → Continues start (Line line) before → ((lines : List (List ℕ)) → Holds seen.count lines r → Replies r.place number seen.count lines line (Ok answer) r') → LogsReply answer r'.text (Some failure) log log' log_faults log_faults'
-      → ((done : List Timed) → Stands tariffs tariff rules rule s (with_new_disc old) done bad seen r number [] from start log0 log
-      → AfterExchange tariffs tariff rules rule s (with_new_disc old) from log0 (course.Breaks failure) bad seen r' number before log')
+      → ((done : List Timed) → Stands tariffs tariff rules rule s false (with_new_disc old) done bad seen r number [] from start log0 log
+      → AfterExchange tariffs tariff rules rule s false (with_new_disc old) from log0 (course.Breaks failure) bad seen r' number before log')
       → StandsAnew tariffs tariff rules rule s old bad seen r number from start log0 log → AfterExchangeAnew tariffs tariff rules rule s old from log0 (course.Breaks failure) bad seen r' number before log'
   unlogged_anew bad seen r r' number line start before log log' answer failure log_faults log_faults' continues replies logs on (inr (inl (done, st))) = inr (inl (on done st))
   unlogged_anew bad seen r r' number line start before log log' answer failure log_faults log_faults' continues replies logs on (inr (inr e)) =
       inr (inr (elsewhere_on seen.system seen.system start before log log' e (grows_ask tariffs tariff rules rule s start (Line line) before continues)
       (log_grows answer r'.text (Some failure) log log' log_faults log_faults' logs) (same_itself (devices_in seen.system))))
   unlogged_anew bad seen r r' number line start before log log' answer failure log_faults log_faults' continues replies logs on (inl (done, n, st)) =
-      let st1 = stands_ask tariffs tariff rules rule s end_follows (with_new_disc old) done bad (beside seen) r number (Line line) from start before log0 log st continues in
+      let st1 = stands_ask tariffs tariff rules rule s end_follows false (with_new_disc old) done bad (beside seen) r number (Line line) from start before log0 log st continues in
       inl (
         n.blank,
-        unlogged_by tariffs tariff rules rule s (with_new_disc old) from log0 done bad (beside seen) (beside seen) r r' number line before before log log' st1 answer failure log_faults log_faults' refl
+        unlogged_by tariffs tariff rules rule s false (with_new_disc old) from log0 done bad (beside seen) (beside seen) r r' number line before before log log' st1 answer failure log_faults log_faults' refl
             (replies st1.pending st1.holds) logs,
       )
 
   -- no more lines came
   pub ends_anew : (bad : Option ℕ) (seen : Seen) (r r' : ItemReader) (number : ℕ) (start after : Option Transcript) (log : Option (List ℕ)) → Continues start End after → r' ≡ r
-      → ((done : List Timed) → Stands tariffs tariff rules rule s (with_new_disc old) done bad seen r number [] from start log0 log
-      → AfterExchange tariffs tariff rules rule s (with_new_disc old) from log0 course.Ends bad seen r' number after log)
+      → ((done : List Timed) → Stands tariffs tariff rules rule s false (with_new_disc old) done bad seen r number [] from start log0 log
+      → AfterExchange tariffs tariff rules rule s false (with_new_disc old) from log0 course.Ends bad seen r' number after log)
       → StandsAnew tariffs tariff rules rule s old bad seen r number from start log0 log → AfterExchangeAnew tariffs tariff rules rule s old from log0 course.Ends bad seen r' number after log
   ends_anew bad seen r r' number start after log continues same on (inr (inl (done, st))) = inr (inl (on done st))
   ends_anew bad seen r r' number start after log continues same on (inr (inr e)) =
@@ -264,15 +266,15 @@ module _ {F U : Type 0} (tariffs : Shared F (Bor Usage × Unit {0}) Charge) (tar
     (
       done,
       n,
-      subst (λ (x : ItemReader). Stands tariffs tariff rules rule s (with_new_disc old) done bad (beside seen) x number [] from after log0 log) (sym same)
-          (stands_ask tariffs tariff rules rule s end_follows (with_new_disc old) done bad (beside seen) r number End from start after log0 log st continues),
+      subst (λ (x : ItemReader). Stands tariffs tariff rules rule s false (with_new_disc old) done bad (beside seen) x number [] from after log0 log) (sym same)
+          (stands_ask tariffs tariff rules rule s end_follows false (with_new_disc old) done bad (beside seen) r number End from start after log0 log st continues),
     ),
   )
 
   -- the request failed
   pub fails_anew : (bad : Option ℕ) (seen : Seen) (r r' : ItemReader) (number : ℕ) (start after : Option Transcript) (log : Option (List ℕ)) → Continues start Failed after → r' ≡ r
-      → ((done : List Timed) → Stands tariffs tariff rules rule s (with_new_disc old) done bad seen r number [] from start log0 log
-      → AfterExchange tariffs tariff rules rule s (with_new_disc old) from log0 course.Fails bad seen r' number after log)
+      → ((done : List Timed) → Stands tariffs tariff rules rule s false (with_new_disc old) done bad seen r number [] from start log0 log
+      → AfterExchange tariffs tariff rules rule s false (with_new_disc old) from log0 course.Fails bad seen r' number after log)
       → StandsAnew tariffs tariff rules rule s old bad seen r number from start log0 log → AfterExchangeAnew tariffs tariff rules rule s old from log0 course.Fails bad seen r' number after log
   fails_anew bad seen r r' number start after log continues same on (inr (inl (done, st))) = inr (inl (on done st))
   fails_anew bad seen r r' number start after log continues same on (inr (inr e)) =
@@ -282,21 +284,21 @@ module _ {F U : Type 0} (tariffs : Shared F (Bor Usage × Unit {0}) Charge) (tar
     (
       done,
       n,
-      subst (λ (x : ItemReader). Stands tariffs tariff rules rule s (with_new_disc old) done bad (beside seen) x number [] from after log0 log) (sym same)
-          (stands_ask tariffs tariff rules rule s end_follows (with_new_disc old) done bad (beside seen) r number Failed from start after log0 log st continues),
+      subst (λ (x : ItemReader). Stands tariffs tariff rules rule s false (with_new_disc old) done bad (beside seen) x number [] from after log0 log) (sym same)
+          (stands_ask tariffs tariff rules rule s end_follows false (with_new_disc old) done bad (beside seen) r number Failed from start after log0 log st continues),
     ),
   )
 
   -- memory ran out before a reply
   pub unheard_anew : (bad : Option ℕ) (seen : Seen) (r r' : ItemReader) (number : ℕ) (start after : Option Transcript) (log : Option (List ℕ)) (failure : Failure) → (after ≡ start) ⊎ ((line : List ℕ) × Continues start (Line line) after)
-      → ((done : List Timed) → Stands tariffs tariff rules rule s (with_new_disc old) done bad seen r number [] from start log0 log
-      → AfterExchange tariffs tariff rules rule s (with_new_disc old) from log0 (course.Breaks failure) bad seen r' number after log)
+      → ((done : List Timed) → Stands tariffs tariff rules rule s false (with_new_disc old) done bad seen r number [] from start log0 log
+      → AfterExchange tariffs tariff rules rule s false (with_new_disc old) from log0 (course.Breaks failure) bad seen r' number after log)
       → StandsAnew tariffs tariff rules rule s old bad seen r number from start log0 log → AfterExchangeAnew tariffs tariff rules rule s old from log0 (course.Breaks failure) bad seen r' number after log
   unheard_anew bad seen r r' number start after log failure heard on (inr (inl (done, st))) = inr (inl (on done st))
   unheard_anew bad seen r r' number start after log failure heard on (inr (inr e)) =
       inr (inr (elsewhere_on seen.system seen.system start after log log e (grows_heard tariffs tariff rules rule s start after heard) (same_grown log log refl) (same_itself (devices_in seen.system))))
   unheard_anew bad seen r r' number start after log failure heard on (inl (done, n, st)) =
-      inl (n.blank, unheard tariffs tariff rules rule s (with_new_disc old) from log0 done bad (beside seen) r number start after log st heard)
+      inl (n.blank, unheard tariffs tariff rules rule s false (with_new_disc old) from log0 done bad (beside seen) r number start after log st heard)
 
   -- THE NEXT LINE is requested
   pub goes_on_anew : (bad : Option ℕ) (seen : Seen) (r : ItemReader) (number : ℕ) (transcript : Option Transcript) (log : Option (List ℕ))
@@ -319,15 +321,15 @@ module _ {F U : Type 0} (tariffs : Shared F (Bor Usage × Unit {0}) Charge) (tar
       → AfterExchangeAnew tariffs tariff rules rule s old from log0 c bad seen r number transcript log → AfterLinesAnew tariffs tariff rules rule s old from log0 c bad seen r number' transcript log
   stop_anew c bad seen r number number' transcript log stops same (inl a) = inl (stop_aside c bad seen r number number' transcript log stops same a)
   stop_anew c bad seen r number number' transcript log stops same (inr (inl after)) =
-      inr (inl (lines_stop tariffs tariff rules rule s (with_new_disc old) from log0 c bad seen r number number' transcript log stops same after))
+      inr (inl (lines_stop tariffs tariff rules rule s false (with_new_disc old) from log0 c bad seen r number number' transcript log stops same after))
   stop_anew c bad seen r number number' transcript log stops same (inr (inr e)) = inr (inr e)
 
   -- memory ran out
   pub short_anew : (bad : Option ℕ) (seen : Seen) (r : ItemReader) (number : ℕ) (transcript : Option Transcript) (log : Option (List ℕ)) → StandsAnew tariffs tariff rules rule s old bad seen r number from transcript log0 log
       → (failure : Failure) → AfterLinesAnew tariffs tariff rules rule s old from log0 (course.Breaks failure) bad seen r number transcript log
   short_anew bad seen r number transcript log (inl (done, n, st)) failure =
-      inl (n.blank, broken_short tariffs tariff rules rule s (with_new_disc old) done bad (beside seen) r number [] from transcript log0 log st)
-  short_anew bad seen r number transcript log (inr (inl (done, st))) failure = inr (inl (broken_short tariffs tariff rules rule s (with_new_disc old) done bad seen r number [] from transcript log0 log st))
+      inl (n.blank, broken_short tariffs tariff rules rule s false (with_new_disc old) done bad (beside seen) r number [] from transcript log0 log st)
+  short_anew bad seen r number transcript log (inr (inl (done, st))) failure = inr (inl (broken_short tariffs tariff rules rule s false (with_new_disc old) done bad seen r number [] from transcript log0 log st))
   short_anew bad seen r number transcript log (inr (inr e)) failure = inr (inr e)
 
 -- BEFORE THE FIRST LINE
@@ -336,7 +338,7 @@ module _ {F U : Type 0} (tariffs : Shared F (Bor Usage × Unit {0}) Charge) (tar
       → bad ≡ None → day ≡ first_seen old → r.place ≡ place.Start → number ≡ 1 → StandsAnew tariffs tariff rules rule s old bad day r number transcript transcript log log
   anew_start s old transcript log bad day r number stand blank bad_none day_is at one =
       subst (λ (d : Seen). StandsAnew tariffs tariff rules rule s old bad d r number transcript transcript log log) (sym day_is)
-      (inl ([], none_first old blank, stands_start tariffs tariff rules rule s (with_new_disc old) transcript log bad (first_seen (with_new_disc old)) r number stand bad_none refl at one))
+      (inl ([], none_first old blank, stands_start tariffs tariff rules rule s false (with_new_disc old) transcript log bad (first_seen (with_new_disc old)) r number stand bad_none refl at one))
 
   -- AT THE END an open document is refused
   module _ (s : State) (old : Devices) (from : Option Transcript) (log0 : Option (List ℕ)) where
@@ -344,14 +346,14 @@ module _ {F U : Type 0} (tariffs : Shared F (Bor Usage × Unit {0}) Charge) (tar
     NoneTaken seen done = NoneYet old done seen
 
     aside_lines : (c : Course) (bad : Option ℕ) (seen : Seen) (r : ItemReader) (number : ℕ) (transcript : Option Transcript) (log : Option (List ℕ)) → AfterLinesAside tariffs tariff rules rule s old from log0 c bad seen r number transcript log
-        → IsBlank seen.system × AfterLinesOf tariffs tariff rules rule s (with_new_disc old) from log0 (NoneTaken seen) c bad (beside seen) r number transcript log
+        → IsBlank seen.system × AfterLinesOf tariffs tariff rules rule s false (with_new_disc old) from log0 (NoneTaken seen) c bad (beside seen) r number transcript log
     aside_lines (course.Breaks failure) bad seen r number transcript log b = b
     aside_lines course.Goes bad seen r number transcript log (never, st) = absurd never
     aside_lines course.Ends bad seen r number transcript log (ended, (done, n, st)) = (n.blank, (ended, (done, n, st)))
     aside_lines course.Fails bad seen r number transcript log (ended, (done, n, st)) = (n.blank, (ended, (done, n, st)))
 
     aside_rests : (c : Course) (bad : Option ℕ) (seen new : Seen) (transcript : Option Transcript) (log : Option (List ℕ)) → IsBlank new.system → SameDevices (devices_in seen.system) (devices_in new.system)
-        → RestsOf tariffs tariff rules rule s (with_new_disc old) from log0 (NoneTaken seen) c bad (beside new) transcript log → RestsAside tariffs tariff rules rule s old from log0 c bad new transcript log
+        → RestsOf tariffs tariff rules rule s false (with_new_disc old) from log0 (NoneTaken seen) c bad (beside new) transcript log → RestsAside tariffs tariff rules rule s old from log0 c bad new transcript log
     aside_rests (course.Breaks failure) bad seen new transcript log blank same b = (blank, b)
     aside_rests course.Goes bad seen new transcript log blank same (never, end) = absurd never
     aside_rests course.Ends bad seen new transcript log blank same (ended, (end, n)) = (ended, (end, none_same old end.done seen new n blank same))
@@ -359,9 +361,9 @@ module _ {F U : Type 0} (tariffs : Shared F (Bor Usage × Unit {0}) Charge) (tar
 
     module _ (c : Course) (bad : Option ℕ) (seen : Seen) (r : ItemReader) (number : ℕ) (before middle : Option Transcript) (log put put' : Option (List ℕ)) (is : put ≡ option_map written_of before) (is' : put' ≡ option_map written_of middle)
         (course' : Course) (bad' : Option ℕ) (faults faults' : ℕ) (did : DidOpen c r.place bad course' bad' put put' faults faults') where
-      opened : (P : List Timed → Type 0) (view : Seen) → AfterLinesOf tariffs tariff rules rule s (with_new_disc old) from log0 P c bad view r number before log
-          → AfterOpenOf tariffs tariff rules rule s (with_new_disc old) from log0 P course' bad' view middle log
-      opened P view after = open_done tariffs tariff rules rule s (with_new_disc old) from log0 P view before middle log put put' is is' bad course' bad' faults faults' c r.place r number refl after did
+      opened : (P : List Timed → Type 0) (view : Seen) → AfterLinesOf tariffs tariff rules rule s false (with_new_disc old) from log0 P c bad view r number before log
+          → AfterOpenOf tariffs tariff rules rule s false (with_new_disc old) from log0 P course' bad' view middle log
+      opened P view after = open_done tariffs tariff rules rule s false (with_new_disc old) from log0 P view before middle log put put' is is' bad course' bad' faults faults' c r.place r number refl after did
 
       open_further : (g : SystemFacts) → Elsewhere tariffs tariff rules rule s old seen.system from before log0 log → SameDevices (devices_in seen.system) (devices_in g) → Elsewhere tariffs tariff rules rule s old g from middle log0 log
       open_further g e same =
@@ -375,11 +377,11 @@ module _ {F U : Type 0} (tariffs : Shared F (Bor Usage × Unit {0}) Charge) (tar
       open_broken failure broke (inl a) =
           let (blank, after) = aside_lines c bad seen r number before log a in
           inl (aside_rests course' bad' seen seen middle log blank (same_itself (devices_in seen.system))
-          (rests_broken tariffs tariff rules rule (NoneTaken seen) s (with_new_disc old) from log0 course' failure bad' (beside seen) middle log broke (opened (NoneTaken seen) (beside seen) after)))
+          (rests_broken tariffs tariff rules rule (NoneTaken seen) s false (with_new_disc old) from log0 course' failure bad' (beside seen) middle log broke (opened (NoneTaken seen) (beside seen) after)))
       open_broken failure broke (inr (inl after)) =
-          inr (inl (rests_any tariffs tariff rules rule s (with_new_disc old) from log0 course' bad' seen middle log
-          (rests_broken tariffs tariff rules rule Any s (with_new_disc old) from log0 course' failure bad' seen middle log broke
-          (opened Any seen (any_lines tariffs tariff rules rule s (with_new_disc old) from log0 c bad seen r number before log after)))))
+          inr (inl (rests_any tariffs tariff rules rule s false (with_new_disc old) from log0 course' bad' seen middle log
+          (rests_broken tariffs tariff rules rule Any s false (with_new_disc old) from log0 course' failure bad' seen middle log broke
+          (opened Any seen (any_lines tariffs tariff rules rule s false (with_new_disc old) from log0 c bad seen r number before log after)))))
       open_broken failure broke (inr (inr e)) = inr (inr (open_further seen.system e (same_itself (devices_in seen.system))))
 
       -- and the system runs
@@ -390,11 +392,12 @@ module _ {F U : Type 0} (tariffs : Shared F (Bor Usage × Unit {0}) Charge) (tar
           let (blank, lines) = aside_lines c bad seen r number before log a in
           let (blank_new, goes) = rest.aside blank in
           inl (aside_rests (course_at_end course' failure) bad' seen new after log blank_new rest.keeps.same
-          (rest_at_end tariffs tariff rules rule s (with_new_disc old) from log0 (NoneTaken seen) bad' (beside seen) (beside new) middle after log course' failure put1 put2 is1 is2 whole (opened (NoneTaken seen) (beside seen) lines) goes))
+          (rest_at_end tariffs tariff rules rule s false (with_new_disc old) from log0 (NoneTaken seen) bad' (beside seen) (beside new) middle after log course' failure put1 put2 is1 is2 whole (opened (NoneTaken seen) (beside seen) lines) goes))
       open_rests new after failure put1 put2 faults1 faults2 is1 is2 whole rest (inr (inl lines)) =
-          inr (inl (rests_any tariffs tariff rules rule s (with_new_disc old) from log0 (course_at_end course' failure) bad' new after log
-          (rest_at_end tariffs tariff rules rule s (with_new_disc old) from log0 Any bad' seen new middle after log course' failure put1 put2 is1 is2 whole
-          (opened Any seen (any_lines tariffs tariff rules rule s (with_new_disc old) from log0 c bad seen r number before log lines)) rest.goes)))
+          inr (inl (rests_any tariffs tariff rules rule s false (with_new_disc old) from log0 (course_at_end course' failure) bad' new after log
+          (rest_at_end tariffs tariff rules rule s false (with_new_disc old) from log0 Any bad' seen new middle after log course' failure put1 put2 is1 is2 whole
+          (opened Any seen (any_lines tariffs tariff rules rule s false (with_new_disc old) from log0 c bad seen r number before log lines))
+          (part_claimed tariffs tariff rules rule false [] seen failure new put1 put2 rest.goes))))
       open_rests new after failure put1 put2 faults1 faults2 is1 is2 whole rest (inr (inr e)) =
           inr (inr (elsewhere_on tariffs tariff rules rule s old from log0 new.system new.system middle after log log (open_further new.system e rest.keeps.same)
           (grows_print middle after (subst (λ (x : Option (List ℕ)). HasGrown x (option_map written_of after)) is1 (subst (λ (x : Option (List ℕ)). HasGrown put1 x) is2 rest.grows)))

@@ -111,9 +111,9 @@ module _ {F U : Type 0} (tariffs : Shared F (Bor Usage × Unit {0}) Charge) (tar
 
   -- BETWEEN TWO LINES all lines that were replied to are answered
   pub stands_answered : ((count : ℕ) (lines : List (List ℕ)) (timed : Bool) (text : List ℕ) → IsInDocument count lines timed text → CanFollow count lines (codes "****"))
-      → (old : Devices) (done : List Timed) (bad : Option ℕ) (seen : Seen) (r : ItemReader) (number : ℕ) (from : Option Transcript) (t : Transcript) (log0 log : Option (List ℕ)) → from ≡ Some blank
-      → Stands tariffs tariff rules rule s old done bad seen r number [] from (Some t) log0 log → IsAnswered tariffs tariff rules rule s (lines_typed t.requests) t.text
-  stands_answered follows old done bad seen r number from t log0 log new st = record {
+      → (real : Bool) (old : Devices) (done : List Timed) (bad : Option ℕ) (seen : Seen) (r : ItemReader) (number : ℕ) (from : Option Transcript) (t : Transcript) (log0 log : Option (List ℕ)) → from ≡ Some blank
+      → Stands tariffs tariff rules rule s real old done bad seen r number [] from (Some t) log0 log → IsAnswered tariffs tariff rules rule s (lines_typed t.requests) t.text
+  stands_answered follows real old done bad seen r number from t log0 log new st = record {
     said = st.so_far.said;
     now = st.so_far.now;
     comes = st.so_far.comes;
@@ -153,10 +153,10 @@ module _ {F U : Type 0} (tariffs : Shared F (Bor Usage × Unit {0}) Charge) (tar
 
   -- a request was made, and its outcome came
   pub stands_ask : ((count : ℕ) (lines : List (List ℕ)) (timed : Bool) (text : List ℕ) → IsInDocument count lines timed text → CanFollow count lines (codes "****"))
-      → (old : Devices) (done : List Timed) (bad : Option ℕ) (seen : Seen) (r : ItemReader) (number : ℕ) (typed : Typed) (from before after : Option Transcript) (log0 log : Option (List ℕ))
-      → Stands tariffs tariff rules rule s old done bad seen r number [] from before log0 log → Continues before typed after
-      → Stands tariffs tariff rules rule s old done bad seen r number (line_in typed) from after log0 log
-  stands_ask follows old done bad seen r number typed from before after log0 log st continues = record {
+      → (real : Bool) (old : Devices) (done : List Timed) (bad : Option ℕ) (seen : Seen) (r : ItemReader) (number : ℕ) (typed : Typed) (from before after : Option Transcript) (log0 log : Option (List ℕ))
+      → Stands tariffs tariff rules rule s real old done bad seen r number [] from before log0 log → Continues before typed after
+      → Stands tariffs tariff rules rule s real old done bad seen r number (line_in typed) from after log0 log
+  stands_ask follows real old done bad seen r number typed from before after log0 log st continues = record {
     so_far = st.so_far;
     going = st.going;
     pending = st.pending;
@@ -176,10 +176,10 @@ module _ {F U : Type 0} (tariffs : Shared F (Bor Usage × Unit {0}) Charge) (tar
     answers = λ new t is.
         let a = asked_by before typed after t continues is in
         subst (λ (x : Transcript). AlwaysAnswers tariffs tariff rules rule s x) (sym a.only)
-        (answers_ask a.was typed (st.answers new a.was a.is) (stands_answered follows old done bad seen r number from a.was log0 log new (standing a.was a.is)));
+        (answers_ask a.was typed (st.answers new a.was a.is) (stands_answered follows real old done bad seen r number from a.was log0 log new (standing a.was a.is)));
     printed = λ new t is.
         let a = asked_by before typed after t continues is in subst (λ (x : Transcript). ArePrinted x) (sym a.only) (printed_ask a.was typed (st.printed new a.was a.is));
   }
     where
-      standing : (was : Transcript) → before ≡ Some was → Stands tariffs tariff rules rule s old done bad seen r number [] from (Some was) log0 log
-      standing was is = subst (λ (x : Option Transcript). Stands tariffs tariff rules rule s old done bad seen r number [] from x log0 log) is st
+      standing : (was : Transcript) → before ≡ Some was → Stands tariffs tariff rules rule s real old done bad seen r number [] from (Some was) log0 log
+      standing was is = subst (λ (x : Option Transcript). Stands tariffs tariff rules rule s real old done bad seen r number [] from x log0 log) is st

@@ -19,6 +19,7 @@ use Rattle.g_script.proofs.SaidLemmas.{items_say}
 use Rattle.g_store_model.specs.CallStep.{down}
 use Rattle.g_store_model.specs.State.{State}
 use Rattle.g_run_model.specs.Devices.{Devices}
+use Rattle.g_run_model.specs.Losses.{SurvivesLoss}
 use Rattle.g_run_model.specs.Moves.{Move, MovesCounted, Over, Run}
 use Rattle.g_run_model.specs.Texts.{closing, waiting_files}
 use Rattle.g_run_model.specs.Top.{RunOf}
@@ -27,18 +28,22 @@ use Rattle.g_run_model.proofs.CountLemmas.{counted_of, event_none, move_counted,
 use Rattle.g_run_model.proofs.StandLemmas.{stands_as}
 use Rattle.g_run_model.proofs.TickLemmas.{over_move}
 use Rattle.g_run_model.proofs.TurnLemmas.{run_append}
-use Rattle.g_day.specs.Losses.{Never}
+use Rattle.g_day.specs.Losses.{LeftAfter}
 use Rattle.g_day.specs.Parts.{Seen}
-use Rattle.g_day.specs.System.{StandsAs, SystemFacts, devices_in}
+use Rattle.g_day.specs.System.{Down, StandsAs, SystemFacts, SystemSafe, devices_in}
 use Rattle.g_day.proofs.PutLemmas.{with_more-append}
 use Rattle.g_ticks.specs.Parts.{IsAtRest, PartGoesFrom}
+use Rattle.g_ticks.proofs.SurvivingLemmas.{left_same, left_then}
 use Rattle.g_ticks.proofs.TickLemmas.{put_on}
 use Rattle.g_laws_sessions.specs.Session.{Asked, Comes, Exchange, Exchanges, IsCutShort, IsOver, Moment, Nothing, Refused, Rested, Skipped, Then, Took, Unclosed, is_skipping, items_of, script_of, taken}
 use Rattle.g_laws_sessions.proofs.SessionLemmas.{reaches, run_here}
+use Rattle.g_run.proofs.OverLemmas.{system_left}
 use Rattle.g_run.specs.ScriptEnd.{TakenDown}
 use Rattle.g_session.specs.Ending.{AtEnd}
-use Rattle.g_session.specs.Parts.{Broken, SoFar}
+use Rattle.g_session.specs.Parts.{Broken, Claimed, SoFar}
+use Rattle.g_session.specs.Session.{SessionSurvives}
 use Rattle.g_session.proofs.BrokenLemmas.{broken, logged_all, shows_last}
+use Rattle.g_session.proofs.ClaimLemmas.{claimed_runs, left_for}
 use Rattle.g_session.proofs.SoFarLemmas.{nothing_left}
 use Rattle.g_session.proofs.StandsLemmas.{printed_by}
 
@@ -54,27 +59,29 @@ module _ {F U : Type 0} (tariffs : Shared F (Bor Usage × Unit {0}) Charge) (tar
   items_are s (Then said (Unclosed k)) now (before, comes, follows, t) = subst (λ (is : List WrittenItem). All IsItem is) (sym (append-nil (items_of said))) (items_are s said before comes)
 
   -- THE SCRIPT of a session says what was taken
-  pub script_parsed : (s : State) (old : Devices) (done : List Timed) (bad : Option ℕ) (seen : Seen) (log0 log : Option (List ℕ)) (f : SoFar tariffs tariff rules rule s old done bad seen log0 log)
+  pub script_parsed : (s : State) (real : Bool) (old : Devices) (done : List Timed) (bad : Option ℕ) (seen : Seen) (log0 log : Option (List ℕ)) (f : SoFar tariffs tariff rules rule s real old done bad seen log0 log)
       → IsParsed (lines_of (script_of f.said)) (taken f.said) None
-  script_parsed s old done bad seen log0 log f =
+  script_parsed s real old done bad seen log0 log f =
       items_say (lines_of (script_of f.said)) (items_of f.said) (items_are s f.said f.now f.comes)
       (text-lines (flat_map item_lines (items_of f.said)) f.one_lines)
 
   -- THE RUN TO ITS END: nothing steps, and the files of jobs that wait are printed
-  pub record EndRun (s : State) (old : Devices) (done : List Timed) (bad : Option ℕ) (seen mid : Seen) (log0 log before middle : Option (List ℕ)) (f : SoFar tariffs tariff rules rule s old done bad seen log0 log) : Type 0 where
+  pub record EndRun (s : State) (real : Bool) (old : Devices) (done : List Timed) (bad : Option ℕ) (seen mid : Seen) (log0 log before middle : Option (List ℕ)) (f : SoFar tariffs tariff rules rule s real old done bad seen log0 log) : Type 0 where
     pub moves : List Move
     pub last : World
     pub added : List ℕ
     pub run : Run tariffs tariff rules rule (start (taken f.said) None s) moves last
     pub counted : MovesCounted moves last.disc_stops last.tape_stops old (devices_in mid.system)
     pub stands : StandsAs mid.system last.store
+    pub safe : Claimed real (Down old) → Claimed real mid.system
+    pub left : Claimed real (Down old) → LeftAfter tariffs tariff rules rule (start (taken f.said) None s) moves last (Down old) mid.system
     pub over : last.over ≡ true
     pub told : last.text ≡ f.now.world.text ++ (added ++ (waiting_files mid.crew.jobs ++ closing None))
     pub put : middle ≡ with_more before added
 
-  pub end_run : (s : State) (old : Devices) (done : List Timed) (bad : Option ℕ) (seen mid : Seen) (log0 log before middle : Option (List ℕ)) (f : SoFar tariffs tariff rules rule s old done bad seen log0 log)
-      → PartGoesFrom tariffs tariff rules rule Never IsAtRest [] [] seen None mid before middle → EndRun s old done bad seen mid log0 log before middle f
-  end_run s old done bad seen mid log0 log before middle f goes =
+  pub end_run : (s : State) (real : Bool) (old : Devices) (done : List Timed) (bad : Option ℕ) (seen mid : Seen) (log0 log before middle : Option (List ℕ)) (f : SoFar tariffs tariff rules rule s real old done bad seen log0 log)
+      → PartGoesFrom tariffs tariff rules rule (Claimed real) IsAtRest [] [] seen None mid before middle → EndRun s real old done bad seen mid log0 log before middle f
+  end_run s real old done bad seen mid log0 log before middle f goes =
       let r = reaches tariffs tariff rules rule s f.said f.now f.comes in
       let a = goes f.now.world f.matches f.between r.none in
       let bad_none : a.next.bad ≡ None = a.leads.bad ∙ f.none_bad in record {
@@ -86,6 +93,12 @@ module _ {F U : Type 0} (tariffs : Shared F (Bor Usage × Unit {0}) Charge) (tar
             (over_move tariffs tariff rules rule a.next a.between.phase a.between.turn a.lines (nothing_left a.next a.lines a.rests) (a.leads.over ∙ r.going)));
         counted = all_counted f.now.moves a.moves f.now.world.disc_stops f.now.world.tape_stops a.leads.disc_arms a.leads.tape_arms a.next a.leads.disc_stops a.leads.tape_stops f.counted a.leads.counted;
         stands = a.leads.stands;
+        safe = λ claimed. a.leads.safe (f.safe claimed);
+        left = λ claimed.
+            left_then tariffs tariff rules rule (start (taken f.said) None s) f.now.world (closed a.next) f.now.moves (a.moves ++ Over ∷ []) (Down old) seen.system mid.system
+            (run_here tariffs tariff rules rule s f.said f.now r) (claimed_runs real seen.system (f.safe claimed)) f.matches.stands a.leads.stands (f.left claimed)
+            (left_same tariffs tariff rules rule f.now.world a.next (closed a.next) a.moves (Over ∷ []) seen.system mid.system a.leads.run a.leads.stands
+            (λ down. (closed a.next, (a.between.phase, a.between.turn, a.lines, nothing_left a.next a.lines a.rests, a.leads.over ∙ r.going, refl), down, down, refl)) (a.leads.left (f.safe claimed)));
         over = refl;
         told = ap (λ (x : List ℕ). (x ++ waiting_files a.next.jobs) ++ closing a.next.bad) a.leads.text
             ∙ append_assoc (f.now.world.text ++ a.added) (waiting_files a.next.jobs) (closing a.next.bad)
@@ -117,13 +130,13 @@ module _ {F U : Type 0} (tariffs : Shared F (Bor Usage × Unit {0}) Charge) (tar
   }
 
   -- THE SESSION IS OVER
-  unfoldable pub session_over : (s : State) (old new : Devices) (bad : Option ℕ) (mid : Seen) (from before after : Option Transcript) (log0 log : Option (List ℕ)) (t : Transcript)
-      → AtEnd tariffs tariff rules rule s old from log0 bad mid before log → option_map written_of after ≡ with_more (option_map written_of before) (waiting_files mid.crew.jobs ++ closing None)
+  unfoldable pub session_over : (s : State) (real : Bool) (old new : Devices) (bad : Option ℕ) (mid : Seen) (from before after : Option Transcript) (log0 log : Option (List ℕ)) (t : Transcript)
+      → AtEnd tariffs tariff rules rule s real old from log0 bad mid before log → option_map written_of after ≡ with_more (option_map written_of before) (waiting_files mid.crew.jobs ++ closing None)
       → TakenDown mid.system new → from ≡ Some blank → after ≡ Some t → IsOver tariffs tariff rules rule s old new t log0 log bad
-  session_over s old new bad mid from before after log0 log t at put taken_down fresh is =
+  session_over s real old new bad mid from before after log0 log t at put taken_down fresh is =
       let l = at.last in
       let f = l.so_far in
-      let e = end_run s old at.done bad at.was mid log0 log (option_map written_of at.middle) (option_map written_of before) f at.goes in
+      let e = end_run s real old at.done bad at.was mid log0 log (option_map written_of at.middle) (option_map written_of before) f at.goes in
       let rest : List ℕ = e.added ++ (waiting_files mid.crew.jobs ++ closing None) in
       let p = printed_by at.middle rest t (ap (λ (a : Option Transcript). option_map written_of a) (sym is) ∙ put ∙ ap (λ (x : Option (List ℕ)). with_more x (waiting_files mid.crew.jobs ++ closing None)) e.put
       ∙ with_more-append (option_map written_of at.middle) e.added (waiting_files mid.crew.jobs ++ closing None)) in record {
@@ -142,35 +155,36 @@ module _ {F U : Type 0} (tariffs : Shared F (Bor Usage × Unit {0}) Charge) (tar
         told = e.told;
         put = ap (λ (x : Transcript). x.text) p.only ∙ ap (λ (x : List ℕ). x ++ rest) (l.text fresh p.was p.is);
         log = f.log_is;
-        parsed = script_parsed s old at.done bad at.was log0 log f;
+        parsed = script_parsed s real old at.done bad at.was log0 log f;
       }
 
   -- its last text was printed in part
-  pub end_broken : (s : State) (old : Devices) (bad : Option ℕ) (mid : Seen) (from before after : Option Transcript) (log0 log : Option (List ℕ))
-      → AtEnd tariffs tariff rules rule s old from log0 bad mid before log → HasPutPart (option_map written_of before) (waiting_files mid.crew.jobs ++ closing None) (option_map written_of after)
-      → Broken tariffs tariff rules rule s old mid.system from after log0 log
-  end_broken s old bad mid from before after log0 log at put =
+  pub end_broken : (s : State) (real : Bool) (old : Devices) (bad : Option ℕ) (mid : Seen) (from before after : Option Transcript) (log0 log : Option (List ℕ))
+      → AtEnd tariffs tariff rules rule s real old from log0 bad mid before log → HasPutPart (option_map written_of before) (waiting_files mid.crew.jobs ++ closing None) (option_map written_of after)
+      → Broken tariffs tariff rules rule s real old mid.system from after log0 log
+  end_broken s real old bad mid from before after log0 log at put =
       let l = at.last in
       let f = l.so_far in
-      let e = end_run s old at.done bad at.was mid log0 log (option_map written_of at.middle) (option_map written_of before) f at.goes in
+      let e = end_run s real old at.done bad at.was mid log0 log (option_map written_of at.middle) (option_map written_of before) f at.goes in
       let rest : List ℕ = e.added ++ (waiting_files mid.crew.jobs ++ closing None) in
-      broken tariffs tariff rules rule s old at.done bad at.was from at.middle after log0 log log f (shows_last tariffs tariff rules rule s old at.done bad at.was from at.middle log0 log l)
+      broken tariffs tariff rules rule s real old at.done bad at.was from at.middle after log0 log log f (shows_last tariffs tariff rules rule s real old at.done bad at.was from at.middle log0 log l)
       mid.system [] (omega arith) e.moves e.last
       (subst (λ (ls : List Timed). Run tariffs tariff rules rule (start ls None s) e.moves e.last) (sym (append-nil (taken f.said))) e.run)
       e.counted e.stands rest e.told rest (inl refl)
       (put_on (option_map written_of at.middle) (option_map written_of before) (option_map written_of after) e.added (waiting_files mid.crew.jobs ++ closing None) e.put put)
-      (logged_all tariffs tariff rules rule s old at.done bad at.was log0 log f)
+      (logged_all tariffs tariff rules rule s real old at.done bad at.was log0 log f) e.safe
+      (λ claimed. left_for tariffs tariff rules rule s (Down old) mid.system (taken f.said ++ []) (taken f.said) e.moves e.last (append-nil (taken f.said)) (e.left claimed))
 
   -- THE SESSION WAS CUT SHORT
-  pub cut_short : (s : State) (old new : Devices) (system : SystemFacts) (from after : Option Transcript) (log0 log : Option (List ℕ)) (t : Transcript)
-      → Broken tariffs tariff rules rule s old system from after log0 log → TakenDown system new → from ≡ Some blank → after ≡ Some t → IsCutShort tariffs tariff rules rule s old new t log0 log
-  cut_short s old new system from after log0 log t b taken_down fresh is =
-      let (later, lines) = b.lines fresh t is in record {
+  pub cut_short : (s : State) (real : Bool) (old new : Devices) (system : SystemFacts) (from after : Option Transcript) (log0 log : Option (List ℕ)) (t : Transcript)
+      → Broken tariffs tariff rules rule s real old system from after log0 log → TakenDown system new → from ≡ Some blank → after ≡ Some t → IsCutShort tariffs tariff rules rule s old new t log0 log
+  cut_short s real old new system from after log0 log t b taken_down fresh is =
+      record {
         said = b.said;
         now = b.now;
         comes = b.comes;
-        later = later;
-        lines = lines;
+        later = (b.lines fresh t is).0;
+        lines = (b.lines fresh t is).1;
         more = b.more;
         one = b.one;
         moves = b.moves;
@@ -183,3 +197,13 @@ module _ {F U : Type 0} (tariffs : Shared F (Bor Usage × Unit {0}) Charge) (tar
         put = b.put fresh t is;
         log = b.log_is;
       }
+
+  -- WHAT A POWER LOSS LEAVES of its devices
+  pub broken_survives : (s : State) (old new : Devices) (system : SystemFacts) (from after : Option Transcript) (log0 log : Option (List ℕ)) (t : Transcript)
+      → Broken tariffs tariff rules rule s true old system from after log0 log → TakenDown system new → SystemSafe (Down old) → from ≡ Some blank → after ≡ Some t → SessionSurvives tariffs tariff rules rule s old new t log0 log
+  unfolding cut_short
+  broken_survives s old new system from after log0 log t b taken_down safe fresh is = (
+    cut_short s true old new system from after log0 log t b taken_down fresh is,
+    subst (λ (d : Devices). SurvivesLoss tariffs tariff rules rule (start (taken b.said ++ map timed_said b.more) None s) b.moves b.last old d) (sym taken_down.devices)
+        (system_left tariffs tariff rules rule (start (taken b.said ++ map timed_said b.more) None s) b.moves b.last old system b.run (b.safe safe) b.stands (b.left safe)),
+  )

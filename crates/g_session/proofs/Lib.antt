@@ -2,6 +2,7 @@ mod AnewLemmas
 mod AnswerLemmas
 mod AsTypedLemmas
 mod BrokenLemmas
+mod ClaimLemmas
 mod EndLemmas
 mod EndingLemmas
 mod GrowLemmas

@@ -1,5 +1,5 @@
 -- The lines of a session: before the first one, after each, and when no more come.
--- serves: answer_lines (said), end_session (keeps, said), session (anew, answers, ends), session_on, AnewLemmas
+-- serves: answer_lines (said), end_session (keeps, said), session (anew, answers, ends, survives), session_on, AnewLemmas
 use Rattle.std.proofs.Common.{◌≡◌, ◌⊎◌, ◌+◌, ◌≤◌, ◌++◌, ℕ, Bool, true, false, List, [], ◌∷◌, All, Option, Some, None, option_map, length, append-nil, refl, sym, ◌∙◌, ap, subst, inl, inr, arith}
 use Rattle.std.specs.Fn.{Shared}
 use Rattle.std.proofs.lemmas.List.Elements.{All-nil}
@@ -11,8 +11,12 @@ use Rattle.g_rules.specs.declared.rule.Standing.{Standing}
 use Rattle.g_console.specs.Transcript.{Request, Requested, Transcript, blank, lines_typed}
 use Rattle.g_io.specs.Streams.{with_more}
 use Rattle.g_script.specs.declared.operator.Timed.{Timed}
+use Rattle.g_store_meaning.specs.Safety.{AreSafe}
 use Rattle.g_store_model.specs.State.{State}
 use Rattle.g_run_model.specs.Devices.{Devices, StandFor}
+use Rattle.g_run_model.specs.Moves.{Move}
+use Rattle.g_run_model.specs.Top.{RunOf}
+use Rattle.g_run_model.specs.World.{World}
 use Rattle.g_run_model.proofs.StandLemmas.{read_as}
 use Rattle.g_laws_runs.specs.BeginningAnew.{AreBlank, with_new_disc}
 use Rattle.g_day.specs.declared.progress.Failure.{Failure}
@@ -31,7 +35,7 @@ use Rattle.g_run.proofs.OverLemmas.{nothing_done}
 use Rattle.g_session.specs.Ending.{AfterLines, DidOpen, EndCause, KeepsMany, RefusesNone, RefusesOpen, course_at_end, first_seen}
 use Rattle.g_session.specs.Exchanging.{AfterExchange, failure_of}
 use Rattle.g_session.specs.Parts.{Stands}
-use Rattle.g_session.specs.Session.{EndsAnew}
+use Rattle.g_session.specs.Session.{EndsAnew, SessionSurvives}
 use Rattle.g_session.specs.declared.exchange.Course.{Course}
 use Rattle.g_session.specs.declared.exchange.Course.TheVariants as course
 use Rattle.g_session.proofs.EndingLemmas.{AfterOpenOf, RestsOf}
@@ -66,13 +70,13 @@ module _ {F U : Type 0} (tariffs : Shared F (Bor Usage × Unit {0}) Charge) (tar
       let sum : length (r.before ++ r.request ∷ r.later) ≡ length r.before + length (r.request ∷ r.later) = length-append r.before (r.request ∷ r.later) in absurd (let no : ⊥ = omega (arith, long, sum) in no)
 
   -- BEFORE THE FIRST LINE
-  pub stands_start : (s : State) (old : Devices) (transcript : Option Transcript) (log : Option (List ℕ)) (bad : Option ℕ) (day : Seen) (r : ItemReader) (number : ℕ) → StandFor old s
-      → bad ≡ None → day ≡ first_seen old → r.place ≡ place.Start → number ≡ 1 → Stands tariffs tariff rules rule s old [] bad day r number [] transcript transcript log log
+  pub stands_start : (s : State) (real : Bool) (old : Devices) (transcript : Option Transcript) (log : Option (List ℕ)) (bad : Option ℕ) (day : Seen) (r : ItemReader) (number : ℕ) → StandFor old s
+      → bad ≡ None → day ≡ first_seen old → r.place ≡ place.Start → number ≡ 1 → Stands tariffs tariff rules rule s real old [] bad day r number [] transcript transcript log log
   unfolding so_far_start
-  stands_start s old transcript log bad day r number stand bad_none day_is at one =
-      subst (λ (b : Option ℕ). Stands tariffs tariff rules rule s old [] b day r number [] transcript transcript log log) (sym bad_none)
-      (subst (λ (d : Seen). Stands tariffs tariff rules rule s old [] None d r number [] transcript transcript log log) (sym day_is) (record {
-        so_far = so_far_start tariffs tariff rules rule s old log (read_as old s stand);
+  stands_start s real old transcript log bad day r number stand bad_none day_is at one =
+      subst (λ (b : Option ℕ). Stands tariffs tariff rules rule s real old [] b day r number [] transcript transcript log log) (sym bad_none)
+      (subst (λ (d : Seen). Stands tariffs tariff rules rule s real old [] None d r number [] transcript transcript log log) (sym day_is) (record {
+        so_far = so_far_start tariffs tariff rules rule s real old log (read_as old s stand);
         going = over;
         pending = [];
         holds = subst (λ (p : Place). HoldsAt p 0 [] r) (sym at) refl;
@@ -88,60 +92,69 @@ module _ {F U : Type 0} (tariffs : Shared F (Bor Usage × Unit {0}) Charge) (tar
       blank_is : transcript ≡ Some blank → (t : Transcript) → transcript ≡ Some t → t ≡ blank
       blank_is fresh t is = same_transcript t blank (sym is ∙ fresh)
 
-      over : Rattle.g_laws_sessions.specs.Session.is_over (so_far_start tariffs tariff rules rule s old log (read_as old s stand)).said ≡ false
+      over : Rattle.g_laws_sessions.specs.Session.is_over (so_far_start tariffs tariff rules rule s real old log (read_as old s stand)).said ≡ false
       over = refl
 
-      skips : Rattle.g_laws_sessions.specs.Session.is_skipping (so_far_start tariffs tariff rules rule s old log (read_as old s stand)).said ≡ false
+      skips : Rattle.g_laws_sessions.specs.Session.is_skipping (so_far_start tariffs tariff rules rule s real old log (read_as old s stand)).said ≡ false
       skips = refl
 
-      lines_number : number ≡ length (so_far_start tariffs tariff rules rule s old log (read_as old s stand)).now.lines + length (let none : List (List ℕ) = [] in none) + 1
+      lines_number : number ≡ length (so_far_start tariffs tariff rules rule s real old log (read_as old s stand)).now.lines + length (let none : List (List ℕ) = [] in none) + 1
       lines_number = one
 
-      none_lines : lines_typed blank.requests ≡ (so_far_start tariffs tariff rules rule s old log (read_as old s stand)).now.lines ++ ([] ++ [])
+      none_lines : lines_typed blank.requests ≡ (so_far_start tariffs tariff rules rule s real old log (read_as old s stand)).now.lines ++ ([] ++ [])
       none_lines = refl
 
-      none_text : blank.text ≡ (so_far_start tariffs tariff rules rule s old log (read_as old s stand)).now.text
+      none_text : blank.text ≡ (so_far_start tariffs tariff rules rule s real old log (read_as old s stand)).now.text
       none_text = refl
 
   -- THE LINES STOP
-  pub lines_stop : (s : State) (old : Devices) (from : Option Transcript) (log0 : Option (List ℕ)) (c : Course) (bad : Option ℕ) (seen : Seen) (r : ItemReader) (number number' : ℕ) (transcript : Option Transcript) (log : Option (List ℕ))
-      → (c ≡ course.Goes → ⊥) → number' ≡ number → AfterExchange tariffs tariff rules rule s old from log0 c bad seen r number transcript log → AfterLines tariffs tariff rules rule s old from log0 c bad seen r number' transcript log
-  lines_stop s old from log0 course.Goes bad seen r number number' transcript log stops same after = absurd (stops refl)
-  lines_stop s old from log0 course.Ends bad seen r number number' transcript log stops same (ended, (done, st)) =
-      (ended, (done, subst (λ (n : ℕ). Stands tariffs tariff rules rule s old done bad seen r n [] from transcript log0 log) (sym same) st))
-  lines_stop s old from log0 course.Fails bad seen r number number' transcript log stops same (ended, (done, st)) =
-      (ended, (done, subst (λ (n : ℕ). Stands tariffs tariff rules rule s old done bad seen r n [] from transcript log0 log) (sym same) st))
-  lines_stop s old from log0 (course.Breaks failure) bad seen r number number' transcript log stops same b = b
+  pub lines_stop : (s : State) (real : Bool) (old : Devices) (from : Option Transcript) (log0 : Option (List ℕ)) (c : Course) (bad : Option ℕ) (seen : Seen) (r : ItemReader) (number number' : ℕ) (transcript : Option Transcript) (log : Option (List ℕ))
+      → (c ≡ course.Goes → ⊥) → number' ≡ number → AfterExchange tariffs tariff rules rule s real old from log0 c bad seen r number transcript log → AfterLines tariffs tariff rules rule s real old from log0 c bad seen r number' transcript log
+  lines_stop s real old from log0 course.Goes bad seen r number number' transcript log stops same after = absurd (stops refl)
+  lines_stop s real old from log0 course.Ends bad seen r number number' transcript log stops same (ended, (done, st)) =
+      (ended, (done, subst (λ (n : ℕ). Stands tariffs tariff rules rule s real old done bad seen r n [] from transcript log0 log) (sym same) st))
+  lines_stop s real old from log0 course.Fails bad seen r number number' transcript log stops same (ended, (done, st)) =
+      (ended, (done, subst (λ (n : ℕ). Stands tariffs tariff rules rule s real old done bad seen r n [] from transcript log0 log) (sym same) st))
+  lines_stop s real old from log0 (course.Breaks failure) bad seen r number number' transcript log stops same b = b
 
   -- the end broke off
-  pub rests_broken : (P : List Timed → Type 0) (s : State) (old : Devices) (from : Option Transcript) (log0 : Option (List ℕ)) (c : Course) (failure : Failure) (bad : Option ℕ) (seen : Seen) (transcript : Option Transcript) (log : Option (List ℕ))
-      → c ≡ course.Breaks failure → AfterOpenOf tariffs tariff rules rule s old from log0 P c bad seen transcript log → RestsOf tariffs tariff rules rule s old from log0 P c bad seen transcript log
-  rests_broken P s old from log0 (course.Breaks came) failure bad seen transcript log is b = b
-  rests_broken P s old from log0 course.Goes failure bad seen transcript log is after = absurd (goes_breaks failure is)
-  rests_broken P s old from log0 course.Ends failure bad seen transcript log is after = absurd (ends_breaks failure is)
-  rests_broken P s old from log0 course.Fails failure bad seen transcript log is after = absurd (fails_breaks failure is)
+  pub rests_broken : (P : List Timed → Type 0) (s : State) (real : Bool) (old : Devices) (from : Option Transcript) (log0 : Option (List ℕ)) (c : Course) (failure : Failure) (bad : Option ℕ) (seen : Seen) (transcript : Option Transcript) (log : Option (List ℕ))
+      → c ≡ course.Breaks failure → AfterOpenOf tariffs tariff rules rule s real old from log0 P c bad seen transcript log → RestsOf tariffs tariff rules rule s real old from log0 P c bad seen transcript log
+  rests_broken P s real old from log0 (course.Breaks came) failure bad seen transcript log is b = b
+  rests_broken P s real old from log0 course.Goes failure bad seen transcript log is after = absurd (goes_breaks failure is)
+  rests_broken P s real old from log0 course.Ends failure bad seen transcript log is after = absurd (ends_breaks failure is)
+  rests_broken P s real old from log0 course.Fails failure bad seen transcript log is after = absurd (fails_breaks failure is)
 
   -- NOTHING WAS DONE, because memory ran out
+  nothing_cut : (s : State) (old new : Devices) (t : Transcript) (log : Option (List ℕ)) → t ≡ blank → (moves : List Move) (last : World) → RunOf tariffs tariff rules rule [] None s old new moves last
+      → IsCutShort tariffs tariff rules rule s old new t log log
+  nothing_cut s old new t log new_is moves last run_of = record {
+    said = Nothing;
+    now = beginning s;
+    comes = refl;
+    later = [];
+    lines = ap (λ (u : Transcript). lines_typed u.requests) new_is;
+    more = [];
+    one = omega arith;
+    moves = moves;
+    last = last;
+    run_of = run_of;
+    rest = last.text;
+    told = refl;
+    owed = last.text;
+    own = inl refl;
+    put = (0, omega arith, ap (λ (u : Transcript). u.text) new_is);
+    log = inl (sym (with_more-nil log));
+  }
+
   pub nothing_ends : (s : State) (old new : Devices) (t : Transcript) (log : Option (List ℕ)) → new ≡ old → StandFor old s → t ≡ blank → IsCutShort tariffs tariff rules rule s old new t log log
   nothing_ends s old new t log same stand new_is =
-      let x = (nothing_done tariffs tariff rules rule [] None old new log 0 same).ends s stand in record {
-        said = Nothing;
-        now = beginning s;
-        comes = refl;
-        later = [];
-        lines = ap (λ (u : Transcript). lines_typed u.requests) new_is;
-        more = [];
-        one = omega arith;
-        moves = x.moves;
-        last = x.last;
-        run_of = x.run_of;
-        rest = x.last.text;
-        told = refl;
-        owed = x.last.text;
-        own = inl refl;
-        put = (0, omega arith, ap (λ (u : Transcript). u.text) new_is);
-        log = inl (sym (with_more-nil log));
-      }
+      let x = (nothing_done tariffs tariff rules rule [] None old new log 0 same).ends s stand in nothing_cut s old new t log new_is x.moves x.last x.run_of
+
+  pub nothing_survives : (s : State) (old new : Devices) (t : Transcript) (log : Option (List ℕ)) → new ≡ old → AreSafe old.disc old.rack → StandFor old s → t ≡ blank → SessionSurvives tariffs tariff rules rule s old new t log log
+  unfolding nothing_cut
+  nothing_survives s old new t log same safe stand new_is =
+      let x = (nothing_done tariffs tariff rules rule [] None old new log 0 same).survives safe s stand in (nothing_cut s old new t log new_is x.moves x.last x.run_of, x.left)
 
 -- also on blank devices
 module _ {F U : Type 0} (tariffs : Shared F (Bor Usage × Unit {0}) Charge) (tariff : F) (rules : Shared U (Bor Standing × Unit {0}) ℕ) (rule : U) where
@@ -159,6 +172,12 @@ module _ {F U : Type 0} (tariffs : Shared F (Bor Usage × Unit {0}) Charge) (tar
   anew_same status s old old' new new' t before after was now ends =
       subst (λ (d : Devices). EndsAnew tariffs tariff rules rule status s d new t before after) was
       (subst (λ (d : Devices). EndsAnew tariffs tariff rules rule status s old' d t before after) (sym now) ends)
+
+  pub survives_carried : (s : State) (old old' new new' : Devices) (t : Transcript) (before after : Option (List ℕ)) → old' ≡ old → new ≡ new' → SessionSurvives tariffs tariff rules rule s old' new' t before after
+      → SessionSurvives tariffs tariff rules rule s old new t before after
+  survives_carried s old old' new new' t before after was now survives =
+      subst (λ (d : Devices). SessionSurvives tariffs tariff rules rule s d new t before after) was
+      (subst (λ (d : Devices). SessionSurvives tariffs tariff rules rule s old' d t before after) (sym now) survives)
 
 pub no_failure : (c : Course) → ((g : Failure) → c ≡ course.Breaks g → ⊥) → failure_of c ≡ None
 no_failure (course.Breaks g) whole = absurd (whole g refl)

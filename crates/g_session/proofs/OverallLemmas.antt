@@ -1,6 +1,6 @@
 -- A whole session: what its lines, its end and its last text give together.
 -- serves: session_on
-use Rattle.std.proofs.Common.{◌≡◌, ◌⊎◌, ◌+◌, ◌≤◌, ◌++◌, ℕ, List, [], ◌∷◌, Option, Some, None, option_map, length, map, take, append-nil, refl, sym, ◌∙◌, ap, subst, inl, inr, arith}
+use Rattle.std.proofs.Common.{◌≡◌, ◌⊎◌, ◌+◌, ◌≤◌, ◌++◌, ℕ, Bool, true, false, List, [], ◌∷◌, Option, Some, None, option_map, length, map, take, append-nil, refl, sym, ◌∙◌, ap, subst, inl, inr, arith}
 use Rattle.std.specs.Prelude.{max, min, ◌^◌, ◌-◌}
 use Rattle.std.specs.Fn.{Shared}
 use Rattle.std.proofs.lemmas.List.{take_all}
@@ -45,7 +45,7 @@ use Rattle.g_session.specs.declared.exchange.Course.{Course}
 use Rattle.g_session.specs.declared.exchange.Course.TheVariants as course
 use Rattle.g_session.proofs.AnewLemmas.{elsewhere_on}
 use Rattle.g_session.proofs.GrowLemmas.{closes_grows, grows_print}
-use Rattle.g_session.proofs.EndLemmas.{cut_short, down_run, end_broken, session_over}
+use Rattle.g_session.proofs.EndLemmas.{broken_survives, cut_short, down_run, end_broken, session_over}
 use Rattle.g_session.proofs.EndingLemmas.{broken_quiet, ended_print}
 
 -- a text that was printed whole was printed in part
@@ -141,36 +141,36 @@ session_cause course.Fails c failure bad text before after a b mid d logged logg
     (closed_cause (failure_of c) failure text before after b mid d end closes)
 
 module _ {F U : Type 0} (tariffs : Shared F (Bor Usage × Unit {0}) Charge) (tariff : F) (rules : Shared U (Bor Standing × Unit {0}) ℕ) (rule : U) where
-  module _ (s : State) (old new : Devices) (from before after : Option Transcript) (log0 log : Option (List ℕ)) (bad : Option ℕ) (seen : Seen) (taken_down : TakenDown seen.system new) where
+  module _ (s : State) (real : Bool) (old new : Devices) (from before after : Option Transcript) (log0 log : Option (List ℕ)) (bad : Option ℕ) (seen : Seen) (taken_down : TakenDown seen.system new) where
     -- whatever ended it, its moves are those of a run
-    all_broken : (c : Course) (failure : Option Failure) (mid d : ℕ) → RestsAtEnd tariffs tariff rules rule s old from log0 c bad seen before log
+    all_broken : (c : Course) (failure : Option Failure) (mid d : ℕ) → RestsAtEnd tariffs tariff rules rule s real old from log0 c bad seen before log
         → ClosesBy (failure_of c) (waiting_files seen.crew.jobs ++ closing None) failure (option_map written_of before) (option_map written_of after) mid d
-        → Broken tariffs tariff rules rule s old seen.system from after log0 log
-    all_broken (course.Breaks came) failure mid d b (is, quiet, still) = broken_quiet tariffs tariff rules rule s old from log0 seen before after log b quiet
+        → Broken tariffs tariff rules rule s real old seen.system from after log0 log
+    all_broken (course.Breaks came) failure mid d b (is, quiet, still) = broken_quiet tariffs tariff rules rule s real old from log0 seen before after log b quiet
     all_broken course.Goes failure mid d (never, at) puts = absurd never
     all_broken course.Ends failure mid d (ended, at) puts =
-        end_broken tariffs tariff rules rule s old bad seen from before after log0 log at (put_by failure (waiting_files seen.crew.jobs ++ closing None) (option_map written_of before) (option_map written_of after) puts.put)
+        end_broken tariffs tariff rules rule s real old bad seen from before after log0 log at (put_by failure (waiting_files seen.crew.jobs ++ closing None) (option_map written_of before) (option_map written_of after) puts.put)
     all_broken course.Fails failure mid d (ended, at) puts =
-        end_broken tariffs tariff rules rule s old bad seen from before after log0 log at (put_by failure (waiting_files seen.crew.jobs ++ closing None) (option_map written_of before) (option_map written_of after) puts.put)
+        end_broken tariffs tariff rules rule s real old bad seen from before after log0 log at (put_by failure (waiting_files seen.crew.jobs ++ closing None) (option_map written_of before) (option_map written_of after) puts.put)
 
-    ends_by : (c : Course) (failure : Option Failure) (mid d : ℕ) → RestsAtEnd tariffs tariff rules rule s old from log0 c bad seen before log
+    ends_by : (c : Course) (failure : Option Failure) (mid d : ℕ) → RestsAtEnd tariffs tariff rules rule s real old from log0 c bad seen before log
         → ClosesBy (failure_of c) (waiting_files seen.crew.jobs ++ closing None) failure (option_map written_of before) (option_map written_of after) mid d
         → from ≡ Some blank → (t : Transcript) → after ≡ Some t → EndsSession tariffs tariff rules rule (session_status failure c bad) s old new t log0 log
     ends_by c (Some failures.Output) mid d rests closes fresh t is =
-        cut_short tariffs tariff rules rule s old new seen.system from after log0 log t (all_broken c (Some failures.Output) mid d rests closes) taken_down fresh is
+        cut_short tariffs tariff rules rule s real old new seen.system from after log0 log t (all_broken c (Some failures.Output) mid d rests closes) taken_down fresh is
     ends_by c (Some failures.Memory) mid d rests closes fresh t is =
-        cut_short tariffs tariff rules rule s old new seen.system from after log0 log t (all_broken c (Some failures.Memory) mid d rests closes) taken_down fresh is
+        cut_short tariffs tariff rules rule s real old new seen.system from after log0 log t (all_broken c (Some failures.Memory) mid d rests closes) taken_down fresh is
     ends_by (course.Breaks came) None mid d b (is_failure, quiet, still) fresh t is = absurd (none_some came (sym is_failure))
     ends_by course.Goes None mid d (never, at) puts fresh t is = absurd never
     ends_by course.Ends None mid d (ended, at) puts fresh t is =
-        by bad (session_over tariffs tariff rules rule s old new bad seen from before after log0 log t at puts.put taken_down fresh is)
+        by bad (session_over tariffs tariff rules rule s real old new bad seen from before after log0 log t at puts.put taken_down fresh is)
       where
         by : (k : Option ℕ) → Rattle.g_laws_sessions.specs.Session.IsOver tariffs tariff rules rule s old new t log0 log k → EndsSession tariffs tariff rules rule (session_status None course.Ends k) s old new t log0 log
         by None over = (ended_print course.Ends before after (waiting_files seen.crew.jobs ++ closing None) puts.put ended t is, over)
         by (Some line) over = (ended_print course.Ends before after (waiting_files seen.crew.jobs ++ closing None) puts.put ended t is, over)
     ends_by course.Fails None mid d (ended, at) puts fresh t is = (
       ended_print course.Fails before after (waiting_files seen.crew.jobs ++ closing None) puts.put ended t is,
-      (bad, session_over tariffs tariff rules rule s old new bad seen from before after log0 log t at puts.put taken_down fresh is),
+      (bad, session_over tariffs tariff rules rule s real old new bad seen from before after log0 log t at puts.put taken_down fresh is),
     )
 
   -- ON BLANK DEVICES
@@ -180,13 +180,13 @@ module _ {F U : Type 0} (tariffs : Shared F (Bor Usage × Unit {0}) Charge) (tar
     Closed failure = ClosesBy (failure_of c) (waiting_files seen.crew.jobs ++ closing None) failure (option_map written_of before) (option_map written_of after) mid d
 
     -- a FORMAT took effect
-    ends_took : (failure : Option Failure) → RestsAtEnd tariffs tariff rules rule s (with_new_disc old) from log0 c bad seen before log → Closed failure → TookFormat tariffs tariff rules rule (session_status failure c bad) s old new t log0 log
+    ends_took : (failure : Option Failure) → RestsAtEnd tariffs tariff rules rule s false (with_new_disc old) from log0 c bad seen before log → Closed failure → TookFormat tariffs tariff rules rule (session_status failure c bad) s old new t log0 log
     ends_took failure rests closes =
-        let x = all_broken s (with_new_disc old) new from before after log0 log bad seen taken_down c failure mid d rests closes in
+        let x = all_broken s false (with_new_disc old) new from before after log0 log bad seen taken_down c failure mid d rests closes in
         let r = down_run tariffs tariff rules rule (taken x.said ++ map timed_said x.more) s (with_new_disc old) seen.system new x.moves x.last x.run x.counted x.stands taken_down in
         let stands = read_as new (down x.last.store) r.stands in record {
           answers = x.answers fresh t is;
-          ends = ends_by s (with_new_disc old) new from before after log0 log bad seen taken_down c failure mid d rests closes fresh t is;
+          ends = ends_by s false (with_new_disc old) new from before after log0 log bad seen taken_down c failure mid d rests closes fresh t is;
           together = record { told = stands.told; belong = stands.belong };
         }
 
@@ -194,33 +194,33 @@ module _ {F U : Type 0} (tariffs : Shared F (Bor Usage × Unit {0}) Charge) (tar
     blank_end : IsBlank seen.system → AreBlank new
     blank_end empty = subst AreBlank (sym taken_down.devices) (blank_devices seen.system empty)
 
-    aside_cut : (came : Failure) → IsBlank seen.system → RestsAtEnd tariffs tariff rules rule s (with_new_disc old) from log0 c bad (beside seen) before log → Closed (Some came)
+    aside_cut : (came : Failure) → IsBlank seen.system → RestsAtEnd tariffs tariff rules rule s false (with_new_disc old) from log0 c bad (beside seen) before log → Closed (Some came)
         → StaysBlank tariffs tariff rules rule (session_status (Some came) c bad) s old new t log0 log
     aside_cut came empty rests closes =
         let down_is = taken_beside seen.system new taken_down empty in
-        let x = all_broken s (with_new_disc old) (with_new_disc new) from before after log0 log bad (beside seen) down_is c (Some came) mid d rests closes in by came x
+        let x = all_broken s false (with_new_disc old) (with_new_disc new) from before after log0 log bad (beside seen) down_is c (Some came) mid d rests closes in by came x
       where
-        by : (f : Failure) → Broken tariffs tariff rules rule s (with_new_disc old) (beside_new seen.system) from after log0 log → StaysBlank tariffs tariff rules rule (session_status (Some f) c bad) s old new t log0 log
+        by : (f : Failure) → Broken tariffs tariff rules rule s false (with_new_disc old) (beside_new seen.system) from after log0 log → StaysBlank tariffs tariff rules rule (session_status (Some f) c bad) s old new t log0 log
         by failures.Output x = record {
           answers = x.answers fresh t is;
-          ends = cut_short tariffs tariff rules rule s (with_new_disc old) (with_new_disc new) (beside_new seen.system) from after log0 log t x (taken_beside seen.system new taken_down empty) fresh is;
+          ends = cut_short tariffs tariff rules rule s false (with_new_disc old) (with_new_disc new) (beside_new seen.system) from after log0 log t x (taken_beside seen.system new taken_down empty) fresh is;
           blank = blank_end empty;
           unwell = λ lines cut begin well. cut;
         }
         by failures.Memory x = record {
           answers = x.answers fresh t is;
-          ends = cut_short tariffs tariff rules rule s (with_new_disc old) (with_new_disc new) (beside_new seen.system) from after log0 log t x (taken_beside seen.system new taken_down empty) fresh is;
+          ends = cut_short tariffs tariff rules rule s false (with_new_disc old) (with_new_disc new) (beside_new seen.system) from after log0 log t x (taken_beside seen.system new taken_down empty) fresh is;
           blank = blank_end empty;
           unwell = λ lines cut begin well. cut;
         }
 
-    module _ (end : AtEnd tariffs tariff rules rule s (with_new_disc old) from log0 bad (beside seen) before log) (n : NoneYet old end.done seen)
+    module _ (end : AtEnd tariffs tariff rules rule s false (with_new_disc old) from log0 bad (beside seen) before log) (n : NoneYet old end.done seen)
         (put : option_map written_of after ≡ with_more (option_map written_of before) (waiting_files seen.crew.jobs ++ closing None)) where
       abbrev over : IsOver tariffs tariff rules rule s (with_new_disc old) (with_new_disc new) t log0 log bad
-      over = session_over tariffs tariff rules rule s (with_new_disc old) (with_new_disc new) bad (beside seen) from before after log0 log t end put (taken_beside seen.system new taken_down n.blank) fresh is
+      over = session_over tariffs tariff rules rule s false (with_new_disc old) (with_new_disc new) bad (beside seen) from before after log0 log t end put (taken_beside seen.system new taken_down n.blank) fresh is
 
       answered : AlwaysAnswers tariffs tariff rules rule s t
-      answered = (end_broken tariffs tariff rules rule s (with_new_disc old) bad (beside seen) from before after log0 log end
+      answered = (end_broken tariffs tariff rules rule s false (with_new_disc old) bad (beside seen) from before after log0 log end
           (put_by None (waiting_files seen.crew.jobs ++ closing None) (option_map written_of before) (option_map written_of after) put)).answers fresh t is
 
       unwell_over : (lines : List Timed) → lines ≡ taken over.said → BeginAnew lines → NoDiscFault old new → ⊥
@@ -290,7 +290,7 @@ module _ {F U : Type 0} (tariffs : Shared F (Bor Usage × Unit {0}) Charge) (tar
   -- THE SESSION
   pub did_session : (old new : Devices) (from before after : Option Transcript) (log0 log : Option (List ℕ)) (first c : Course) (bad : Option ℕ) (seen : Seen) (failure : Option Failure)
       (put put' : Option (List ℕ)) (a b mid d logged logged' : ℕ) → put ≡ option_map written_of before → put' ≡ option_map written_of after
-      → ((s : State) → StandFor old s → RestsAtEnd tariffs tariff rules rule s old from log0 c bad seen before log)
+      → ((s : State) → StandFor old s → RestsAtEnd tariffs tariff rules rule s true old from log0 c bad seen before log)
       → ((s : State) → StandFor (with_new_disc old) s → AreBlank old → RestsAnew tariffs tariff rules rule s old from log0 c bad seen before log)
       → KeepsMany (first_seen old) c seen → CourseCause first a b logged logged' → EndCause first c b mid
       → ClosesBy (failure_of c) (waiting_files seen.crew.jobs ++ closing None) failure put put' mid d → TakenDown seen.system new
@@ -299,16 +299,18 @@ module _ {F U : Type 0} (tariffs : Shared F (Bor Usage × Unit {0}) Charge) (tar
       let closed_by = subst (λ (x : Option (List ℕ)). ClosesBy (failure_of c) (waiting_files seen.crew.jobs ++ closing None) failure x (option_map written_of after) mid d) is
       (subst (λ (x : Option (List ℕ)). ClosesBy (failure_of c) (waiting_files seen.crew.jobs ++ closing None) failure put x mid d) is' closes) in record {
         of = of_session failure c bad;
-        answers = λ fresh t known s stand. (all_broken s old new from before after log0 log bad seen taken_down c failure mid d (said s stand) closed_by).answers fresh t known;
-        ends = λ fresh t known s stand. ends_by s old new from before after log0 log bad seen taken_down c failure mid d (said s stand) closed_by fresh t known;
+        answers = λ fresh t known s stand. (all_broken s true old new from before after log0 log bad seen taken_down c failure mid d (said s stand) closed_by).answers fresh t known;
+        ends = λ fresh t known s stand. ends_by s true old new from before after log0 log bad seen taken_down c failure mid d (said s stand) closed_by fresh t known;
         causes = session_cause first c failure bad (waiting_files seen.crew.jobs ++ closing None) put put' a b mid d logged logged' cause end closes;
         same = subst (λ (x : Devices). SameDevices old x) (sym taken_down.devices) keeps.keeps.same;
         belongs = λ was. subst (λ (x : Devices). BelongTogether x) (sym taken_down.devices) (belongs_of seen.system (keeps.keeps.belongs was));
         safe = λ was. subst (λ (x : Devices). AreSafe x.disc x.rack) (sym taken_down.devices) (safe_of seen.system (keeps.keeps.safe was));
+        survives = λ was fresh t known s stand.
+            broken_survives tariffs tariff rules rule s old new seen.system from after log0 log t (all_broken s true old new from before after log0 log bad seen taken_down c failure mid d (said s stand) closed_by) taken_down was fresh known;
         dumps = λ was. (subst (λ (x : Devices). DumpsKept keeps.done old.rack x.rack) (sym taken_down.devices) (keeps.keeps.dumps was)).move;
         stands = λ was has.
             let (s, stand) = state_there old was has in
-            let x = all_broken s old new from before after log0 log bad seen taken_down c failure mid d (said s stand) closed_by in
+            let x = all_broken s true old new from before after log0 log bad seen taken_down c failure mid d (said s stand) closed_by in
             devices_keep tariffs tariff rules rule (taken x.said ++ map timed_said x.more) None s old new x.moves x.last stand has
             (down_run tariffs tariff rules rule (taken x.said ++ map timed_said x.more) s old seen.system new x.moves x.last x.run x.counted x.stands taken_down);
         anew = λ fresh t known empty s stand. ends_anew s old new from before after log0 log seen taken_down mid d fresh t known bad c failure (said_anew s stand empty) closed_by;

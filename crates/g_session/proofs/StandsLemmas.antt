@@ -35,12 +35,12 @@ printed_by (Some was) more now e =
     let same : written_of now ≡ written_of was ++ more = cc in record { was = was; is = refl; only = only_printed was now more same }
 
 module _ {F U : Type 0} (tariffs : Shared F (Bor Usage × Unit {0}) Charge) (tariff : F) (rules : Shared U (Bor Standing × Unit {0}) ℕ) (rule : U) where
-  pub stands_next : (s : State) (old : Devices) (done done' : List Timed) (bad bad' : Option ℕ) (seen new : Seen) (r r' : ItemReader) (number : ℕ) (line : List ℕ) (skips : Bool) (from before after : Option Transcript)
-      (log0 log log' : Option (List ℕ)) (st : Stands tariffs tariff rules rule s old done bad seen r number (line ∷ []) from before log0 log)
-      → Next tariffs tariff rules rule s old done' bad' new log0 log' st.so_far.now (st.pending ++ line ∷ []) skips (option_map written_of before) (option_map written_of after)
+  pub stands_next : (s : State) (real : Bool) (old : Devices) (done done' : List Timed) (bad bad' : Option ℕ) (seen new : Seen) (r r' : ItemReader) (number : ℕ) (line : List ℕ) (skips : Bool) (from before after : Option Transcript)
+      (log0 log log' : Option (List ℕ)) (st : Stands tariffs tariff rules rule s real old done bad seen r number (line ∷ []) from before log0 log)
+      → Next tariffs tariff rules rule s real old done' bad' new log0 log' st.so_far.now (st.pending ++ line ∷ []) skips (option_map written_of before) (option_map written_of after)
       → Holds new.count [] r' → skips ≡ is_skipped r'.place → ((k : ℕ) → r'.place ≡ place.Document k → ⊥)
-      → Stands tariffs tariff rules rule s old done' bad' new r' (number + 1) [] from after log0 log'
-  stands_next s old done done' bad bad' seen new r r' number line skips from before after log0 log log' st n holds skipped no_job = record {
+      → Stands tariffs tariff rules rule s real old done' bad' new r' (number + 1) [] from after log0 log'
+  stands_next s real old done done' bad bad' seen new r r' number line skips from before after log0 log log' st n holds skipped no_job = record {
     so_far = n.so_far;
     going = n.going;
     pending = [];
@@ -70,11 +70,11 @@ module _ {F U : Type 0} (tariffs : Shared F (Bor Usage × Unit {0}) Charge) (tar
       by t is = printed_by before n.added t (ap (λ (a : Option Transcript). option_map written_of a) (sym is) ∙ n.put)
 
   -- a line of a document, and nothing is printed
-  pub stands_more : (s : State) (old : Devices) (done : List Timed) (bad : Option ℕ) (seen : Seen) (r r' : ItemReader) (number : ℕ) (line : List ℕ) (from transcript : Option Transcript) (log0 log : Option (List ℕ))
-      → (st : Stands tariffs tariff rules rule s old done bad seen r number (line ∷ []) from transcript log0 log)
+  pub stands_more : (s : State) (real : Bool) (old : Devices) (done : List Timed) (bad : Option ℕ) (seen : Seen) (r r' : ItemReader) (number : ℕ) (line : List ℕ) (from transcript : Option Transcript) (log0 log : Option (List ℕ))
+      → (st : Stands tariffs tariff rules rule s real old done bad seen r number (line ∷ []) from transcript log0 log)
       → Holds seen.count (st.pending ++ line ∷ []) r' → StaysIn r.place number st.pending r'.place
-      → Stands tariffs tariff rules rule s old done bad seen r' (number + 1) [] from transcript log0 log
-  stands_more s old done bad seen r r' number line from transcript log0 log st holds stays = record {
+      → Stands tariffs tariff rules rule s real old done bad seen r' (number + 1) [] from transcript log0 log
+  stands_more s real old done bad seen r r' number line from transcript log0 log st holds stays = record {
     so_far = st.so_far;
     going = st.going;
     pending = st.pending ++ line ∷ [];

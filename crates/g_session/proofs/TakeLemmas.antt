@@ -22,11 +22,10 @@ use Rattle.g_ticks.specs.Tick.{IsBetween, left}
 use Rattle.g_ticks.specs.Parts.{Anything, BeginsBy, DidTicks, HasRoom, IsAtRest, Keeps, LinesGo, PartGoesFrom, turn_of}
 use Rattle.g_ticks.proofs.KeepLemmas.{kept_itself}
 use Rattle.g_ticks.proofs.PartLemmas.{arms_more, goes_then, keeps_then, leads_itself, none_arm, part_unclaimed}
-use Rattle.g_ticks.proofs.SurvivingLemmas.{never_runs}
+use Rattle.g_ticks.proofs.SurvivingLemmas.{never_runs, safe_runs}
 use Rattle.g_laws_sessions.specs.Session.{tick_line}
 use Rattle.g_run.specs.NextLine.{DidNext}
 use Rattle.g_run.proofs.AnewLemmas.{first_one, first_well}
-use Rattle.g_run.proofs.NextLemmas.{held_unclaimed}
 use Rattle.g_session.specs.Taking.{DidRest, DidRestAndTell, DidTake}
 
 -- THE COUNT HAS ROOM for what is left to do
@@ -77,7 +76,7 @@ module _ {F U : Type 0} (tariffs : Shared F (Bor Usage × Unit {0}) Charge) (tar
       moves = [];
       next = w;
       added = [];
-      leads = leads_itself tariffs tariff rules rule Never never_runs w s.system m.stands;
+      leads = leads_itself tariffs tariff rules rule SystemSafe safe_runs w s.system m.stands;
       put = (0, omega arith, sym (with_more-nil before));
     };
     keeps = keeps_short failure s faults faults' cause;
@@ -97,7 +96,7 @@ module _ {F U : Type 0} (tariffs : Shared F (Bor Usage × Unit {0}) Charge) (tar
   pub rest_done : (s : Seen) (failure : Option Failure) (new : Seen) (before after : Option (List ℕ)) (faults faults' : ℕ)
       → DidTicks tariffs tariff rules rule IsAtRest None s failure new before after faults faults' → DidRest tariffs tariff rules rule s failure new before after faults faults'
   rest_done s failure new before after faults faults' ticked = record {
-    goes = part_unclaimed tariffs tariff rules rule SystemSafe IsAtRest [] [] s failure new before after (ticked.goes [] refl);
+    goes = ticked.goes [] refl;
     keeps = ticked.keeps;
     grows = ticked.grows;
     aside = λ blank. let (blank_new, went) = ticked.aside blank in (blank_new, went [] refl);
@@ -133,7 +132,7 @@ module _ {F U : Type 0} (tariffs : Shared F (Bor Usage × Unit {0}) Charge) (tar
   pub take_held : (next : Timed) (s : Seen) (failure : Option Failure) (new : Seen) (before after : Option (List ℕ)) (faults faults' : ℕ)
       → DidNext tariffs tariff rules rule next s failure new before after faults faults' → DidTake tariffs tariff rules rule true next s failure new before after faults faults'
   take_held next s failure new before after faults faults' one = record {
-    goes = held_unclaimed tariffs tariff rules rule SystemSafe next s failure new before after one.holds;
+    goes = one.holds;
     keeps = one.did.keeps;
     grows = one.did.grows;
     first = one.first;
@@ -161,19 +160,20 @@ module _ {F U : Type 0} (tariffs : Shared F (Bor Usage × Unit {0}) Charge) (tar
       })
   first_rested next s mid failure new before middle after faults1 faults2 rested (inr took) = inr (λ w m between is.
       let a = took [] w m between is in
-      goes_then tariffs tariff rules rule Never never_runs Anything IsAtRest w [] [] (beside s) mid before middle a failure new after (rested.goes a.next a.matches a.between a.lines))
+      goes_then tariffs tariff rules rule Never never_runs Anything IsAtRest w [] [] (beside s) mid before middle a failure new after
+      (part_unclaimed tariffs tariff rules rule SystemSafe IsAtRest [] [] mid failure new middle after rested.goes a.next a.matches a.between a.lines))
 
   -- one that failed
   pub take_short : (timed : Bool) (next : Timed) (s : Seen) (failure : Failure) (new : Seen) (before after : Option (List ℕ)) (faults faults' : ℕ)
       → DidNext tariffs tariff rules rule next s (Some failure) new before after faults faults' → DidTake tariffs tariff rules rule timed next s (Some failure) new before after faults faults'
   take_short true next s failure new before after faults faults' one = record {
-    goes = held_unclaimed tariffs tariff rules rule SystemSafe next s (Some failure) new before after one.holds;
+    goes = one.holds;
     keeps = one.did.keeps;
     grows = one.did.grows;
     first = one.first;
   }
   take_short false next s failure new before after faults faults' one = record {
-    goes = λ w m between is. part_unclaimed tariffs tariff rules rule SystemSafe Anything (next ∷ []) [] s (Some failure) new before after (one.did.goes []) w m between is;
+    goes = λ w m between is. one.did.goes [] w m between is;
     keeps = one.did.keeps;
     grows = one.did.grows;
     first = λ is blank. cut_rest (first_short next s (Some failure) new before after (one.did.first (first_one next is) blank));
@@ -191,8 +191,8 @@ module _ {F U : Type 0} (tariffs : Shared F (Bor Usage × Unit {0}) Charge) (tar
       → DidTake tariffs tariff rules rule false next s failure new before after faults faults2
   take_rested next s mid failure new before middle after faults faults1 faults2 one rested = record {
     goes = λ w m between is.
-        let a = part_unclaimed tariffs tariff rules rule SystemSafe Anything (next ∷ []) [] s None mid before middle (one.did.goes []) w m between is in
-        goes_then tariffs tariff rules rule Never never_runs Anything IsAtRest w [] [] s mid before middle a failure new after (rested.goes a.next a.matches a.between a.lines);
+        let a = one.did.goes [] w m between is in
+        goes_then tariffs tariff rules rule SystemSafe safe_runs Anything IsAtRest w [] [] s mid before middle a failure new after (rested.goes a.next a.matches a.between a.lines);
     keeps = keeps_then (next ∷ []) [] s mid failure new faults faults1 faults2 one.did.keeps rested.keeps;
     grows = grown_then before middle after one.did.grows rested.grows;
     first = λ is blank. first_rested next s mid failure new before middle after faults1 faults2 rested (one.did.first (first_one next is) blank);

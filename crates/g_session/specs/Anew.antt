@@ -58,17 +58,17 @@ module _ {F U : Type 0} (tariffs : Shared F (Bor Usage × Unit {0}) Charge) (tar
   -- BETWEEN TWO LINES, if no FORMAT took effect
   abbrev pub StandsAside : State → Devices → Option ℕ → Seen → ItemReader → ℕ → Option Transcript → Option Transcript → Option (List ℕ) → Option (List ℕ) → Type 0
   StandsAside s old bad seen reader number from transcript log0 log =
-      (done : List Timed) × NoneYet old done seen × Stands tariffs tariff rules rule s (with_new_disc old) done bad (beside seen) reader number [] from transcript log0 log
+      (done : List Timed) × NoneYet old done seen × Stands tariffs tariff rules rule s false (with_new_disc old) done bad (beside seen) reader number [] from transcript log0 log
 
   -- and in each case
   abbrev pub StandsAnew : State → Devices → Option ℕ → Seen → ItemReader → ℕ → Option Transcript → Option Transcript → Option (List ℕ) → Option (List ℕ) → Type 0
   StandsAnew s old bad seen reader number from transcript log0 log = StandsAside s old bad seen reader number from transcript log0 log
-      ⊎ (((done : List Timed) × Stands tariffs tariff rules rule s (with_new_disc old) done bad seen reader number [] from transcript log0 log)
+      ⊎ (((done : List Timed) × Stands tariffs tariff rules rule s false (with_new_disc old) done bad seen reader number [] from transcript log0 log)
       ⊎ Elsewhere s old seen.system from transcript log0 log)
 
   -- CUT SHORT, if no FORMAT took effect
   abbrev pub BrokenAside : State → Devices → SystemFacts → Option Transcript → Option Transcript → Option (List ℕ) → Option (List ℕ) → Type 0
-  BrokenAside s old system from transcript log0 log = IsBlank system × Broken tariffs tariff rules rule s (with_new_disc old) (beside_new system) from transcript log0 log
+  BrokenAside s old system from transcript log0 log = IsBlank system × Broken tariffs tariff rules rule s false (with_new_disc old) (beside_new system) from transcript log0 log
 
   -- WHAT IS KNOWN AFTER AN EXCHANGE, if the line had this number and no FORMAT took effect
   abbrev pub AfterExchangeAside : State → Devices → Option Transcript → Option (List ℕ) → Course → Option ℕ → Seen → ItemReader → ℕ → Option Transcript → Option (List ℕ) → Type 0
@@ -78,7 +78,7 @@ module _ {F U : Type 0} (tariffs : Shared F (Bor Usage × Unit {0}) Charge) (tar
 
   abbrev pub AfterExchangeAnew : State → Devices → Option Transcript → Option (List ℕ) → Course → Option ℕ → Seen → ItemReader → ℕ → Option Transcript → Option (List ℕ) → Type 0
   AfterExchangeAnew s old from log0 c bad seen reader number transcript log = AfterExchangeAside s old from log0 c bad seen reader number transcript log
-      ⊎ (AfterExchange tariffs tariff rules rule s (with_new_disc old) from log0 c bad seen reader number transcript log
+      ⊎ (AfterExchange tariffs tariff rules rule s false (with_new_disc old) from log0 c bad seen reader number transcript log
       ⊎ Elsewhere s old seen.system from transcript log0 log)
 
   -- ALL LINES THAT CAME are answered
@@ -88,16 +88,16 @@ module _ {F U : Type 0} (tariffs : Shared F (Bor Usage × Unit {0}) Charge) (tar
 
   abbrev pub AfterLinesAnew : State → Devices → Option Transcript → Option (List ℕ) → Course → Option ℕ → Seen → ItemReader → ℕ → Option Transcript → Option (List ℕ) → Type 0
   AfterLinesAnew s old from log0 c bad seen reader number transcript log = AfterLinesAside s old from log0 c bad seen reader number transcript log
-      ⊎ (AfterLines tariffs tariff rules rule s (with_new_disc old) from log0 c bad seen reader number transcript log
+      ⊎ (AfterLines tariffs tariff rules rule s false (with_new_disc old) from log0 c bad seen reader number transcript log
       ⊎ Elsewhere s old seen.system from transcript log0 log)
 
   -- an open document was refused, and the system ran until nothing could step
   abbrev pub RestsAside : State → Devices → Option Transcript → Option (List ℕ) → Course → Option ℕ → Seen → Option Transcript → Option (List ℕ) → Type 0
   RestsAside s old from log0 (course.Breaks failure) bad seen transcript log = BrokenAside s old seen.system from transcript log0 log
   RestsAside s old from log0 other bad seen transcript log =
-      HasEnded other transcript × ((end : AtEnd tariffs tariff rules rule s (with_new_disc old) from log0 bad (beside seen) transcript log) × NoneYet old end.done seen)
+      HasEnded other transcript × ((end : AtEnd tariffs tariff rules rule s false (with_new_disc old) from log0 bad (beside seen) transcript log) × NoneYet old end.done seen)
 
   abbrev pub RestsAnew : State → Devices → Option Transcript → Option (List ℕ) → Course → Option ℕ → Seen → Option Transcript → Option (List ℕ) → Type 0
   RestsAnew s old from log0 c bad seen transcript log = RestsAside s old from log0 c bad seen transcript log
-      ⊎ (RestsAtEnd tariffs tariff rules rule s (with_new_disc old) from log0 c bad seen transcript log
+      ⊎ (RestsAtEnd tariffs tariff rules rule s false (with_new_disc old) from log0 c bad seen transcript log
       ⊎ Elsewhere s old seen.system from transcript log0 log)

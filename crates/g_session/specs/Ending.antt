@@ -1,5 +1,5 @@
 -- THE LINES OF A SESSION, and its end: what the functions between two requests and the end promise. Internal: public contracts cite `Session` only.
-use Rattle.std.specs.Prelude.{◌≡◌, ℕ, List, [], Option, Some, None, option_map}
+use Rattle.std.specs.Prelude.{◌≡◌, ℕ, Bool, List, [], Option, Some, None, option_map}
 use Rattle.std.specs.Fn.{Shared}
 use denote.Ref.{Bor}
 use Rattle.g_rules.specs.declared.tariff.Charge.{Charge}
@@ -15,7 +15,6 @@ use Rattle.g_laws_runs.specs.BeginningAnew.{AreBlank, with_new_disc}
 use Rattle.g_laws_runs.specs.Filestores.{HasFilestore}
 use Rattle.g_day.specs.declared.progress.Failure.{Failure}
 use Rattle.g_day.specs.declared.progress.Failure.TheVariants as failures
-use Rattle.g_day.specs.Losses.{Never}
 use Rattle.g_day.specs.Parts.{Seen, seen}
 use Rattle.g_day.specs.Puts.{FaultCause, Puts}
 use Rattle.g_day.specs.System.{BelongTogether, Down, SameDevices}
@@ -27,8 +26,8 @@ use Rattle.g_laws_sessions.specs.Session.{AlwaysAnswers, or_else, refusal_line}
 use Rattle.g_run.specs.declared.status.Status.{Status}
 use Rattle.g_run.specs.declared.status.Status.TheVariants.{Done, BadScript, ScriptFault, OutputFault, NoMemory}
 use Rattle.g_session.specs.Exchanging.{HasEnded, failure_of}
-use Rattle.g_session.specs.Parts.{Broken, Last, Stands}
-use Rattle.g_session.specs.Session.{EndsAnew, EndsSession, IsOfSession, SessionCause}
+use Rattle.g_session.specs.Parts.{Broken, Claimed, Last, Stands}
+use Rattle.g_session.specs.Session.{EndsAnew, EndsSession, IsOfSession, SessionCause, SessionSurvives}
 use Rattle.g_session.specs.declared.exchange.Course.{Course}
 use Rattle.g_session.specs.declared.exchange.Course.TheVariants as course
 
@@ -82,22 +81,22 @@ DidOpen c other bad course' bad' before after faults faults' = RefusesNone c bad
 
 module _ {F U : Type 0} (tariffs : Shared F (Bor Usage × Unit {0}) Charge) (tariff : F) (rules : Shared U (Bor Standing × Unit {0}) ℕ) (rule : U) where
   -- ALL LINES THAT CAME are answered
-  abbrev pub AfterLines : State → Devices → Option Transcript → Option (List ℕ) → Course → Option ℕ → Seen → ItemReader → ℕ → Option Transcript → Option (List ℕ) → Type 0
-  AfterLines s old from log0 (course.Breaks failure) bad seen reader number transcript log = Broken tariffs tariff rules rule s old seen.system from transcript log0 log
-  AfterLines s old from log0 other bad seen reader number transcript log =
-      HasEnded other transcript × ((done : List Timed) × Stands tariffs tariff rules rule s old done bad seen reader number [] from transcript log0 log)
+  abbrev pub AfterLines : State → Bool → Devices → Option Transcript → Option (List ℕ) → Course → Option ℕ → Seen → ItemReader → ℕ → Option Transcript → Option (List ℕ) → Type 0
+  AfterLines s real old from log0 (course.Breaks failure) bad seen reader number transcript log = Broken tariffs tariff rules rule s real old seen.system from transcript log0 log
+  AfterLines s real old from log0 other bad seen reader number transcript log =
+      HasEnded other transcript × ((done : List Timed) × Stands tariffs tariff rules rule s real old done bad seen reader number [] from transcript log0 log)
 
   -- an open document was refused, and the system ran until nothing could step
-  pub record AtEnd (s : State) (old : Devices) (from : Option Transcript) (log0 : Option (List ℕ)) (bad : Option ℕ) (new : Seen) (transcript : Option Transcript) (log : Option (List ℕ)) : Type 0 where
+  pub record AtEnd (s : State) (real : Bool) (old : Devices) (from : Option Transcript) (log0 : Option (List ℕ)) (bad : Option ℕ) (new : Seen) (transcript : Option Transcript) (log : Option (List ℕ)) : Type 0 where
     pub done : List Timed
     pub was : Seen
     pub middle : Option Transcript
-    pub last : Last tariffs tariff rules rule s old done bad was from middle log0 log
-    pub goes : PartGoesFrom tariffs tariff rules rule Never IsAtRest [] [] was None new (option_map written_of middle) (option_map written_of transcript)
+    pub last : Last tariffs tariff rules rule s real old done bad was from middle log0 log
+    pub goes : PartGoesFrom tariffs tariff rules rule (Claimed real) IsAtRest [] [] was None new (option_map written_of middle) (option_map written_of transcript)
 
-  abbrev pub RestsAtEnd : State → Devices → Option Transcript → Option (List ℕ) → Course → Option ℕ → Seen → Option Transcript → Option (List ℕ) → Type 0
-  RestsAtEnd s old from log0 (course.Breaks failure) bad seen transcript log = Broken tariffs tariff rules rule s old seen.system from transcript log0 log
-  RestsAtEnd s old from log0 other bad seen transcript log = HasEnded other transcript × AtEnd s old from log0 bad seen transcript log
+  abbrev pub RestsAtEnd : State → Bool → Devices → Option Transcript → Option (List ℕ) → Course → Option ℕ → Seen → Option Transcript → Option (List ℕ) → Type 0
+  RestsAtEnd s real old from log0 (course.Breaks failure) bad seen transcript log = Broken tariffs tariff rules rule s real old seen.system from transcript log0 log
+  RestsAtEnd s real old from log0 other bad seen transcript log = HasEnded other transcript × AtEnd s real old from log0 bad seen transcript log
 
   -- A SESSION on some devices: the clauses of `session` but for the fuses
   pub record DidSession (status : Status) (old new : Devices) (from transcript : Option Transcript) (log0 log : Option (List ℕ)) (faults faults' log_faults log_faults' : ℕ) : Type 0 where
@@ -108,6 +107,7 @@ module _ {F U : Type 0} (tariffs : Shared F (Bor Usage × Unit {0}) Charge) (tar
     pub same : SameDevices old new
     pub belongs : BelongTogether old → BelongTogether new
     pub safe : AreSafe old.disc old.rack → AreSafe new.disc new.rack
+    pub survives : AreSafe old.disc old.rack → from ≡ Some blank → (t : Transcript) → transcript ≡ Some t → (s : State) → StandFor old s → SessionSurvives tariffs tariff rules rule s old new t log0 log
     pub dumps : BelongTogether old → DumpsMove old.rack new.rack
     pub stands : BelongTogether old → HasFilestore old → HasFilestore new
     pub anew : from ≡ Some blank → (t : Transcript) → transcript ≡ Some t → AreBlank old → (s : State) → StandFor (with_new_disc old) s → EndsAnew tariffs tariff rules rule status s old new t log0 log

@@ -16,6 +16,7 @@ use Rattle.g_day.specs.declared.progress.Failure.TheVariants as failures
 use Rattle.g_day.specs.BeginningAnew.{IsBlank, beside}
 use Rattle.g_day.specs.Parts.{Matches, Seen}
 use Rattle.g_day.specs.Puts.{Puts, PutsBy}
+use Rattle.g_day.specs.System.{SystemFacts}
 use Rattle.g_ticks.specs.Parts.{IsTimedWithin, Keeps}
 use Rattle.g_typing.specs.declared.item.ItemReader.{ItemReader}
 use Rattle.g_typing.specs.declared.item.Reply.{Reply}
@@ -91,12 +92,12 @@ module _ {F U : Type 0} (tariffs : Shared F (Bor Usage × Unit {0}) Charge) (tar
   DidReply other number old failure new before after faults faults' = (failure ≡ None) × (new ≡ old) × (after ≡ before) × (faults' ≡ faults)
 
   -- the moves and the text of that
-  abbrev pub ReplyGoes : Reply → ℕ → Seen → Option Failure → Seen → Option (List ℕ) → Option (List ℕ) → Type 0
-  ReplyGoes (reply.Item next timed) number old failure new before after = TakesItem tariffs tariff rules rule timed next old failure new before after
-  ReplyGoes reply.Rest number old failure new before after = RestsAndTells tariffs tariff rules rule old failure new before after
-  ReplyGoes (reply.Asked q) number old failure new before after = (new ≡ old) × ((text : List ℕ) × AnswersIn q old text × PutsBy failure text before after)
-  ReplyGoes reply.Refused number old failure new before after = (new ≡ old) × PutsBy failure (refusal_line number) before after
-  ReplyGoes other number old failure new before after = (failure ≡ None) × (new ≡ old) × (after ≡ before)
+  abbrev pub ReplyGoes : (SystemFacts → Type 0) → Reply → ℕ → Seen → Option Failure → Seen → Option (List ℕ) → Option (List ℕ) → Type 0
+  ReplyGoes Safe (reply.Item next timed) number old failure new before after = TakesItem tariffs tariff rules rule Safe timed next old failure new before after
+  ReplyGoes Safe reply.Rest number old failure new before after = RestsAndTells tariffs tariff rules rule Safe old failure new before after
+  ReplyGoes Safe (reply.Asked q) number old failure new before after = (new ≡ old) × ((text : List ℕ) × AnswersIn q old text × PutsBy failure text before after)
+  ReplyGoes Safe reply.Refused number old failure new before after = (new ≡ old) × PutsBy failure (refusal_line number) before after
+  ReplyGoes Safe other number old failure new before after = (failure ≡ None) × (new ≡ old) × (after ≡ before)
 
   pub record DidAnswer (reply : Reply) (number : ℕ) (old : Seen) (c : Course) (new : Seen) (before after : Option (List ℕ)) (faults faults' : ℕ) : Type 0 where
     pub failure : Option Failure
@@ -104,8 +105,8 @@ module _ {F U : Type 0} (tariffs : Shared F (Bor Usage × Unit {0}) Charge) (tar
     pub did : DidReply reply number old failure new before after faults faults'
 
   -- WHAT IS KNOWN AFTER AN EXCHANGE, if the line had this number
-  abbrev pub AfterExchange : State → Devices → Option Transcript → Option (List ℕ) → Course → Option ℕ → Seen → ItemReader → ℕ → Option Transcript → Option (List ℕ) → Type 0
-  AfterExchange s old from log0 course.Goes bad seen reader number transcript log = (done : List Timed) × Stands tariffs tariff rules rule s old done bad seen reader (number + 1) [] from transcript log0 log
-  AfterExchange s old from log0 (course.Breaks failure) bad seen reader number transcript log = Broken tariffs tariff rules rule s old seen.system from transcript log0 log
-  AfterExchange s old from log0 other bad seen reader number transcript log =
-      HasEnded other transcript × ((done : List Timed) × Stands tariffs tariff rules rule s old done bad seen reader number [] from transcript log0 log)
+  abbrev pub AfterExchange : State → Bool → Devices → Option Transcript → Option (List ℕ) → Course → Option ℕ → Seen → ItemReader → ℕ → Option Transcript → Option (List ℕ) → Type 0
+  AfterExchange s real old from log0 course.Goes bad seen reader number transcript log = (done : List Timed) × Stands tariffs tariff rules rule s real old done bad seen reader (number + 1) [] from transcript log0 log
+  AfterExchange s real old from log0 (course.Breaks failure) bad seen reader number transcript log = Broken tariffs tariff rules rule s real old seen.system from transcript log0 log
+  AfterExchange s real old from log0 other bad seen reader number transcript log =
+      HasEnded other transcript × ((done : List Timed) × Stands tariffs tariff rules rule s real old done bad seen reader number [] from transcript log0 log)

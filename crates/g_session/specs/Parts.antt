@@ -1,4 +1,4 @@
--- PARTS OF A SESSION: what is known between two lines, and after a failure. Internal: public contracts cite `Session` only.
+-- PARTS OF A SESSION: what is known between two lines, and after a failure, and what a power loss leaves then. Internal: public contracts cite `Session` only.
 use Rattle.std.specs.Prelude.{◌≡◌, ◌≢◌, ◌⊎◌, ◌+◌, ◌≤◌, ℕ, Bool, true, false, List, [], ◌++◌, length, map, take, All, Option, Some, None, codes}
 use Rattle.std.specs.List.{flat_map}
 use Rattle.std.specs.Fn.{Shared}
@@ -17,16 +17,22 @@ use Rattle.g_run_model.specs.Devices.{Devices}
 use Rattle.g_run_model.specs.Moves.{Move, MovesCounted, Run}
 use Rattle.g_run_model.specs.World.{World, start}
 use Rattle.g_day.specs.Parts.{Matches, Seen}
-use Rattle.g_day.specs.System.{StandsAs, SystemFacts, devices_in}
+use Rattle.g_day.specs.Losses.{LeftAfter, Never}
+use Rattle.g_day.specs.System.{Down, StandsAs, SystemFacts, SystemSafe, devices_in}
 use Rattle.g_ticks.specs.Tick.{IsBetween}
 use Rattle.g_typing.specs.Reader.{Holds, is_skipped}
 use Rattle.g_typing.specs.declared.item.ItemReader.{ItemReader}
 use Rattle.g_typing.specs.declared.item.Place.TheVariants as place
 use Rattle.g_laws_sessions.specs.Session.{AlwaysAnswers, Comes, Exchanges, IsOwed, Moment, first_refused, is_over, is_skipping, items_of, script_of, taken}
 
+-- The systems for which it is stated what a power loss leaves: the safe ones; none if the disc is only imagined, as when starting over.
+abbrev pub Claimed : Bool → SystemFacts → Type 0
+Claimed true = SystemSafe
+Claimed false = Never
+
 module _ {F U : Type 0} (tariffs : Shared F (Bor Usage × Unit {0}) Charge) (tariff : F) (rules : Shared U (Bor Standing × Unit {0}) ℕ) (rule : U) where
   -- THE EXCHANGES SO FAR, from a state for which the devices stood when the session began
-  pub record SoFar (s : State) (old : Devices) (done : List Timed) (bad : Option ℕ) (seen : Seen) (log0 log : Option (List ℕ)) : Type 0 where
+  pub record SoFar (s : State) (real : Bool) (old : Devices) (done : List Timed) (bad : Option ℕ) (seen : Seen) (log0 log : Option (List ℕ)) : Type 0 where
     pub said : Exchanges
     pub now : Moment
     pub comes : Comes tariffs tariff rules rule s said now
@@ -38,11 +44,13 @@ module _ {F U : Type 0} (tariffs : Shared F (Bor Usage × Unit {0}) Charge) (tar
     pub first : bad ≡ first_refused said
     pub log_is : log ≡ with_more log0 (script_of said)
     pub one_lines : All IsOneLine (flat_map item_lines (items_of said))
+    pub safe : Claimed real (Down old) → Claimed real seen.system
+    pub left : Claimed real (Down old) → LeftAfter tariffs tariff rules rule (start (taken said) None s) now.moves now.world (Down old) seen.system
 
   -- BETWEEN TWO LINES: these lines came and were not replied to. The transcript matters if the console exposed a blank one when the session began.
-  pub record Stands (s : State) (old : Devices) (done : List Timed) (bad : Option ℕ) (seen : Seen) (reader : ItemReader) (number : ℕ) (unreplied : List (List ℕ))
+  pub record Stands (s : State) (real : Bool) (old : Devices) (done : List Timed) (bad : Option ℕ) (seen : Seen) (reader : ItemReader) (number : ℕ) (unreplied : List (List ℕ))
       (from transcript : Option Transcript) (log0 log : Option (List ℕ)) : Type 0 where
-    pub so_far : SoFar s old done bad seen log0 log
+    pub so_far : SoFar s real old done bad seen log0 log
     pub going : is_over so_far.said ≡ false
     pub pending : List (List ℕ)
     pub holds : Holds seen.count pending reader
@@ -55,8 +63,8 @@ module _ {F U : Type 0} (tariffs : Shared F (Bor Usage × Unit {0}) Charge) (tar
     pub printed : from ≡ Some blank → (t : Transcript) → transcript ≡ Some t → All (λ (r : Request). r.printed ≤ length t.text) t.requests
 
   -- NO MORE LINES ARE REQUESTED: of the lines that were typed, only a document that is skipped has no exchange
-  pub record Last (s : State) (old : Devices) (done : List Timed) (bad : Option ℕ) (seen : Seen) (from transcript : Option Transcript) (log0 log : Option (List ℕ)) : Type 0 where
-    pub so_far : SoFar s old done bad seen log0 log
+  pub record Last (s : State) (real : Bool) (old : Devices) (done : List Timed) (bad : Option ℕ) (seen : Seen) (from transcript : Option Transcript) (log0 log : Option (List ℕ)) : Type 0 where
+    pub so_far : SoFar s real old done bad seen log0 log
     pub skipped : List (List ℕ)
     pub rest_is : (is_skipping so_far.said ≡ false → skipped ≡ []) × All (λ line. line ≢ codes "****") skipped
     pub lines : from ≡ Some blank → (t : Transcript) → transcript ≡ Some t → lines_typed t.requests ≡ so_far.now.lines ++ skipped
@@ -65,7 +73,7 @@ module _ {F U : Type 0} (tariffs : Shared F (Bor Usage × Unit {0}) Charge) (tar
     pub printed : from ≡ Some blank → (t : Transcript) → transcript ≡ Some t → All (λ (r : Request). r.printed ≤ length t.text) t.requests
 
   -- CUT SHORT, before the system is taken down
-  pub record Broken (s : State) (old : Devices) (system : SystemFacts) (from transcript : Option Transcript) (log0 log : Option (List ℕ)) : Type 0 where
+  pub record Broken (s : State) (real : Bool) (old : Devices) (system : SystemFacts) (from transcript : Option Transcript) (log0 log : Option (List ℕ)) : Type 0 where
     pub said : Exchanges
     pub now : Moment
     pub comes : Comes tariffs tariff rules rule s said now
@@ -85,3 +93,5 @@ module _ {F U : Type 0} (tariffs : Shared F (Bor Usage × Unit {0}) Charge) (tar
     pub answers : from ≡ Some blank → (t : Transcript) → transcript ≡ Some t → AlwaysAnswers tariffs tariff rules rule s t
     pub log_is : (log ≡ with_more log0 (script_of said ++ text_of (flat_map item_lines more)))
         ⊎ ((more ≡ []) × ((next : WrittenItem) × (k : ℕ) × (log ≡ with_more log0 (script_of said ++ take k (text_of (item_lines next))))))
+    pub safe : Claimed real (Down old) → Claimed real system
+    pub left : Claimed real (Down old) → LeftAfter tariffs tariff rules rule (start (taken said ++ map timed_said more) None s) moves last (Down old) system

@@ -1,5 +1,5 @@
 -- How a session ends, with each status, and which faults it has.
-use Rattle.std.specs.Prelude.{◌≡◌, ◌⊎◌, ℕ, false, List, [], ◌∷◌, ◌++◌, Option, Some, None}
+use Rattle.std.specs.Prelude.{◌≡◌, ◌⊎◌, ℕ, false, List, [], ◌∷◌, ◌++◌, map, Option, Some, None}
 use Rattle.std.specs.Fn.{Shared}
 use denote.Ref.{Bor}
 use Rattle.g_base.specs.Counts.{Rose}
@@ -12,7 +12,9 @@ use Rattle.g_script.specs.Script.{WrittenItem, timed_said}
 use Rattle.g_script.specs.declared.operator.Timed.{Timed}
 use Rattle.g_store_model.specs.State.{State}
 use Rattle.g_run_model.specs.Devices.{Devices}
+use Rattle.g_run_model.specs.Losses.{SurvivesLoss}
 use Rattle.g_run_model.specs.Top.{RunOf}
+use Rattle.g_run_model.specs.World.{start}
 use Rattle.g_typing.specs.Typed.{IsTyped, When}
 use Rattle.g_laws_runs.specs.BeginningAnew.{AreBlank, BeginAnew, NoDiscFault, is_first, with_new_disc}
 use Rattle.g_laws_sessions.specs.Session.{AlwaysAnswers, Comes, Exchanges, IsCutShort, IsOver, Moment, script_of, taken}
@@ -41,6 +43,13 @@ module _ {F U : Type 0} (tariffs : Shared F (Bor Usage × Unit {0}) Charge) (tar
   EndsSession OutputFault s old new t before after = IsCutShort tariffs tariff rules rule s old new t before after
   EndsSession NoMemory s old new t before after = IsCutShort tariffs tariff rules rule s old new t before after
   EndsSession status s old new t before after = ⊥
+
+  -- WHICH STATE A POWER LOSS LEAVES after a session, with each status. The items that were taken, and perhaps the next one, are a script; its run was
+  -- done as far as these moves, and a prefix of what they owe was printed. Whatever a power loss leaves then represents a state that it may leave after
+  -- these moves, or one like it.
+  abbrev pub SessionSurvives : State → Devices → Devices → Transcript → Option (List ℕ) → Option (List ℕ) → Type 0
+  SessionSurvives s old new t before after = (cut : IsCutShort tariffs tariff rules rule s old new t before after)
+      × SurvivesLoss tariffs tariff rules rule (start (taken cut.said ++ map timed_said cut.more) None s) cut.moves cut.last old new
 
 -- the counts of faults of console and log rise only with their own statuses; memory may run out after a request failed
 abbrev pub SessionCause : Status → ℕ → ℕ → ℕ → ℕ → Type 0

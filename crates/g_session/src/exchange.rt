@@ -1,5 +1,5 @@
 //! One exchange of a session: a line is requested and answered.
-ghost use Rattle.std.specs.Prelude.{◌≡◌, ◌+◌, ◌<◌, ◌≤◌, ℕ, List, [], Option};
+ghost use Rattle.std.specs.Prelude.{◌≡◌, ◌+◌, ◌<◌, ◌≤◌, ℕ, Bool, List, [], Option};
 ghost use Rattle.g_rules.specs.Tariff.{IsTariff};
 ghost use Rattle.g_console.specs.Transcript.{Transcript};
 ghost use Rattle.g_day.specs.Parts.{IsReady};
@@ -84,9 +84,9 @@ pub(crate) fn exchange<
     ensures typed { result.course ≡ Course.Goes → (lines : List (List ℕ)) × Holds result.day.count lines result.reader }
     ensures keeps { KeepsOne talk.day result.course result.day }
     ensures cause { CourseCause result.course (C.faults console.old) (C.faults console.new) (L.faults log.old) (L.faults log.new) }
-    ensures said { (s : State) (old : Devices) (done : List Timed) (from : Option Transcript) (log0 : Option (List ℕ))
-        → Stands F.Fn rules.now.tariff.now U.Fn rules.now.weigh.now s old done talk.bad talk.day talk.reader talk.number [] from (C.transcript console.old) log0 (L.written log.old)
-        → AfterExchange F.Fn rules.now.tariff.now U.Fn rules.now.weigh.now s old from log0 result.course result.bad result.day result.reader talk.number (C.transcript console.new) (L.written log.new) }
+    ensures said { (s : State) (real : Bool) (old : Devices) (done : List Timed) (from : Option Transcript) (log0 : Option (List ℕ))
+        → Stands F.Fn rules.now.tariff.now U.Fn rules.now.weigh.now s real old done talk.bad talk.day talk.reader talk.number [] from (C.transcript console.old) log0 (L.written log.old)
+        → AfterExchange F.Fn rules.now.tariff.now U.Fn rules.now.weigh.now s real old from log0 result.course result.bad result.day result.reader talk.number (C.transcript console.new) (L.written log.new) }
     ensures anew { (s : State) (old : Devices) (from : Option Transcript) (log0 : Option (List ℕ))
         → StandsAnew F.Fn rules.now.tariff.now U.Fn rules.now.weigh.now s old talk.bad talk.day talk.reader talk.number from (C.transcript console.old) log0 (L.written log.old)
         → AfterExchangeAnew F.Fn rules.now.tariff.now U.Fn rules.now.weigh.now s old from log0 result.course result.bad result.day result.reader talk.number (C.transcript console.new) (L.written log.new) }

@@ -1,5 +1,5 @@
 //! The top call of a session: what is typed is done line by line, and then the system runs to its end.
-ghost use Rattle.std.specs.Prelude.{◌≡◌, ◌+◌, ◌<◌, ◌≤◌, ℕ, List, [], Option, Some, None};
+ghost use Rattle.std.specs.Prelude.{◌≡◌, ◌+◌, ◌<◌, ◌≤◌, ℕ, Bool, List, [], Option, Some, None};
 ghost use Rattle.g_rules.specs.Tariff.{IsTariff};
 ghost use Rattle.g_console.specs.Transcript.{Transcript, blank};
 ghost use Rattle.g_day.specs.Parts.{IsReady, Seen};
@@ -22,7 +22,7 @@ ghost use Rattle.g_session.specs.Ending as ending;
 ghost use Rattle.g_session.specs.Ending.{AfterLines, DidOpen, DidSession, EndCause, KeepsMany, RestsAtEnd, first_seen};
 ghost use Rattle.g_session.specs.Exchanging.{CourseCause, failure_of};
 ghost use Rattle.g_session.specs.Parts.{Stands};
-ghost use Rattle.g_session.specs.Session.{EndsAnew, EndsSession, IsOfSession, SessionCause};
+ghost use Rattle.g_session.specs.Session.{EndsAnew, EndsSession, IsOfSession, SessionCause, SessionSurvives};
 ghost use Rattle.g_session.specs.Standing.{rack_serials, serials_in};
 
 use crate::answering::serials_of;
@@ -94,6 +94,12 @@ pub fn session<
     ensures stands { BelongTogether (both (D.state disc) (T.rack tapes)) → HasFilestore (both (D.state disc) (T.rack tapes))
         → HasFilestore (both (D.state result.disc) (T.rack result.tapes)) }
     ensures safe { AreSafe (D.state disc) (T.rack tapes) → AreSafe (D.state result.disc) (T.rack result.tapes) }
+
+    // With every status, if the devices are safe, also for a session that was cut short: whatever a power loss leaves of them represents a state
+    // that may be left after the lines whose answers were printed, whole or in part.
+    ensures survives { AreSafe (D.state disc) (T.rack tapes) → C.transcript console.old ≡ Some blank → (t : Transcript) → C.transcript console.new ≡ Some t
+        → (s : State) → StandFor (both (D.state disc) (T.rack tapes)) s
+        → SessionSurvives F.Fn tariff.now U.Fn weigh.now s (both (D.state disc) (T.rack tapes)) (both (D.state result.disc) (T.rack result.tapes)) t (L.written log.old) (L.written log.new) }
 {
     let rules = Rules { tariff, weigh };
     match in_boxes(alloc, (disc, tapes)) {
@@ -242,9 +248,9 @@ fn answer_lines<
     requires rule { IsWeighRule U.Fn rules.now.weigh.now }
     ensures keeps { KeepsMany talk.day result.course result.day }
     ensures cause { CourseCause result.course (C.faults console.old) (C.faults console.new) (L.faults log.old) (L.faults log.new) }
-    ensures said { (s : State) (old : Devices) (done : List Timed) (from : Option Transcript) (log0 : Option (List ℕ))
-        → Stands F.Fn rules.now.tariff.now U.Fn rules.now.weigh.now s old done talk.bad talk.day talk.reader talk.number [] from (C.transcript console.old) log0 (L.written log.old)
-        → AfterLines F.Fn rules.now.tariff.now U.Fn rules.now.weigh.now s old from log0 result.course result.bad result.day result.reader result.number (C.transcript console.new) (L.written log.new) }
+    ensures said { (s : State) (real : Bool) (old : Devices) (done : List Timed) (from : Option Transcript) (log0 : Option (List ℕ))
+        → Stands F.Fn rules.now.tariff.now U.Fn rules.now.weigh.now s real old done talk.bad talk.day talk.reader talk.number [] from (C.transcript console.old) log0 (L.written log.old)
+        → AfterLines F.Fn rules.now.tariff.now U.Fn rules.now.weigh.now s real old from log0 result.course result.bad result.day result.reader result.number (C.transcript console.new) (L.written log.new) }
     ensures anew { (s : State) (old : Devices) (from : Option Transcript) (log0 : Option (List ℕ))
         → StandsAnew F.Fn rules.now.tariff.now U.Fn rules.now.weigh.now s old talk.bad talk.day talk.reader talk.number from (C.transcript console.old) log0 (L.written log.old)
         → AfterLinesAnew F.Fn rules.now.tariff.now U.Fn rules.now.weigh.now s old from log0 result.course result.bad result.day result.reader result.number (C.transcript console.new) (L.written log.new) }
@@ -273,9 +279,9 @@ fn end_session<C: Console, D: Disc, T: Tapes, F: Fn(&Usage) -> Charge, U: Fn(&St
     requires rule { IsWeighRule U.Fn rules.now.weigh.now }
     ensures keeps { (start : Seen) → KeepsMany start talk.course talk.day → KeepsMany start result.course result.day }
     ensures cause { EndCause talk.course result.course (C.faults console.old) (C.faults console.new) }
-    ensures said { (s : State) (old : Devices) (from : Option Transcript) (log0 log : Option (List ℕ))
-        → AfterLines F.Fn rules.now.tariff.now U.Fn rules.now.weigh.now s old from log0 talk.course talk.bad talk.day talk.reader talk.number (C.transcript console.old) log
-        → RestsAtEnd F.Fn rules.now.tariff.now U.Fn rules.now.weigh.now s old from log0 result.course result.bad result.day (C.transcript console.new) log }
+    ensures said { (s : State) (real : Bool) (old : Devices) (from : Option Transcript) (log0 log : Option (List ℕ))
+        → AfterLines F.Fn rules.now.tariff.now U.Fn rules.now.weigh.now s real old from log0 talk.course talk.bad talk.day talk.reader talk.number (C.transcript console.old) log
+        → RestsAtEnd F.Fn rules.now.tariff.now U.Fn rules.now.weigh.now s real old from log0 result.course result.bad result.day (C.transcript console.new) log }
     ensures anew { (s : State) (old : Devices) (from : Option Transcript) (log0 log : Option (List ℕ))
         → AfterLinesAnew F.Fn rules.now.tariff.now U.Fn rules.now.weigh.now s old from log0 talk.course talk.bad talk.day talk.reader talk.number (C.transcript console.old) log
         → RestsAnew F.Fn rules.now.tariff.now U.Fn rules.now.weigh.now s old from log0 result.course result.bad result.day (C.transcript console.new) log }

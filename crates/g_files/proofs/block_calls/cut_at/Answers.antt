@@ -1,4 +1,5 @@
 use Rattle.std.proofs.Common.{ℕ, ◌*◌, ◌≤◌, List, length}
+use Rattle.g_files.proofs.FaultLemmas.{counted}
 use Rattle.g_files.proofs.FrontLemmas.{changes_to, set_cuts, set_long}
 use Rattle.g_files.proofs.block_calls.cut_at.Goals as goal
 
@@ -13,3 +14,6 @@ pub returns-clause-done : goal.returns-clause-done
 returns-clause-done g c =
     let content = g.F.RawFile.content in
     set_long (512 * c.args.k) c.set_len.result (content c.args.file.now) (content c.set_len.new.self) (rw c.start_of.ensures at c.set_len.ensures.cut)
+
+pub returns-clause-cause : goal.returns-clause-cause
+returns-clause-cause g c = counted c.set_len.result _ _ c.set_len.ensures.cause

@@ -1,3 +1,4 @@
+use Rattle.g_program.proofs.DemoLemmas.{session_isnt_demo}
 use Rattle.g_program.proofs.WordLemmas.{not_check, not_run}
 use Rattle.g_program.proofs.answer.answer.Goals as goal
 
@@ -10,6 +11,9 @@ returns-in-Some-clause-known c = λ is. absurd (not_run c.args.words.now c.in-So
 
 pub returns-in-Some-clause-check : goal.returns-in-Some-clause-check
 returns-in-Some-clause-check c = λ is. absurd (not_check c.args.words.now c.in-Some.ensures is)
+
+pub returns-in-Some-clause-demo : goal.returns-in-Some-clause-demo
+returns-in-Some-clause-demo c = λ demo is asks. absurd (session_isnt_demo c.args.words.now demo c.in-Some.ensures asks)
 
 pub returns-in-None-clause-console : goal.returns-in-None-clause-console
 returns-in-None-clause-console c = λ is. absurd (c.in-None.ensures is)

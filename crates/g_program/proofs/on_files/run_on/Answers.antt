@@ -1,7 +1,4 @@
 use Rattle.std.proofs.Common.{rules, ◌≡◌}
-use Rattle.g_files.specs.FileDisc.{disc_state}
-use Rattle.g_files.specs.FileTapes.{rack_of}
-use Rattle.g_run.specs.ScriptEnd.{both}
 use Rattle.g_program.proofs.SafeLemmas.{closed_safe}
 use Rattle.g_program.proofs.on_files.run_on.Goals as goal
 
@@ -10,7 +7,8 @@ returns g c =
     let of_run = c.run_by_rules-finish.ensures in
     record {
       runs = record {
-        left = both (disc_state c.run_by_rules-finish.result.disc) (rack_of c.run_by_rules-finish.result.tapes);
+        left_disc = c.run_by_rules-finish.result.disc;
+        left_tapes = c.run_by_rules-finish.result.tapes;
         runs = record {
           known = of_run.known (search rules);
           long = λ left told. of_run.long left told (search rules);
@@ -32,9 +30,7 @@ returns g c =
           safe = of_run.safe;
           survives = of_run.survives (search rules);
         };
-        disc = c.close-closed.ensures.disc;
-        rack = c.close-closed.ensures.rack;
-        holds = c.close-closed.ensures.holds;
-        safe = λ safe. closed_safe _ _ _ _ c.close-closed.ensures.disc c.close-closed.ensures.rack (of_run.safe safe);
+        closes = c.close-closed.ensures.closes;
+        safe = λ safe. closed_safe _ _ _ _ c.close-closed.ensures.closes.disc c.close-closed.ensures.closes.rack (of_run.safe safe);
       };
     }

@@ -27,7 +27,7 @@ lines-init g c = record {
   keeps = many_none course.Goes c.args.talk.day refl c.requires.ready c.requires.open;
   faults = refl;
   log_faults = refl;
-  said = λ s old done from log0 st. (done, st);
+  said = λ s real old done from log0 st. (done, st);
   anew = λ s old from log0 st. st;
 }
 
@@ -38,10 +38,10 @@ pub returns-in_default-clause-keeps : goal.returns-in_default-clause-keeps
 returns-in_default-clause-keeps g c = many_more c.args.talk.day c.lines.talk.day course.Goes c.exchange-talk.result.course c.exchange-talk.result.day refl c.lines.invariant.keeps c.exchange-talk.ensures.keeps
 
 pub returns-in_default-clause-said : goal.returns-in_default-clause-said
-returns-in_default-clause-said g c = λ s old done from log0 st.
-    let (more, st1) = c.lines.invariant.said s old done from log0 st in
-    lines_stop g.F.Fn c.args.rules.now.tariff.now g.U.Fn c.args.rules.now.weigh.now s old from log0 c.exchange-talk.result.course c.exchange-talk.result.bad c.exchange-talk.result.day c.exchange-talk.result.reader c.lines.talk.number c.exchange-talk.result.number
-    (g.C.Console.transcript c.exchange-talk.new.console) (g.L.Sink.written c.exchange-talk.new.log) c.in_default.not-Goes c.exchange-talk.ensures.number (c.exchange-talk.ensures.said s old more from log0 st1)
+returns-in_default-clause-said g c = λ s real old done from log0 st.
+    let (more, st1) = c.lines.invariant.said s real old done from log0 st in
+    lines_stop g.F.Fn c.args.rules.now.tariff.now g.U.Fn c.args.rules.now.weigh.now s real old from log0 c.exchange-talk.result.course c.exchange-talk.result.bad c.exchange-talk.result.day c.exchange-talk.result.reader c.lines.talk.number c.exchange-talk.result.number
+    (g.C.Console.transcript c.exchange-talk.new.console) (g.L.Sink.written c.exchange-talk.new.log) c.in_default.not-Goes c.exchange-talk.ensures.number (c.exchange-talk.ensures.said s real old more from log0 st1)
 
 pub lines-preserved : goal.lines-preserved
 lines-preserved g c =
@@ -63,12 +63,12 @@ lines-preserved g c =
           (many_more c.args.talk.day c.lines.talk.day course.Goes c.exchange-talk.result.course c.exchange-talk.result.day refl c.lines.invariant.keeps one);
       faults = cause.0 ∙ c.lines.invariant.faults;
       log_faults = cause.1 ∙ c.lines.invariant.log_faults;
-      said = λ s old done from log0 st.
-          let (more, st1) = c.lines.invariant.said s old done from log0 st in
-          let (all, st2) = subst (λ (k : Course). AfterExchange g.F.Fn c.args.rules.now.tariff.now g.U.Fn c.args.rules.now.weigh.now s old from log0 k c.exchange-talk.result.bad c.exchange-talk.result.day c.exchange-talk.result.reader c.lines.talk.number
-          (g.C.Console.transcript c.exchange-talk.new.console) (g.L.Sink.written c.exchange-talk.new.log)) goes (c.exchange-talk.ensures.said s old more from log0 st1) in (
+      said = λ s real old done from log0 st.
+          let (more, st1) = c.lines.invariant.said s real old done from log0 st in
+          let (all, st2) = subst (λ (k : Course). AfterExchange g.F.Fn c.args.rules.now.tariff.now g.U.Fn c.args.rules.now.weigh.now s real old from log0 k c.exchange-talk.result.bad c.exchange-talk.result.day c.exchange-talk.result.reader c.lines.talk.number
+          (g.C.Console.transcript c.exchange-talk.new.console) (g.L.Sink.written c.exchange-talk.new.log)) goes (c.exchange-talk.ensures.said s real old more from log0 st1) in (
             all,
-            subst (λ (n : ℕ). Stands g.F.Fn c.args.rules.now.tariff.now g.U.Fn c.args.rules.now.weigh.now s old all c.exchange-talk.result.bad c.exchange-talk.result.day c.exchange-talk.result.reader (n + 1) [] from
+            subst (λ (n : ℕ). Stands g.F.Fn c.args.rules.now.tariff.now g.U.Fn c.args.rules.now.weigh.now s real old all c.exchange-talk.result.bad c.exchange-talk.result.day c.exchange-talk.result.reader (n + 1) [] from
                 (g.C.Console.transcript c.exchange-talk.new.console) log0 (g.L.Sink.written c.exchange-talk.new.log)) (sym c.exchange-talk.ensures.number) st2,
           );
       anew = λ s old from log0 st.
@@ -80,9 +80,9 @@ lines-preserved g c =
     }
 
 pub returns-clause-said : goal.returns-clause-said
-returns-clause-said g c = λ s old done from log0 st.
-    let (more, st1) = c.lines.invariant.said s old done from log0 st in
-    broken_short g.F.Fn c.args.rules.now.tariff.now g.U.Fn c.args.rules.now.weigh.now s old more c.lines.talk.bad c.lines.talk.day c.lines.talk.reader c.lines.talk.number [] from (g.C.Console.transcript c.lines.console) log0 (g.L.Sink.written c.lines.log) st1
+returns-clause-said g c = λ s real old done from log0 st.
+    let (more, st1) = c.lines.invariant.said s real old done from log0 st in
+    broken_short g.F.Fn c.args.rules.now.tariff.now g.U.Fn c.args.rules.now.weigh.now s real old more c.lines.talk.bad c.lines.talk.day c.lines.talk.reader c.lines.talk.number [] from (g.C.Console.transcript c.lines.console) log0 (g.L.Sink.written c.lines.log) st1
 
 pub returns-clause-anew : goal.returns-clause-anew
 returns-clause-anew g c = λ s old from log0 st.

@@ -1,5 +1,5 @@
 -- The lines so far, none of which broke off the session.
-use Rattle.std.proofs.Common.{◌≡◌, ◌-◌, ◌≤◌, ℕ, List, [], Option}
+use Rattle.std.proofs.Common.{◌≡◌, ◌-◌, ◌≤◌, ℕ, Bool, List, [], Option}
 use Rattle.g_console.specs.Transcript.{Transcript}
 use Rattle.g_day.specs.Parts.{IsReady}
 use Rattle.g_job_table.specs.Numbers.{AreOpen}
@@ -24,9 +24,9 @@ invariant-lines g l = record {
   keeps : KeepsMany l.fn.talk.day course.Goes l.talk.day;
   faults : g.C.Sink.faults l.console ≡ g.C.Sink.faults l.fn.console;
   log_faults : g.L.Sink.faults l.log ≡ g.L.Sink.faults l.fn.log;
-  said : (s : State) (old : Devices) (done : List Timed) (from : Option Transcript) (log0 : Option (List ℕ))
-      → Stands g.F.Fn l.rules.tariff.now g.U.Fn l.rules.weigh.now s old done l.fn.talk.bad l.fn.talk.day l.fn.talk.reader l.fn.talk.number [] from (g.C.Console.transcript l.fn.console) log0 (g.L.Sink.written l.fn.log)
-      → (more : List Timed) × Stands g.F.Fn l.rules.tariff.now g.U.Fn l.rules.weigh.now s old more l.talk.bad l.talk.day l.talk.reader l.talk.number [] from (g.C.Console.transcript l.console) log0 (g.L.Sink.written l.log);
+  said : (s : State) (real : Bool) (old : Devices) (done : List Timed) (from : Option Transcript) (log0 : Option (List ℕ))
+      → Stands g.F.Fn l.rules.tariff.now g.U.Fn l.rules.weigh.now s real old done l.fn.talk.bad l.fn.talk.day l.fn.talk.reader l.fn.talk.number [] from (g.C.Console.transcript l.fn.console) log0 (g.L.Sink.written l.fn.log)
+      → (more : List Timed) × Stands g.F.Fn l.rules.tariff.now g.U.Fn l.rules.weigh.now s real old more l.talk.bad l.talk.day l.talk.reader l.talk.number [] from (g.C.Console.transcript l.console) log0 (g.L.Sink.written l.log);
   anew : (s : State) (old : Devices) (from : Option Transcript) (log0 : Option (List ℕ))
       → StandsAnew g.F.Fn l.rules.tariff.now g.U.Fn l.rules.weigh.now s old l.fn.talk.bad l.fn.talk.day l.fn.talk.reader l.fn.talk.number from (g.C.Console.transcript l.fn.console) log0 (g.L.Sink.written l.fn.log)
       → StandsAnew g.F.Fn l.rules.tariff.now g.U.Fn l.rules.weigh.now s old l.talk.bad l.talk.day l.talk.reader l.talk.number from (g.C.Console.transcript l.console) log0 (g.L.Sink.written l.log);

@@ -1,4 +1,4 @@
-use Rattle.std.proofs.Common.{◌≡◌, ◌++◌, ℕ, List, [], Option, None, refl, sym, ◌∙◌, ap, subst}
+use Rattle.std.proofs.Common.{◌≡◌, ◌++◌, ℕ, true, List, [], Option, None, refl, sym, ◌∙◌, ap, subst}
 use Rattle.g_day.specs.declared.progress.Failure.{Failure}
 use Rattle.g_day.specs.Parts.{Seen}
 use Rattle.g_run.specs.ScriptEnd.{ClosesBy, both}
@@ -22,9 +22,9 @@ returns g c =
     (did_session g.F.Fn c.args.rules.now.tariff.now g.U.Fn c.args.rules.now.weigh.now old _ (g.C.Console.transcript c.args.console.now) (g.C.Console.transcript c.end_session-talk.new.console) (g.C.Console.transcript c.close-failure.new.out)
     (g.L.Sink.written c.args.log.now) (g.L.Sink.written c.answer_lines-talk.new.log) c.answer_lines-talk.result.course c.end_session-talk.result.course c.end_session-talk.result.bad c.end_session-talk.result.day
     c.close-failure.result _ _ _ _ _ _ _ _ (g.met.C.Console.exposed c.end_session-talk.new.console) (g.met.C.Console.exposed c.close-failure.new.out)
-    (λ s stand. c.end_session-talk.ensures.said s old (g.C.Console.transcript c.args.console.now) (g.L.Sink.written c.args.log.now) (g.L.Sink.written c.answer_lines-talk.new.log)
-    (c.answer_lines-talk.ensures.said s old [] (g.C.Console.transcript c.args.console.now) (g.L.Sink.written c.args.log.now)
-    (stands_start g.F.Fn c.args.rules.now.tariff.now g.U.Fn c.args.rules.now.weigh.now s old (g.C.Console.transcript c.args.console.now) (g.L.Sink.written c.args.log.now) c.first_talk.result.bad c.first_talk.result.day c.first_talk.result.reader c.first_talk.result.number stand
+    (λ s stand. c.end_session-talk.ensures.said s true old (g.C.Console.transcript c.args.console.now) (g.L.Sink.written c.args.log.now) (g.L.Sink.written c.answer_lines-talk.new.log)
+    (c.answer_lines-talk.ensures.said s true old [] (g.C.Console.transcript c.args.console.now) (g.L.Sink.written c.args.log.now)
+    (stands_start g.F.Fn c.args.rules.now.tariff.now g.U.Fn c.args.rules.now.weigh.now s true old (g.C.Console.transcript c.args.console.now) (g.L.Sink.written c.args.log.now) c.first_talk.result.bad c.first_talk.result.day c.first_talk.result.reader c.first_talk.result.number stand
     c.first_talk.ensures.bad c.first_talk.ensures.day c.first_talk.ensures.reader c.first_talk.ensures.number)))
     (λ s stand blank. c.end_session-talk.ensures.anew s old (g.C.Console.transcript c.args.console.now) (g.L.Sink.written c.args.log.now) (g.L.Sink.written c.answer_lines-talk.new.log)
     (c.answer_lines-talk.ensures.anew s old (g.C.Console.transcript c.args.console.now) (g.L.Sink.written c.args.log.now)

@@ -1,6 +1,7 @@
-use Rattle.std.proofs.Common.{◌≡◌, ◌-◌, ◌*◌, length, arith, length-take, sym, ◌∙◌}
+use Rattle.std.proofs.Common.{◌≡◌, ◌-◌, ◌*◌, length, Ok, Err, arith, length-take, sym, ◌∙◌}
 use Rattle.g_base.specs.declared.fault.WriteFailed.{WriteFailed}
 use Rattle.g_files.proofs.DurabilityLemmas.{flush_fails, flushed, gate_stays}
+use Rattle.g_files.proofs.FaultLemmas.{fails_so}
 use Rattle.g_files.proofs.ImageLemmas.{seen_over, still_bytes}
 use Rattle.g_files.proofs.image.Image.flush.Goals as goal
 
@@ -56,3 +57,10 @@ invariant_of-self-2-clause-bytes g c =
     still_bytes i.buffered.at (512 * i.size) i.buffered.bytes c.write_whole.result (g.F.RawFile.content i.file)
     (g.F.RawFile.content c.write_whole.new.file) i.sized i.bytes i.within i.buffered_bytes
     (rw (c.bytes.ensures.value, c.at.ensures.value) at c.write_whole.ensures.written)
+
+pub returns-then-is_err-clause-cause : goal.returns-then-is_err-clause-cause
+returns-then-is_err-clause-cause g c =
+    fails_so c.write_whole.result (Err _) _ _ (sym c.is_err.ensures.value ∙ c.if-is_err.true) c.write_whole.ensures.cause
+
+pub returns-clause-cause : goal.returns-clause-cause
+returns-clause-cause g c = fails_so c.write_whole.result (Ok tt) _ _ (sym c.is_err.ensures.value ∙ c.if-is_err.false) c.write_whole.ensures.cause

@@ -11,6 +11,6 @@ returns-then-fires-clause-durability c =
 pub returns-clause-durability : goal.returns-clause-durability
 returns-clause-durability c =
     let f = c.fires.new.self in
-    let new = c.resize.new.bytes.items in
-    subst (λ (old : List ℕ). SetsLength c.args.len (Some old) (Some new) (stored old) (stored new) c.resize.result) c.fires.ensures.bytes
-    (stored_sets f.bytes.items new f.each c.args.len c.resize.result c.resize.ensures.cut c.resize.ensures.kept)
+    let new = c.resize-set.new.bytes.items in
+    subst (λ (old : List ℕ). SetsLength c.args.len (Some old) (Some new) (stored old) (stored new) c.resize-set.result) c.fires.ensures.bytes
+    (stored_sets f.bytes.items new f.each c.args.len c.resize-set.result c.resize-set.ensures.cut c.resize-set.ensures.kept)

@@ -8,10 +8,10 @@ use Rattle.g_files.proofs.memory_file.MemoryFileRawFile.write_at.Goals as goal
 pub returns-then-not-fires-clause-written : goal.returns-then-not-fires-clause-written
 returns-then-not-fires-clause-written c =
     let from = c.args.from.now in
-    let new = c.write_bytes.new.bytes.items in
-    let written = c.write_bytes.ensures in
-    changes_some c.args.self.now.bytes.items new (subst (λ (old : List ℕ). HasWritten c.args.at from c.write_bytes.result old new)
-    c.fires.ensures.bytes (written_part c.args.at c.min-few.result from c.fires.new.self.bytes.items new c.write_bytes.result
+    let new = c.write_bytes-written.new.bytes.items in
+    let written = c.write_bytes-written.ensures in
+    changes_some c.args.self.now.bytes.items new (subst (λ (old : List ℕ). HasWritten c.args.at from c.write_bytes-written.result old new)
+    c.fires.ensures.bytes (written_part c.args.at c.min-few.result from c.fires.new.self.bytes.items new c.write_bytes-written.result
     written.count written.written written.kept))
 
 pub invariant_of-self-2 : goal.invariant_of-self-2
@@ -37,9 +37,9 @@ returns-then-not-fires-clause-durability c =
     let from = c.args.from.now in
     let old = c.args.self.now.bytes.items in
     let f = c.fires.new.self in
-    let new = c.write_bytes.new.bytes.items in
-    let written = c.write_bytes.ensures in
-    let first = written_first c.args.at c.min-few.result from f.bytes.items new c.write_bytes.result written.count written.written written.kept in
+    let new = c.write_bytes-written.new.bytes.items in
+    let written = c.write_bytes-written.ensures in
+    let first = written_first c.args.at c.min-few.result from f.bytes.items new c.write_bytes-written.result written.count written.written written.kept in
     stored_writes_at old f.bytes.items new c.args.at first.0 from _ f.each c.fires.ensures.bytes (c.requires.within old refl) first.1
 
 pub returns-clause-durability : goal.returns-clause-durability

@@ -1,0 +1,10 @@
+use Rattle.std.proofs.Common.{Ok, Err, sym, ◌∙◌}
+use Rattle.g_files.proofs.FaultLemmas.{counted, fails_so}
+use Rattle.g_files.proofs.image.Image.sync.Goals as goal
+
+pub returns-then-is_err-clause-cause : goal.returns-then-is_err-clause-cause
+returns-then-is_err-clause-cause g c =
+    fails_so c.sync.result (Err _) _ _ (sym c.is_err.ensures.value ∙ c.if-is_err.true) (counted c.sync.result _ _ c.sync.ensures.cause)
+
+pub returns-clause-cause : goal.returns-clause-cause
+returns-clause-cause g c = fails_so c.sync.result (Ok tt) _ _ (sym c.is_err.ensures.value ∙ c.if-is_err.false) (counted c.sync.result _ _ c.sync.ensures.cause)

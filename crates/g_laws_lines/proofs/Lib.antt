@@ -1,0 +1,14 @@
+pub mod DeviceLemmas
+pub mod EventLemmas
+pub mod LawLemmas
+pub mod LevelLemmas
+pub mod PrintLemmas
+pub mod SaidLemmas
+pub mod ScriptLemmas
+pub mod SessionTextLemmas
+pub mod StateLemmas
+pub mod TextLemmas
+pub mod TurnLemmas
+pub mod UnitLemmas
+pub mod WorkLemmas
+pub mod WorldLemmas

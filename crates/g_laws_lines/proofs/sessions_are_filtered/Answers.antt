@@ -1,0 +1,5 @@
+use Rattle.g_laws_lines.proofs.SessionTextLemmas.{sessions_are_filtered}
+use Rattle.g_laws_lines.proofs.sessions_are_filtered.Goals as goal
+
+pub returns : goal.returns
+returns g c tariff rule = sessions_are_filtered g.F.Fn tariff g.U.Fn rule c.own_lines_are_marked.ensures

@@ -1,0 +1,3 @@
+mod LookingLemmas
+mod TellingLemmas
+mod UnmountLemmas
